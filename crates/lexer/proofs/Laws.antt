@@ -1,0 +1,88 @@
+-- Laws that the functions' proofs share: a table's entry, and what stands at an offset of the source. Assumes nothing.
+use mathlib.Core.Path.{_≡_, refl, sym, ap, _∙_}
+use mathlib.Core.Bool.{Bool, true, false, cond, false≢true}
+use mathlib.Core.List.{List, [], _∷_}
+use Prim.Native.Nat.{ℕ, zero, suc, _+_, _≤_, _<_}
+use native.Mathlib.Nat.{add-zero, zero-add, add-suc, suc-add, le-of-suc-le-suc, not-suc-le-zero}
+use native.Mathlib.Numerals.{add-one}
+use native.Mathlib.Omega.{arith}
+use borrow.Author.Tests.{ltb-true, ltb-false}
+use lib.Dec.{eqb, ltb}
+use lib.ListN.{length, getD, drop, drop-of-length-le}
+use lib.Seq.{drop-cons, drop-drop}
+use Rattle.lexer.specs.declared.lexer.Token.{Token}
+use Rattle.lexer.specs.Chars.{tabulate}
+use Rattle.lexer.specs.Lexer.{Lex, one, later, follow, advance-while}
+use Rattle.lexer.specs.Code.{placed, starts}
+
+from : (f : ℕ → ℕ) (i n k : ℕ) → k < n → getD (tabulate f i n) k 0 ≡ f (i + k)
+from f i zero k h = absurd (not-suc-le-zero h)
+from f i (suc n) zero h = ap f (sym (add-zero i))
+from f i (suc n) (suc k) h = from f (suc i) n k (le-of-suc-le-suc h) ∙ ap f (suc-add i k ∙ sym (add-suc i k))
+
+-- the entry at k of the table of f is f at k
+pub entry : (f : ℕ → ℕ) (n k : ℕ) → k < n → getD (tabulate f 0 n) k 0 ≡ f k
+entry f n k h = from f 0 n k h ∙ ap f (zero-add k)
+
+-- the byte at an offset, and those behind it
+pub next-byte : (s : List ℕ) (at : ℕ) → at < length s → drop at s ≡ getD s at 0 ∷ drop (at + 1) s
+next-byte s at h = rw (add-one, drop-cons s at 0)
+
+-- advance_while, at the end, at a byte that goes on and at another
+module _ (p : ℕ → Bool) (s : List ℕ) (at : ℕ) where
+  pub run-none : length s ≤ at → advance-while p (drop at s) ≡ 0
+  unfolding advance-while
+  run-none h = rw (drop-of-length-le s h)
+
+  pub run-more : at < length s → p (getD s at 0) ≡ true → advance-while p (drop at s) ≡ suc (advance-while p (drop (at + 1) s))
+  unfolding advance-while
+  run-more h e = rw (next-byte s at h, e)
+
+  pub run-stop : at < length s → p (getD s at 0) ≡ false → advance-while p (drop at s) ≡ 0
+  unfolding advance-while
+  run-stop h e = rw (next-byte s at h, e)
+
+-- current_char, at the end and before it
+module _ (x : ℕ) (s : List ℕ) (at : ℕ) where
+  pub starts-none : length s ≤ at → starts x (drop at s) ≡ false
+  unfolding starts
+  starts-none h = rw (drop-of-length-le s h)
+
+  pub starts-here : at < length s → starts x (drop at s) ≡ eqb (getD s at 0) x
+  unfolding starts
+  starts-here h = rw (next-byte s at h)
+
+-- the byte x follows, or not
+module _ (x : ℕ) (f g : Lex) where
+  yes : (r : List ℕ) → starts x r ≡ true → follow x f g r ≡ later (f (drop 1 r))
+  unfolding starts follow
+  yes [] e = absurd (false≢true e)
+  yes (b ∷ r) e = rw e
+
+  pub follow-no : (r : List ℕ) → starts x r ≡ false → follow x f g r ≡ g r
+  unfolding starts follow
+  follow-no [] e = refl
+  follow-no (b ∷ r) e = rw e
+
+  pub follow-yes : (s : List ℕ) (at : ℕ) → starts x (drop at s) ≡ true → follow x f g (drop at s) ≡ later (f (drop (at + 1) s))
+  follow-yes s at e = yes (drop at s) e ∙ ap (λ (r : List ℕ). later (f r)) (drop-drop 1 at s)
+
+  -- the same, as a token in its place
+  pub placed-yes : (s : List ℕ) (at : ℕ) → starts x (drop at s) ≡ true → placed (at + 1) (f (drop (at + 1) s)) ≡ placed at (follow x f g (drop at s))
+  placed-yes s at e =
+      ap (λ (n : ℕ). record { kind = f (drop (at + 1) s) .kind; end = n }) (omega arith)
+      ∙ ap (placed at) (sym (follow-yes s at e))
+
+pub starts-within : (x : ℕ) (s : List ℕ) (at : ℕ) → starts x (drop at s) ≡ true → at + 1 ≤ length s
+starts-within x s at e = go (ltb at (length s)) refl
+  where
+    go : (t : Bool) → ltb at (length s) ≡ t → at + 1 ≤ length s
+    go true h = omega (arith, ltb-true at (length s) h)
+    go false h = absurd (false≢true (sym (starts-none x s at (ltb-false at (length s) h)) ∙ e))
+
+-- a token of one byte in its place
+pub one-here : (k n : ℕ) → _≡_ {A = Token} (record { kind = k; end = n }) (placed n (record { kind = k; more = 0 }))
+one-here k n = ap (λ (m : ℕ). record { kind = k; end = m }) (omega arith)
+
+pub placed-no : (x : ℕ) (f g : Lex) (n : ℕ) (r : List ℕ) → starts x r ≡ false → placed n (g r) ≡ placed n (follow x f g r)
+placed-no x f g n r e = ap (placed n) (sym (follow-no x f g r e))

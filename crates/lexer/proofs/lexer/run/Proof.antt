@@ -1,0 +1,17 @@
+-- `lexer::lexer::run` meets its contract. Assumes nothing.
+use mathlib.Core.Path.{ap}
+use Prim.Native.Nat.{ℕ}
+use Rattle.lexer.specs.Lexer.{run}
+use borrow.Author.Needs.{needs}
+use Rattle.lexer.proofs.lexer.run.Statement.{statement}
+use Rattle.lexer.proofs.lexer.run.Tie as tie
+
+advance-while-requires : tie.Need-advance-while-requires
+advance-while-requires c κs = search needs
+
+returns : tie.Need-returns
+unfolding run
+returns c = ap (λ (n : ℕ). record { kind = c .before .before .args .kind; end = n }) (c .advance-while .ensures)
+
+pub run-spec : {M : Type 1} → statement M
+run-spec = tie.close (tie.spec advance-while-requires returns)

@@ -1,0 +1,65 @@
+-- `lexer::lexer::tokenize` meets its contract: the parts that are lent have the room of the shorter slice. Assumes nothing.
+use Prim.Native.Nat.{ℕ, _≤_}
+use mathlib.Core.Path.{_≡_, sym, ap, _∙_}
+use mathlib.Core.List.{List, _++_}
+use native.Mathlib.Omega.{arith}
+use lib.ListN.{length, take, drop}
+use lib.Seq.{length-take-le}
+use Rattle.lexer.specs.Over.{over, fit, in-room}
+use Rattle.lexer.specs.Tokens.{token-kinds, token-ends}
+use borrow.Author.Needs.{needs}
+use Rattle.lexer.proofs.lexer.tokenize.Statement.{statement}
+use Rattle.lexer.proofs.lexer.tokenize.Tie as tie
+
+-- what a lent part gives back to its slice
+given-back : (l l′ vs : List ℕ) (room n : ℕ) → l′ ≡ over (take room l) 0 vs → room ≡ n → n ≤ length l → l′ ++ drop room l ≡ fit n vs l
+given-back l l′ vs room n e h k = rw (e, h) (in-room l vs n k)
+
+least-requires : tie.Need-least-requires
+least-requires c κs = search needs
+
+slice-relend-prefix-tokens : tie.Need-slice-relend-prefix-tokens
+slice-relend-prefix-tokens c = search needs
+
+slice-aggregate-tokens : tie.Need-slice-aggregate-tokens
+slice-aggregate-tokens c = sym (length-take-le _ _ (omega arith))
+
+slice-relend-prefix-tokens-2 : tie.Need-slice-relend-prefix-tokens-2
+slice-relend-prefix-tokens-2 c = search needs
+
+slice-aggregate-tokens-2 : tie.Need-slice-aggregate-tokens-2
+slice-aggregate-tokens-2 c = sym (length-take-le _ _ (omega arith))
+
+tokens-requires : tie.Need-tokens-requires
+tokens-requires c κs = (search needs, length-take-le _ _ (omega arith) ∙ sym (length-take-le _ _ (omega arith)))
+
+same-length : tie.Need-same-length
+same-length c = search needs
+
+same-length-2 : tie.Need-same-length-2
+same-length-2 c = search needs
+
+returns : tie.Need-returns
+returns c =
+    let a = c .before .before .before .before .before .before .before .before .before .before .before .args in
+    let k = c .before .before .before .before .tokens .ensures in
+    let room = c .before .before .before .before .before .before .before .least .ensures in
+    record {
+      count-is = k .count-is;
+      kinds-are = given-back (a .kinds .now) _ (token-kinds (a .source .now)) _ _ (k .kinds-are) room (omega arith);
+      ends-are = given-back (a .ends .now) _ (token-ends (a .source .now)) _ _ (k .ends-are) room (omega arith);
+    }
+
+pub tokenize-spec : {M : Type 1} → statement M
+tokenize-spec =
+    tie.close
+    (tie.spec
+    least-requires
+    slice-relend-prefix-tokens
+    slice-aggregate-tokens
+    slice-relend-prefix-tokens-2
+    slice-aggregate-tokens-2
+    tokens-requires
+    same-length
+    same-length-2
+    returns)

@@ -1,0 +1,128 @@
+-- `lexer::lexer::zero_led` meets its contract. Assumes nothing.
+use mathlib.Core.Path.{sym, _∙_}
+use Rattle.lexer.specs.Syntax.{Number}
+use Rattle.lexer.specs.Chars.{decimal, hex, binary}
+use Rattle.lexer.specs.Lexer.{Lex, run, follow}
+use Rattle.lexer.proofs.Laws.{placed-yes, placed-no, starts-within}
+use borrow.Author.Needs.{needs}
+use Rattle.lexer.proofs.lexer.zero_led.Statement.{statement}
+use Rattle.lexer.proofs.lexer.zero_led.Tie as tie
+
+-- what is asked once `x`, `X` and `b` are not there
+abbrev after-98 : Lex
+after-98 = follow 66 (run Number binary) (run Number decimal)
+
+abbrev after-88 : Lex
+after-88 = follow 98 (run Number binary) after-98
+
+abbrev after-120 : Lex
+after-120 = follow 88 (run Number hex) after-88
+
+current-is-requires : tie.Need-current-is-requires
+current-is-requires c κs = search needs
+
+add-run : tie.Need-add-run
+add-run c = search needs
+
+run-requires : tie.Need-run-requires
+run-requires c κs =
+    let a = c .before .before .before .args in
+    starts-within 120 (a .source .now) (a .from) (sym (c .before .current-is .ensures) ∙ c .if1 .taken)
+
+returns : tie.Need-returns
+returns c =
+    let a = c .before .before .before .before .args in
+    c .run .ensures
+    ∙ placed-yes 120 (run Number hex) after-120 (a .source .now) (a .from) (sym (c .before .before .current-is .ensures) ∙ c .before .if1 .taken)
+
+current-is-requires-2 : tie.Need-current-is-requires-2
+current-is-requires-2 c κs = search needs
+
+add-run-2 : tie.Need-add-run-2
+add-run-2 c = search needs
+
+run-requires-2 : tie.Need-run-requires-2
+run-requires-2 c κs =
+    let a = c .before .before .before .before .before .args in
+    starts-within 88 (a .source .now) (a .from) (sym (c .before .current-is2 .ensures) ∙ c .if2 .taken)
+
+returns-2 : tie.Need-returns-2
+returns-2 c =
+    let a = c .before .before .before .before .before .before .args in
+    c .run2 .ensures
+    ∙ placed-yes 88 (run Number hex) after-88 (a .source .now) (a .from) (sym (c .before .before .current-is2 .ensures) ∙ c .before .if2 .taken)
+    ∙ placed-no 120 (run Number hex) after-120 (a .from) _ (sym (c .before .before .before .before .current-is .ensures) ∙ c .before .before .before .if1 .left)
+
+current-is-requires-3 : tie.Need-current-is-requires-3
+current-is-requires-3 c κs = search needs
+
+add-run-3 : tie.Need-add-run-3
+add-run-3 c = search needs
+
+run-requires-3 : tie.Need-run-requires-3
+run-requires-3 c κs =
+    let a = c .before .before .before .before .before .before .before .args in
+    starts-within 98 (a .source .now) (a .from) (sym (c .before .current-is3 .ensures) ∙ c .if3 .taken)
+
+returns-3 : tie.Need-returns-3
+returns-3 c =
+    let a = c .before .before .before .before .before .before .before .before .args in
+    c .run3 .ensures
+    ∙ placed-yes 98 (run Number binary) after-98 (a .source .now) (a .from) (sym (c .before .before .current-is3 .ensures) ∙ c .before .if3 .taken)
+    ∙ placed-no 88 (run Number hex) after-88 (a .from) _ (sym (c .before .before .before .before .current-is2 .ensures) ∙ c .before .before .before .if2 .left)
+    ∙ placed-no 120 (run Number hex) after-120 (a .from) _ (sym (c .before .before .before .before .before .before .current-is .ensures) ∙ c .before .before .before .before .before .if1 .left)
+
+current-is-requires-4 : tie.Need-current-is-requires-4
+current-is-requires-4 c κs = search needs
+
+add-run-4 : tie.Need-add-run-4
+add-run-4 c = search needs
+
+run-requires-4 : tie.Need-run-requires-4
+run-requires-4 c κs =
+    let a = c .before .before .before .before .before .before .before .before .before .args in
+    starts-within 66 (a .source .now) (a .from) (sym (c .before .current-is4 .ensures) ∙ c .if4 .taken)
+
+returns-4 : tie.Need-returns-4
+returns-4 c =
+    let a = c .before .before .before .before .before .before .before .before .before .before .args in
+    c .run4 .ensures
+    ∙ placed-yes 66 (run Number binary) (run Number decimal) (a .source .now) (a .from) (sym (c .before .before .current-is4 .ensures) ∙ c .before .if4 .taken)
+    ∙ placed-no 98 (run Number binary) after-98 (a .from) _ (sym (c .before .before .before .before .current-is3 .ensures) ∙ c .before .before .before .if3 .left)
+    ∙ placed-no 88 (run Number hex) after-88 (a .from) _ (sym (c .before .before .before .before .before .before .current-is2 .ensures) ∙ c .before .before .before .before .before .if2 .left)
+    ∙ placed-no 120 (run Number hex) after-120 (a .from) _ (sym (c .before .before .before .before .before .before .before .before .current-is .ensures) ∙ c .before .before .before .before .before .before .before .if1 .left)
+
+run-requires-5 : tie.Need-run-requires-5
+run-requires-5 c κs = search needs
+
+returns-5 : tie.Need-returns-5
+returns-5 c =
+    let a = c .before .before .before .before .before .before .before .before .before .before .args in
+    c .run5 .ensures
+    ∙ placed-no 66 (run Number binary) (run Number decimal) (a .from) _ (sym (c .before .before .current-is4 .ensures) ∙ c .before .if4 .left)
+    ∙ placed-no 98 (run Number binary) after-98 (a .from) _ (sym (c .before .before .before .before .current-is3 .ensures) ∙ c .before .before .before .if3 .left)
+    ∙ placed-no 88 (run Number hex) after-88 (a .from) _ (sym (c .before .before .before .before .before .before .current-is2 .ensures) ∙ c .before .before .before .before .before .if2 .left)
+    ∙ placed-no 120 (run Number hex) after-120 (a .from) _ (sym (c .before .before .before .before .before .before .before .before .current-is .ensures) ∙ c .before .before .before .before .before .before .before .if1 .left)
+
+pub zero-led-spec : {M : Type 1} → statement M
+zero-led-spec =
+    tie.close
+    (tie.spec
+    current-is-requires
+    add-run
+    run-requires
+    returns
+    current-is-requires-2
+    add-run-2
+    run-requires-2
+    returns-2
+    current-is-requires-3
+    add-run-3
+    run-requires-3
+    returns-3
+    current-is-requires-4
+    add-run-4
+    run-requires-4
+    returns-4
+    run-requires-5
+    returns-5)

@@ -1,0 +1,154 @@
+-- `lexer::quoted::quote` meets its contract: the quote is what its rest comes to, from the cursor and the flags. Assumes nothing.
+use Prim.Native.Nat.{ℕ, suc, _≤_, _<_, _+_, _-_}
+use mathlib.Core.Path.{_≡_, refl, sym, ap, _∙_}
+use mathlib.Core.Bool.{Bool, true, false, not, cond, _&&_}
+use mathlib.Core.List.{List}
+use native.Mathlib.Omega.{arith}
+use borrow.Author.Needs.{needs}
+use borrow.Author.Tests.{eq-eqb, ne-eqb}
+use lib.Dec.{eqb}
+use lib.ListN.{length, drop, getD, drop-of-length-le}
+use Rattle.lexer.specs.declared.lexer.Token.{Token}
+use Rattle.lexer.specs.Syntax.{Error, QuotedIdent, QuotedString}
+use Rattle.lexer.specs.Chars.{line-end}
+use Rattle.lexer.specs.Lexer.{Lexeme, later, quoted}
+use Rattle.lexer.specs.Code.{placed, kept}
+use Rattle.lexer.proofs.Laws.{next-byte}
+use Rattle.lexer.proofs.quoted.quote.Statement.{statement}
+use Rattle.lexer.proofs.quoted.quote.Tie as tie
+
+moved : (at : ℕ) (t : Lexeme) → placed at (later t) ≡ placed (at + 1) t
+moved at t = ap (λ (n : ℕ). record { kind = t .kind; end = n }) (omega arith)
+
+-- what the definition gives at an offset, by cases
+module _ (s : List ℕ) (at : ℕ) (i : Bool) where
+  ended : (t : Bool) → length s ≤ at → quoted t i (drop at s) ≡ record { kind = Error; more = 0 }
+  unfolding quoted
+  ended t h = rw (drop-of-length-le s h)
+
+  module _ (h : at < length s) where
+    b : ℕ
+    b = getD s at 0
+
+    takes : placed at (quoted true i (drop at s)) ≡ placed (at + 1) (quoted false i (drop (at + 1) s))
+    unfolding quoted
+    takes = rw (next-byte s at h) (moved at _)
+
+    module _ (e : line-end (getD s at 0) ≡ false) where
+      closes : eqb (getD s at 0) 34 ≡ true → quoted false i (drop at s) ≡ record { kind = cond i QuotedIdent QuotedString; more = 1 }
+      unfolding quoted
+      closes f = rw (next-byte s at h, e, f)
+
+      goes : eqb (getD s at 0) 34 ≡ false
+          → placed at (quoted false i (drop at s)) ≡ placed (at + 1) (quoted (eqb (getD s at 0) 92) (kept i (getD s at 0)) (drop (at + 1) s))
+      unfolding quoted
+      goes f = rw (next-byte s at h, e, f) (moved at _)
+
+    breaks : line-end (getD s at 0) ≡ true → quoted false i (drop at s) ≡ record { kind = Error; more = 0 }
+    unfolding quoted
+    breaks e = rw (next-byte s at h, e)
+
+abbrev Inv-loop : tie.InvT-loop
+Inv-loop source from at₀ taken₀ identifier-like₀ at taken identifier-like =
+    (at ≤ length source) × (placed from (quoted false true (drop from source)) ≡ placed at (quoted taken identifier-like (drop at source)))
+
+abbrev μ-loop : tie.MeasureT-loop
+μ-loop source from at₀ taken₀ identifier-like₀ at taken identifier-like = length source - at
+
+loop-holds : tie.Need-loop-holds Inv-loop μ-loop
+loop-holds c = search needs
+
+shared-slice-read-b : tie.Need-shared-slice-read-b Inv-loop μ-loop
+shared-slice-read-b c = search needs
+
+add-at : tie.Need-add-at Inv-loop μ-loop
+add-at c = search needs
+
+loop-less : tie.Need-loop-less Inv-loop μ-loop
+loop-less c = search needs
+
+loop-again : tie.Need-loop-again Inv-loop μ-loop
+loop-again c =
+    let l = c .before .before .before .loop in
+    let s = c .before .before .before .before .before .args .source .now in
+    (search needs, l .inv .1 ∙ ap (λ (t : Bool). placed (l .at) (quoted t (l .identifier-like) (drop (l .at) s))) (c .if2 .taken) ∙ takes s (l .at) (l .identifier-like) (search needs))
+
+is-line-end-requires : tie.Need-is-line-end-requires Inv-loop μ-loop
+is-line-end-requires c κs = search needs
+
+add-at-2 : tie.Need-add-at-2 Inv-loop μ-loop
+add-at-2 c = search needs
+
+keeps-requires : tie.Need-keeps-requires Inv-loop μ-loop
+keeps-requires c κs = search needs
+
+add-at-3 : tie.Need-add-at-3 Inv-loop μ-loop
+add-at-3 c = search needs
+
+loop-less-2 : tie.Need-loop-less-2 Inv-loop μ-loop
+loop-less-2 c = search needs
+
+loop-again-2 : tie.Need-loop-again-2 Inv-loop μ-loop
+loop-again-2 c =
+    let l = c .before .before .before .before .before .before .before .loop in
+    let s = c .before .before .before .before .before .before .before .before .before .args .source .now in (
+      search needs,
+      l .inv .1
+          ∙ ap (λ (t : Bool). placed (l .at) (quoted t (l .identifier-like) (drop (l .at) s))) (c .before .before .before .before .if2 .left)
+          ∙ goes s (l .at) (l .identifier-like) (search needs) (sym (c .before .before .before .is-line-end .ensures) ∙ c .before .before .if3 .left) (ne-eqb _ _ (c .before .if4 .left))
+          ∙ ap (λ (i : Bool). placed (l .at + 1) (quoted (eqb (getD s (l .at) 0) 92) i (drop (l .at + 1) s))) (sym (c .keeps .ensures)),
+    )
+
+-- how the quote ended, from the rest at the cursor
+ends-with : (s : List ℕ) (from at : ℕ) (taken i : Bool) (t : Lexeme)
+    → placed from (quoted false true (drop from s)) ≡ placed at (quoted taken i (drop at s)) → quoted taken i (drop at s) ≡ t
+    → placed from (quoted false true (drop from s)) ≡ placed at t
+ends-with s from at taken i t p q = p ∙ ap (placed at) q
+
+returns : tie.Need-returns Inv-loop μ-loop
+returns c =
+    let l = c .before .loop in
+    let s = c .before .before .before .args .source .now in
+    let e = ends-with s _ (l .at) (l .taken) (l .identifier-like) _ (l .inv .1) (ended s (l .at) (l .identifier-like) (l .taken) (c .if1 .taken)) in
+    record { kind-is = sym (ap (λ (t : Token). t .kind) e); end-is = omega (arith, ap (λ (t : Token). t .end) e) }
+
+returns-2 : tie.Need-returns-2 Inv-loop μ-loop
+returns-2 c =
+    let l = c .before .before .before .before .before .loop in
+    let s = c .before .before .before .before .before .before .before .args .source .now in
+    let e =
+    ends-with s _ (l .at) false (l .identifier-like) _
+    (l .inv .1 ∙ ap (λ (t : Bool). placed (l .at) (quoted t (l .identifier-like) (drop (l .at) s))) (c .before .before .if2 .left))
+    (breaks s (l .at) (l .identifier-like) (search needs) (sym (c .before .is-line-end .ensures) ∙ c .if3 .taken)) in
+    record { kind-is = sym (ap (λ (t : Token). t .kind) e); end-is = omega (arith, ap (λ (t : Token). t .end) e) }
+
+returns-3 : tie.Need-returns-3 Inv-loop μ-loop
+returns-3 c =
+    let l = c .before .before .before .before .before .before .loop in
+    let s = c .before .before .before .before .before .before .before .before .args .source .now in
+    let e =
+    ends-with s _ (l .at) false (l .identifier-like) _
+    (l .inv .1 ∙ ap (λ (t : Bool). placed (l .at) (quoted t (l .identifier-like) (drop (l .at) s))) (c .before .before .before .if2 .left))
+    (closes s (l .at) (l .identifier-like) (search needs) (sym (c .before .before .is-line-end .ensures) ∙ c .before .if3 .left) (eq-eqb _ _ (c .if4 .taken))) in
+    record { kind-is = sym (ap (λ (t : Token). t .kind) e); end-is = sym (ap (λ (t : Token). t .end) e) }
+
+pub quote-spec : {M : Type 1} → statement M
+quote-spec =
+    tie.close
+    (tie.spec
+    Inv-loop
+    μ-loop
+    loop-holds
+    shared-slice-read-b
+    add-at
+    loop-less
+    loop-again
+    is-line-end-requires
+    add-at-2
+    keeps-requires
+    add-at-3
+    loop-less-2
+    loop-again-2
+    returns
+    returns-2
+    returns-3)

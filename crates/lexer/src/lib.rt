@@ -1,0 +1,10 @@
+// The lexer: kinds as in syntax.rs, tokens as in lexer.rs.
+mod chars;
+mod class;
+mod lexer;
+mod quoted;
+mod runs;
+pub mod syntax;
+
+pub use lexer::tokenize;
+pub use runs::same;

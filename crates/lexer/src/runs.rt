@@ -1,0 +1,67 @@
+// Runs of bytes, and what stands at an offset.
+use crate::chars::Run;
+use crate::chars::goes_on;
+use crate::class::is_word;
+ghost use mathlib.Core.Path.{_≡_};
+ghost use Prim.Native.Nat.{_+_, _≤_};
+ghost use lib.ListN.{length, drop};
+ghost use Rattle.lexer.specs.Chars.{class-table, holds, word};
+ghost use Rattle.lexer.specs.Lexer.{advance-while, same as sameOf};
+ghost use Rattle.lexer.specs.Code.{starts};
+
+// Where the run from `from` on ends.
+pub fn advance_while(run: Run, source: &[u8], from: usize) -> usize
+    requires { ⌜ from ≤ length (now source) ⌝ }
+    ensures { λ r. ⌜ r ≡ from + advance-while (holds run) (drop from (now (source .entry))) ⌝ }
+{
+    let mut at = from;
+    while at < source.len() {
+        if !goes_on(run, source[at]) {
+            return at;
+        }
+        at += 1;
+    }
+    at
+}
+
+// Where the word from `from` on ends: advance_while over letters, digits and '_', one load a byte.
+pub fn word_end(table: &[u8; 256], source: &[u8], from: usize) -> usize
+    requires { ⌜ (now table ≡ class-table) × (from ≤ length (now source)) ⌝ }
+    ensures { λ r. ⌜ r ≡ from + advance-while word (drop from (now (source .entry))) ⌝ }
+{
+    let mut at = from;
+    while at < source.len() {
+        if !is_word(table, source[at]) {
+            return at;
+        }
+        at += 1;
+    }
+    at
+}
+
+// current_char() == Some(x)
+pub fn current_is(source: &[u8], at: usize, x: u8) -> bool
+    ensures { λ r. ⌜ r ≡ starts x (drop at (now (source .entry))) ⌝ }
+{
+    if at < source.len() {
+        return source[at] == x;
+    }
+    false
+}
+
+// Whether two texts are the same.
+pub fn same(a: &[u8], b: &[u8]) -> bool
+    ensures { λ r. ⌜ r ≡ sameOf (now (a .entry)) (now (b .entry)) ⌝ }
+{
+    let mut i = 0;
+    while i < a.len() {
+        if b.len() <= i {
+            return false;
+        }
+        if a[i] != b[i] {
+            return false;
+        }
+        i += 1;
+    }
+    b.len() <= i
+}

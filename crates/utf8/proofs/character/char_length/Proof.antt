@@ -1,0 +1,129 @@
+-- `utf8::character::char_length` meets its contract: each arm is a row of the table. Assumes nothing.
+use mathlib.Core.Path.{sym, _∙_}
+use native.Mathlib.Omega.{arith}
+use borrow.Author.Needs.{needs}
+use Rattle.utf8.specs.Table.{table}
+use Rattle.utf8.proofs.Laws.{row-length, no-length, ascii-length}
+use Rattle.utf8.proofs.character.char_length.Statement.{statement}
+use Rattle.utf8.proofs.character.char_length.Tie as tie
+
+shared-slice-read-b : tie.Need-shared-slice-read-b
+shared-slice-read-b c = search needs
+
+returns : tie.Need-returns
+returns c =
+    let a = c .before .before .before .args in
+    sym (ascii-length (a .source .now) (a .at) (omega arith) (omega arith))
+
+add-next : tie.Need-add-next
+add-next c = search needs
+
+three-requires : tie.Need-three-requires
+three-requires c κs = search needs
+
+three-requires-2 : tie.Need-three-requires-2
+three-requires-2 c κs = search needs
+
+four-requires : tie.Need-four-requires
+four-requires c κs = search needs
+
+four-requires-2 : tie.Need-four-requires-2
+four-requires-2 c κs = search needs
+
+two-requires : tie.Need-two-requires
+two-requires c κs = search needs
+
+three-requires-3 : tie.Need-three-requires-3
+three-requires-3 c κs = search needs
+
+three-requires-4 : tie.Need-three-requires-4
+three-requires-4 c κs = search needs
+
+four-requires-3 : tie.Need-four-requires-3
+four-requires-3 c κs = search needs
+
+returns-2 : tie.Need-returns-2
+unfolding table
+returns-2 c =
+    let a = c .before .before .before .before .before .args in
+    c .three .ensures ∙ sym (row-length (a .source .now) (a .at) (omega arith) 2 (omega arith))
+
+returns-3 : tie.Need-returns-3
+unfolding table
+returns-3 c =
+    let a = c .before .before .before .before .before .args in
+    c .three2 .ensures ∙ sym (row-length (a .source .now) (a .at) (omega arith) 4 (omega arith))
+
+returns-4 : tie.Need-returns-4
+unfolding table
+returns-4 c =
+    let a = c .before .before .before .before .before .args in
+    c .four .ensures ∙ sym (row-length (a .source .now) (a .at) (omega arith) 6 (omega arith))
+
+returns-5 : tie.Need-returns-5
+unfolding table
+returns-5 c =
+    let a = c .before .before .before .before .before .args in
+    c .four2 .ensures ∙ sym (row-length (a .source .now) (a .at) (omega arith) 8 (omega arith))
+
+returns-6 : tie.Need-returns-6
+unfolding table
+returns-6 c =
+    let a = c .before .before .before .before .before .before .before .args in
+    c .two .ensures ∙ sym (row-length (a .source .now) (a .at) (omega arith) 1 (omega arith))
+
+returns-7 : tie.Need-returns-7
+unfolding table
+returns-7 c =
+    let a = c .before .before .before .before .before .before .before .before .args in
+    c .three3 .ensures ∙ sym (row-length (a .source .now) (a .at) (omega arith) 3 (omega arith))
+
+returns-8 : tie.Need-returns-8
+unfolding table
+returns-8 c =
+    let a = c .before .before .before .before .before .before .before .before .before .args in
+    c .three4 .ensures ∙ sym (row-length (a .source .now) (a .at) (omega arith) 5 (omega arith))
+
+returns-9 : tie.Need-returns-9
+unfolding table
+returns-9 c =
+    let a = c .before .before .before .before .before .before .before .before .before .before .args in
+    c .four3 .ensures ∙ sym (row-length (a .source .now) (a .at) (omega arith) 7 (omega arith))
+
+returns-10 : tie.Need-returns-10
+unfolding table
+returns-10 c =
+    let a = c .before .before .before .before .before .args in
+    sym (no-length (a .source .now) (a .at) (omega arith) 1 (omega arith))
+
+returns-11 : tie.Need-returns-11
+unfolding table
+returns-11 c =
+    let a = c .before .before .before .before .before .before .before .before .before .args in
+    sym (no-length (a .source .now) (a .at) (omega arith) 9 (omega arith))
+
+pub char-length-spec : {M : Type 1} → statement M
+char-length-spec =
+    tie.close
+    (tie.spec
+    shared-slice-read-b
+    returns
+    add-next
+    three-requires
+    three-requires-2
+    four-requires
+    four-requires-2
+    two-requires
+    three-requires-3
+    three-requires-4
+    four-requires-3
+    returns-2
+    returns-3
+    returns-4
+    returns-5
+    returns-6
+    returns-7
+    returns-8
+    returns-9
+    returns-10
+    returns-11)

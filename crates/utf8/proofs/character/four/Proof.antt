@@ -1,0 +1,62 @@
+-- `utf8::character::four` meets its contract. Assumes nothing.
+use mathlib.Core.Path.{sym, _∙_}
+use borrow.Author.Needs.{needs}
+use borrow.Author.Tests.{not-true, not-false}
+use Rattle.utf8.proofs.Laws.{tail-then, tail-not}
+use Rattle.utf8.proofs.character.four.Statement.{statement}
+use Rattle.utf8.proofs.character.four.Tie as tie
+
+byte-in-requires : tie.Need-byte-in-requires
+byte-in-requires c κs = search needs
+
+returns : tie.Need-returns
+returns c = rw (tail-not _ _ _ _ (sym (c .before .byte-in .ensures) ∙ not-true _ (c .if1 .taken)))
+
+add-third : tie.Need-add-third
+add-third c = search needs
+
+byte-in-requires-2 : tie.Need-byte-in-requires-2
+byte-in-requires-2 c κs = search needs
+
+returns-2 : tie.Need-returns-2
+returns-2 c =
+    rw (
+      tail-then _ _ _ _ (sym (c .before .before .before .byte-in .ensures) ∙ not-false _ (c .before .before .if1 .left)),
+      tail-not _ _ _ _ (sym (c .before .byte-in2 .ensures) ∙ not-true _ (c .if2 .taken)),
+    )
+
+add-byte-in : tie.Need-add-byte-in
+add-byte-in c = search needs
+
+byte-in-requires-3 : tie.Need-byte-in-requires-3
+byte-in-requires-3 c κs = search needs
+
+returns-3 : tie.Need-returns-3
+returns-3 c =
+    rw (
+      tail-then _ _ _ _ (sym (c .before .before .before .before .before .byte-in .ensures) ∙ not-false _ (c .before .before .before .before .if1 .left)),
+      tail-then _ _ _ _ (sym (c .before .before .before .byte-in2 .ensures) ∙ not-false _ (c .before .before .if2 .left)),
+      sym (c .before .byte-in3 .ensures) ∙ not-true _ (c .if3 .taken),
+    )
+
+returns-4 : tie.Need-returns-4
+returns-4 c =
+    rw (
+      tail-then _ _ _ _ (sym (c .before .before .before .before .before .byte-in .ensures) ∙ not-false _ (c .before .before .before .before .if1 .left)),
+      tail-then _ _ _ _ (sym (c .before .before .before .byte-in2 .ensures) ∙ not-false _ (c .before .before .if2 .left)),
+      sym (c .before .byte-in3 .ensures) ∙ not-false _ (c .if3 .left),
+    )
+
+pub four-spec : {M : Type 1} → statement M
+four-spec =
+    tie.close
+    (tie.spec
+    byte-in-requires
+    returns
+    add-third
+    byte-in-requires-2
+    returns-2
+    add-byte-in
+    byte-in-requires-3
+    returns-3
+    returns-4)

@@ -1,0 +1,10 @@
+pub mod Table
+pub mod TableLaws
+pub mod Width
+pub mod WellFormed
+pub mod Validate
+pub mod Passes
+pub mod FirstByte
+pub mod Rows
+pub mod Laws
+pub mod Characters

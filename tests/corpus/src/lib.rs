@@ -1,0 +1,156 @@
+//! Cases for differential runs, the same at every run.
+
+pub mod damage;
+pub mod edges;
+pub mod examples;
+pub mod lexical;
+pub mod random;
+pub mod rooms;
+pub mod script;
+pub mod sequences;
+pub mod spellings;
+pub mod utf8;
+
+use random::Random;
+use reference::MAX_SOURCE;
+use rooms::Plan;
+use spellings::{GLUED, SPELLINGS};
+
+/// A source and the rooms lent for it.
+#[derive(Debug, Clone, PartialEq, Eq)]
+pub struct Case {
+    pub family: Family,
+    pub source: Vec<u8>,
+    pub plan: Plan,
+}
+
+#[derive(Debug, Clone, Copy, PartialEq, Eq)]
+pub enum Size {
+    /// Some hundred thousand cases, for every change.
+    Ci,
+    /// This many times the sampled cases, and longer exhaustive strings.
+    Large(usize),
+}
+
+#[derive(Debug, Clone, Copy, PartialEq, Eq, PartialOrd, Ord)]
+pub enum Family {
+    /// Document 01's examples and the messages' smallest inputs.
+    Examples,
+    /// All sequences of up to three spellings, spaces between.
+    Spaced,
+    /// All sequences of up to three spellings, nothing between.
+    Joined,
+    /// Sequences of four to eight spellings.
+    Samples,
+    /// Short strings around one part of the lexer.
+    Lexical,
+    /// Well-formed and ill-formed UTF-8.
+    Utf8,
+    /// Scripts as people write them, up to 1 MiB.
+    Scripts,
+    /// Damaged copies of scripts.
+    Damaged,
+    /// Limits of depth and size, quotes at every ending.
+    Edges,
+    /// Slices that are too short, just enough or unequal.
+    Rooms,
+}
+
+impl Family {
+    pub const ALL: [Self; 10] = [
+        Self::Examples,
+        Self::Spaced,
+        Self::Joined,
+        Self::Samples,
+        Self::Lexical,
+        Self::Utf8,
+        Self::Scripts,
+        Self::Damaged,
+        Self::Edges,
+        Self::Rooms,
+    ];
+
+    pub fn name(self) -> String {
+        format!("{self:?}").to_lowercase()
+    }
+}
+
+type Sources = Box<dyn Iterator<Item = Vec<u8>> + Send>;
+
+/// All cases of a size, family by family.
+pub fn cases(size: Size) -> impl Iterator<Item = Case> + Send {
+    Family::ALL.into_iter().flat_map(move |family| {
+        let mut random = Random::new(family as u64);
+        sources(family, size).map(move |source| {
+            let plan = match family {
+                Family::Rooms => Plan::odd(&mut random),
+                _ => Plan::AMPLE,
+            };
+            Case { family, source, plan }
+        })
+    })
+}
+
+fn sources(family: Family, size: Size) -> Sources {
+    let (times, longer) = match size {
+        Size::Ci => (1, 0),
+        Size::Large(times) => (times, 1),
+    };
+    let sampled = |count: usize, make: fn(&mut Random) -> Vec<u8>| -> Sources {
+        let mut random = Random::new(1000 + family as u64);
+        Box::new((0..count * times).map(move |_| make(&mut random)))
+    };
+    match family {
+        Family::Examples => Box::new(examples::all()),
+        Family::Spaced => Box::new(sequences::all(&SPELLINGS, 3, " ")),
+        Family::Joined => Box::new(sequences::all(&GLUED, 3, "")),
+        Family::Samples => sampled(30_000, sequences::sample),
+        Family::Lexical => Box::new(lexical::all(longer)),
+        Family::Utf8 => {
+            let mixes = sampled(10_000, utf8::mix).chain(sampled(5_000, utf8::noise));
+            Box::new(utf8::short().chain(utf8::behind_runs()).chain(mixes))
+        },
+        Family::Scripts => Box::new(sampled(1_000, any_script).chain(sampled(2, full_script))),
+        Family::Damaged => sampled(30_000, damaged_script),
+        Family::Edges => Box::new(edges::depths().chain(edges::endings()).chain(edges::sizes())),
+        Family::Rooms => sampled(15_000, any_source),
+    }
+}
+
+/// A script; most are small, one in a hundred has 64 to 256 KiB.
+fn any_script(random: &mut Random) -> Vec<u8> {
+    let size = match random.below(100) {
+        0 => random.between(65_536, 262_144),
+        1..=5 => random.between(4_096, 40_960),
+        6..=30 => random.between(400, 4_096),
+        _ => random.between(1, 400),
+    };
+    script::script(random, size).into_bytes()
+}
+
+/// A script of exactly the largest size, filled up with spaces.
+fn full_script(random: &mut Random) -> Vec<u8> {
+    let mut text = script::script(random, MAX_SOURCE - 4_096);
+    if text.len() > MAX_SOURCE {
+        text.truncate(text.floor_char_boundary(MAX_SOURCE));
+    }
+    let mut bytes = text.into_bytes();
+    bytes.resize(MAX_SOURCE, b' ');
+    bytes
+}
+
+fn damaged_script(random: &mut Random) -> Vec<u8> {
+    let size = if random.one_in(50) { 4_096 } else { random.between(1, 300) };
+    let text = script::script(random, size);
+    damage::damaged(random, text.as_bytes())
+}
+
+/// A small source of any sort.
+fn any_source(random: &mut Random) -> Vec<u8> {
+    match random.below(8) {
+        0 => utf8::mix(random),
+        1 | 2 => script::script(random, 100).into_bytes(),
+        3 | 4 => damaged_script(random),
+        _ => sequences::sample(random),
+    }
+}

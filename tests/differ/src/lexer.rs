@@ -1,0 +1,30 @@
+//! The UTF-8 check and the lexer.
+
+use corpus::{Case, rooms::Needs};
+use reference::{Rooms, Slices, answer};
+
+use crate::part::{Exchange, Part, frame, push_line};
+
+pub const PART: Part = Part { name: "lexer", lines: 3, exchange };
+
+/// Frame: source length, kinds length, ends length, source. Answer: status and value, kinds, ends.
+fn exchange(case: &Case) -> Exchange {
+    let (status, value, tokens) = match answer::text(&case.source) {
+        Err([status, value, ..]) => (status, value, Vec::new()),
+        Ok(text) => {
+            let tokens = reference::tokens(text);
+            (0, tokens.len() as u64, tokens)
+        },
+    };
+    let needs = Needs { tokens: tokens.len(), ..Needs::default() };
+    let Rooms { token_kinds, token_ends, .. } = case.plan.rooms(needs);
+    let rooms = Rooms { token_kinds, token_ends, ..Rooms::NONE };
+    let mut slices = Slices::filled(rooms);
+    slices.write_tokens(&tokens);
+
+    let mut expected = Vec::new();
+    push_line(&mut expected, [status, value]);
+    push_line(&mut expected, slices.token_kinds);
+    push_line(&mut expected, slices.token_ends);
+    Exchange { frame: frame(&case.source, &[token_kinds, token_ends]), expected }
+}
