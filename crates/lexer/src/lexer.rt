@@ -34,12 +34,12 @@ ghost use Rattle.lexer.specs.Code.{placed};
 ghost use Rattle.lexer.specs.Tokens.{Lexed, Tokenized};
 
 pub struct Token {
-    pub kind: u16,
+    pub kind: u8,
     pub end: usize,
 }
 
 // A token that is its first byte and a run from `from` on.
-fn run(kind: u16, run: Run, source: &[u8], from: usize) -> Token
+fn run(kind: u8, run: Run, source: &[u8], from: usize) -> Token
     requires { ⌜ from ≤ length (now source) ⌝ }
     ensures { λ r. ⌜ r ≡ placed from (runOf kind (holds run) (drop from (now (source .entry)))) ⌝ }
 {
@@ -50,7 +50,7 @@ fn run(kind: u16, run: Run, source: &[u8], from: usize) -> Token
 }
 
 // A token of one byte, or of two where x follows.
-fn pair(x: u8, longer: u16, shorter: u16, source: &[u8], from: usize) -> Token
+fn pair(x: u8, longer: u8, shorter: u8, source: &[u8], from: usize) -> Token
     requires { ⌜ from ≤ length (now source) ⌝ }
     ensures { λ r. ⌜ r ≡ placed from (follow x (one longer) (one shorter) (drop from (now (source .entry)))) ⌝ }
 {
@@ -194,19 +194,19 @@ fn next(table: &[u8; 256], source: &[u8], at: usize) -> Token
         57 => pair(47, SLASH_SLASH, SLASH, source, from),
         1 => stray(b, source, from),
         _ => Token {
-            kind: class as u16,
+            kind: class,
             end: from,
         },
     }
 }
 
 // Writes a token while there is room; both slices have the same length.
-fn put(kinds: &mut [u16], ends: &mut [u32], n: usize, kind: u16, end: u32)
+fn put(kinds: &mut [u16], ends: &mut [u32], n: usize, kind: u8, end: u32)
     requires { ⌜ length (now kinds) ≡ length (now ends) ⌝ }
     ensures { λ _. ⌜ (now (kinds .exit) ≡ set (now (kinds .entry)) n kind) × (now (ends .exit) ≡ set (now (ends .entry)) n end) ⌝ }
 {
     if n < kinds.len() {
-        kinds[n] = kind;
+        kinds[n] = kind as u16;
         ends[n] = end;
     }
 }

@@ -63,9 +63,6 @@ pair-requires-4 c κs = search needs
 stray-requires : tie.Need-stray-requires
 stray-requires c κs = search needs
 
-cast-t11 : tie.Need-cast-t11
-cast-t11 c = search needs
-
 returns : tie.Need-returns
 unfolding arm
 returns c =
@@ -171,7 +168,6 @@ next-spec =
     pair-requires-3
     pair-requires-4
     stray-requires
-    cast-t11
     returns
     returns-2
     returns-3

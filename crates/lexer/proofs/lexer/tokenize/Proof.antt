@@ -31,7 +31,10 @@ slice-aggregate-tokens-2 : tie.Need-slice-aggregate-tokens-2
 slice-aggregate-tokens-2 c = sym (length-take-le _ _ (omega arith))
 
 tokens-requires : tie.Need-tokens-requires
-tokens-requires c κs = (search needs, length-take-le _ _ (omega arith) ∙ sym (length-take-le _ _ (omega arith)))
+tokens-requires c κs =
+    let a = c .before .before .before .before .before .before .args in
+    let room = c .before .before .least .result in
+    (search needs, length-take-le room (a .kinds .now) (omega arith) ∙ sym (length-take-le room (a .ends .now) (omega arith)))
 
 same-length : tie.Need-same-length
 same-length c = search needs

@@ -1,0 +1,29 @@
+# The front door. Each target is one command; `make test` is the gate.
+.PHONY: check test differ large speed store
+
+# Prove every crate and run the programs.
+check:
+	rt check
+
+# Everything, from nothing: the gate.
+test:
+	bash .ci/run
+
+# The lexer against the compiled reference, and the same on N times the sampled cases.
+differ:
+	rt check tokens
+	cd tests && cargo run --offline --release --bin differ lexer --program ../target/bin/tokens
+
+N ?= 10
+large:
+	rt check tokens
+	cd tests && cargo run --offline --release --bin differ lexer --program ../target/bin/tokens --large $(N)
+
+# Times of the proved lexer, a plain Rust lexer and the reference (docs/PERFORMANCE.md).
+speed:
+	rt staticlib masm_lex
+	cd tests && cargo run --offline --release --bin speed
+
+# Writes the stored cases and answers that `rt ci` replays.
+store:
+	cd tests && cargo run --offline --release --bin differ lexer --store ../crates/tokens 400

@@ -1,0 +1,94 @@
+// The frames of the input: three little-endian numbers (bytes of the source, entries of kinds and of ends), then the source.
+use crate::answer;
+use crate::output;
+use libc::STDIN_FILENO;
+ghost use Prim.Native.Nat.{_+_, _≤_, _<_};
+ghost use Rattle.tokens.specs.Ready.{Ready};
+
+// How much of the buffer is used, and whether a frame was answered.
+struct Step {
+    used: usize,
+    more: bool,
+}
+
+fn wide(b: u8) -> usize
+    ensures { λ r. ⌜ r < 256 ⌝ }
+{
+    b as usize
+}
+
+// A number of the header, low byte first.
+fn number(head: &[u8; 12], at: usize) -> usize
+    requires { ⌜ at + 4 ≤ 12 ⌝ }
+{
+    let low = wide(head[at]) + wide(head[at + 1]) * 256;
+    let high = wide(head[at + 2]) + wide(head[at + 3]) * 256;
+    low + high * 65536
+}
+
+// Reads the source and answers it.
+fn body(source: &mut [u8], kinds: &mut [u16], ends: &mut [u32], out: &mut [u8], used: usize) -> Step
+    requires { ⌜ Ready used (now out) ⌝ }
+    ensures { λ r. ⌜ Ready (r .used) (now (out .exit)) ⌝ }
+{
+    let got = io::read_full(STDIN_FILENO, source);
+    if got < source.len() {
+        return Step { used, more: false };
+    }
+    let used = answer::answer(source, kinds, ends, out, used);
+    Step { used, more: true }
+}
+
+// One frame, or none where the input ends or a number is too large.
+fn frame(
+    source: &mut [u8],
+    kinds: &mut [u16],
+    ends: &mut [u32],
+    out: &mut [u8],
+    used: usize,
+) -> Step
+    requires { ⌜ Ready used (now out) ⌝ }
+    ensures { λ r. ⌜ Ready (r .used) (now (out .exit)) ⌝ }
+{
+    let mut head = [0u8; 12];
+    let got = io::read_full(STDIN_FILENO, &mut head);
+    if got < 12 {
+        return Step { used, more: false };
+    }
+    let n = number(&head, 0);
+    let k = number(&head, 4);
+    let e = number(&head, 8);
+    if source.len() < n {
+        return Step { used, more: false };
+    }
+    if kinds.len() < k {
+        return Step { used, more: false };
+    }
+    if ends.len() < e {
+        return Step { used, more: false };
+    }
+    body(&mut source[..n], &mut kinds[..k], &mut ends[..e], out, used)
+}
+
+// All frames; how much of the buffer is used at the end. The count makes the loop end, and no input has as many frames.
+fn frames(source: &mut [u8], kinds: &mut [u16], ends: &mut [u32], out: &mut [u8]) -> usize
+    requires { ⌜ Ready 0 (now out) ⌝ }
+    ensures { λ r. ⌜ Ready r (now (out .exit)) ⌝ }
+{
+    let mut used = 0;
+    for i in 0usize..1000000000000 {
+        let step = frame(source, kinds, ends, out, used);
+        used = step.used;
+        if !step.more {
+            return used;
+        }
+    }
+    used
+}
+
+pub fn run(source: &mut [u8], kinds: &mut [u16], ends: &mut [u32], out: &mut [u8])
+    requires { ⌜ Ready 0 (now out) ⌝ }
+{
+    let used = frames(source, kinds, ends, out);
+    output::flush(out, used);
+}
