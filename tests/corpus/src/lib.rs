@@ -9,6 +9,7 @@ pub mod rooms;
 pub mod script;
 pub mod sequences;
 pub mod spellings;
+pub mod spread;
 pub mod utf8;
 
 use random::Random;
