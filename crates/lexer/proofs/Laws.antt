@@ -3,8 +3,8 @@ use mathlib.Core.Path.{_≡_, refl, sym, ap, _∙_}
 use mathlib.Core.Bool.{Bool, true, false, cond, false≢true}
 use mathlib.Core.List.{List, [], _∷_}
 use Prim.Native.Nat.{ℕ, zero, suc, _+_, _≤_, _<_}
-use native.Mathlib.Nat.{add-zero, zero-add, add-suc, suc-add, le-of-suc-le-suc, not-suc-le-zero}
-use native.Mathlib.Numerals.{add-one}
+use native.Mathlib.Nat.{add-zero, zero-add, add-suc, suc-add, add-assoc, le-of-suc-le-suc, not-suc-le-zero}
+use native.Mathlib.Numerals.{add-one, one-add}
 use native.Mathlib.Omega.{arith}
 use borrow.Author.Tests.{ltb-true, ltb-false}
 use lib.Dec.{eqb, ltb}
@@ -13,7 +13,7 @@ use lib.Seq.{drop-cons, drop-drop}
 use Rattle.lexer.specs.declared.lexer.Token.{Token}
 use Rattle.lexer.specs.Chars.{tabulate}
 use Rattle.lexer.specs.Lexer.{Lex, one, later, follow, advance-while}
-use Rattle.lexer.specs.Code.{placed, starts}
+use Rattle.lexer.specs.Code.{placed, starts, AllHold}
 
 from : (f : ℕ → ℕ) (i n k : ℕ) → k < n → getD (tabulate f i n) k 0 ≡ f (i + k)
 from f i zero k h = absurd (not-suc-le-zero h)
@@ -86,3 +86,11 @@ one-here k n = ap (λ (m : ℕ). record { kind = k; end = m }) (omega arith)
 
 pub placed-no : (x : ℕ) (f g : Lex) (n : ℕ) (r : List ℕ) → starts x r ≡ false → placed n (g r) ≡ placed n (follow x f g r)
 placed-no x f g n r e = ap (placed n) (sym (follow-no x f g r e))
+
+-- a run goes over bytes that all hold
+pub run-over : (p : ℕ → Bool) (s : List ℕ) (n at : ℕ) → at + n ≤ length s → AllHold p s at n → advance-while p (drop at s) ≡ n + advance-while p (drop (at + n) s)
+run-over p s zero at h all = rw (add-zero, zero-add)
+run-over p s (suc n) at h all =
+    let e = run-more p s at (omega arith) (rw add-zero at (all 0 (omega arith))) in
+    let i = run-over p s n (at + 1) (omega arith) (λ k l. rw (add-assoc, one-add) (all (suc k) (omega arith))) in
+    e ∙ ap suc i ∙ rw (add-assoc, one-add, suc-add)

@@ -3,8 +3,9 @@
 use mathlib.Core.Path.{_≡_}
 use mathlib.Core.Bool.{Bool, true, false, not, _&&_, cond}
 use mathlib.Core.List.{List, [], _∷_}
-use Prim.Native.Nat.{ℕ, _+_}
+use Prim.Native.Nat.{ℕ, _+_, _<_}
 use lib.Dec.{eqb}
+use lib.ListN.{getD}
 use Rattle.lexer.specs.declared.lexer.Token.{Token}
 use Rattle.lexer.specs.declared.quoted.Quoted.{Quoted}
 use Rattle.lexer.specs.declared.quoted.Ending.{Ending}
@@ -35,3 +36,7 @@ quote-kind File i = Error
 pub record Ends (q : Quoted) (t : Token) : Type 0 where
   pub kind-is : quote-kind (q .ending) (q .«identifier_like») ≡ t .kind
   pub end-is : q .at ≡ t .end
+
+-- p holds of the n bytes from `at` on
+abbrev pub AllHold : (ℕ → Bool) → List ℕ → ℕ → ℕ → Type 0
+AllHold p s at n = (k : ℕ) → k < n → p (getD s (at + k) 0) ≡ true

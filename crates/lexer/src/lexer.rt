@@ -5,6 +5,7 @@ use crate::class::class_in;
 use crate::quoted::lex_quoted;
 use crate::runs::advance_while;
 use crate::runs::current_is;
+use crate::runs::line_rest;
 use crate::runs::same;
 use crate::runs::word_end;
 use crate::syntax::COLON;
@@ -72,9 +73,15 @@ fn comment(source: &[u8], from: usize) -> Token
     ensures { λ r. ⌜ r ≡ placed from (commentOf (drop from (now (source .entry)))) ⌝ }
 {
     if current_is(source, from, 33) {
-        return run(DOC_COMMENT, Run::InLine, source, from + 1);
+        return Token {
+            kind: DOC_COMMENT,
+            end: line_rest(source, from + 1),
+        };
     }
-    run(COMMENT, Run::InLine, source, from)
+    Token {
+        kind: COMMENT,
+        end: line_rest(source, from),
+    }
 }
 
 // lex_identifier, at a letter or '_'

@@ -1,13 +1,15 @@
 // Runs of bytes, and what stands at an offset.
 use crate::chars::Run;
 use crate::chars::goes_on;
+use crate::chars::is_line_end;
 use crate::class::is_word;
 ghost use mathlib.Core.Path.{_≡_};
+ghost use mathlib.Core.Bool.{false};
 ghost use Prim.Native.Nat.{_+_, _≤_};
 ghost use lib.ListN.{length, drop};
 ghost use Rattle.lexer.specs.Chars.{class-table, holds, word};
-ghost use Rattle.lexer.specs.Lexer.{advance-while, same as sameOf};
-ghost use Rattle.lexer.specs.Code.{starts};
+ghost use Rattle.lexer.specs.Lexer.{advance-while, in-line, same as sameOf};
+ghost use Rattle.lexer.specs.Code.{starts, AllHold};
 
 // Where the run from `from` on ends.
 pub fn advance_while(run: Run, source: &[u8], from: usize) -> usize
@@ -22,6 +24,35 @@ pub fn advance_while(run: Run, source: &[u8], from: usize) -> usize
         at += 1;
     }
     at
+}
+
+// Whether a line end is among the 16 bytes from `at` on. All are looked at, so that the compiler makes wide comparisons of it.
+fn line_end_within(source: &[u8], at: usize) -> bool
+    requires { ⌜ at + 16 ≤ length (now source) ⌝ }
+    ensures { λ r. ⌜ (r ≡ false → AllHold in-line (now (source .entry)) at 16) ⌝ }
+{
+    let mut found = false;
+    for i in 0usize..16 {
+        if is_line_end(source[at + i]) {
+            found = true;
+        }
+    }
+    found
+}
+
+// Where the line that `from` stands in ends: advance_while up to a line end, 16 bytes at a time.
+pub fn line_rest(source: &[u8], from: usize) -> usize
+    requires { ⌜ from ≤ length (now source) ⌝ }
+    ensures { λ r. ⌜ r ≡ from + advance-while in-line (drop from (now (source .entry))) ⌝ }
+{
+    let mut at = from;
+    while 16 <= source.len() - at {
+        if line_end_within(source, at) {
+            return advance_while(Run::InLine, source, at);
+        }
+        at += 16;
+    }
+    advance_while(Run::InLine, source, at)
 }
 
 // Where the word from `from` on ends: advance_while over letters, digits and '_', one load a byte.

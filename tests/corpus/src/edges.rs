@@ -3,7 +3,7 @@
 use reference::MAX_SOURCE;
 
 /// Control forms: what opens one, what stands before its closer, its closer.
-const FORMS: [(&str, &str, &str); 6] = [
+pub const FORMS: [(&str, &str, &str); 6] = [
     ("if ", "", "end "),
     ("if.true ", "else ", "end\n"),
     ("while ", "", "end "),

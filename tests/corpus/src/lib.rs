@@ -4,10 +4,14 @@ pub mod damage;
 pub mod edges;
 pub mod examples;
 pub mod lexical;
+pub mod nested;
+pub mod pairs;
+pub mod publics;
 pub mod random;
 pub mod rooms;
 pub mod script;
 pub mod sequences;
+pub mod shapes;
 pub mod spellings;
 pub mod spread;
 pub mod utf8;
@@ -55,10 +59,21 @@ pub enum Family {
     Edges,
     /// Slices that are too short, just enough or unequal.
     Rooms,
+    /// `pub` and what stands behind it.
+    Publics,
+    /// Open control forms before a boundary.
+    Nested,
+    /// One piece repeated, up to 2,000 times.
+    Shapes,
+    /// Each slice alone at every length of interest.
+    Slices,
+    /// Two files joined.
+    Pairs,
 }
 
 impl Family {
-    pub const ALL: [Self; 10] = [
+    /// The families for the whole reader; the first ten are the lexer's.
+    pub const ALL: [Self; 15] = [
         Self::Examples,
         Self::Spaced,
         Self::Joined,
@@ -69,37 +84,65 @@ impl Family {
         Self::Damaged,
         Self::Edges,
         Self::Rooms,
+        Self::Publics,
+        Self::Nested,
+        Self::Shapes,
+        Self::Slices,
+        Self::Pairs,
     ];
+    pub const LEXER: &'static [Self] = Self::ALL.split_at(10).0;
 
     pub fn name(self) -> String {
         format!("{self:?}").to_lowercase()
+    }
+
+    pub fn named(name: &str) -> Option<Self> {
+        Self::ALL.into_iter().find(|family| family.name() == name)
     }
 }
 
 type Sources = Box<dyn Iterator<Item = Vec<u8>> + Send>;
 
 /// All cases of a size, family by family.
-pub fn cases(size: Size) -> impl Iterator<Item = Case> + Send {
-    Family::ALL.into_iter().flat_map(move |family| {
+pub fn cases(families: &[Family], size: Size) -> impl Iterator<Item = Case> + Send {
+    families.iter().flat_map(move |&family| {
         let mut random = Random::new(family as u64);
-        sources(family, size).map(move |source| {
-            let plan = match family {
-                Family::Rooms => Plan::odd(&mut random),
-                _ => Plan::AMPLE,
+        sources(family, size).flat_map(move |source| {
+            let plans = match family {
+                Family::Rooms => vec![Plan::odd(&mut random)],
+                Family::Slices => Plan::each(),
+                _ => vec![Plan::AMPLE],
             };
-            Case { family, source, plan }
+            plans.into_iter().map(move |plan| Case { family, source: source.clone(), plan })
         })
     })
 }
 
+/// The pairs of files whose joins are the family Pairs.
+pub fn pairs(size: Size) -> impl Iterator<Item = pairs::Pair> {
+    let mut random = sampling(Family::Pairs);
+    (0..PAIRS * times(size)).map(move |_| pairs::pair(&mut random))
+}
+
+const PAIRS: usize = 15_000;
+
+/// How often the sampled cases are taken.
+fn times(size: Size) -> usize {
+    match size {
+        Size::Ci => 1,
+        Size::Large(times) => times,
+    }
+}
+
+fn sampling(family: Family) -> Random {
+    Random::new(1000 + family as u64)
+}
+
 fn sources(family: Family, size: Size) -> Sources {
-    let (times, longer) = match size {
-        Size::Ci => (1, 0),
-        Size::Large(times) => (times, 1),
-    };
+    let longer = u32::from(size != Size::Ci);
     let sampled = |count: usize, make: fn(&mut Random) -> Vec<u8>| -> Sources {
-        let mut random = Random::new(1000 + family as u64);
-        Box::new((0..count * times).map(move |_| make(&mut random)))
+        let mut random = sampling(family);
+        Box::new((0..count * times(size)).map(move |_| make(&mut random)))
     };
     match family {
         Family::Examples => Box::new(examples::all()),
@@ -115,6 +158,11 @@ fn sources(family: Family, size: Size) -> Sources {
         Family::Damaged => sampled(30_000, damaged_script),
         Family::Edges => Box::new(edges::depths().chain(edges::endings()).chain(edges::sizes())),
         Family::Rooms => sampled(15_000, any_source),
+        Family::Publics => Box::new(publics::all(longer)),
+        Family::Nested => Box::new(nested::all()),
+        Family::Shapes => Box::new(shapes::all()),
+        Family::Slices => Box::new(examples::all().chain(sampled(200, any_source))),
+        Family::Pairs => sampled(PAIRS, pairs::joined),
     }
 }
 

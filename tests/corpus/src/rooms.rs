@@ -1,6 +1,6 @@
 //! Rooms for a case, stated by what the source needs.
 
-use reference::{MAX_SOURCE, Rooms, answer, parsed::unwanted};
+use reference::{MAX_SOURCE, Reading, Rooms};
 
 use crate::random::Random;
 
@@ -37,16 +37,13 @@ pub struct Needs {
 }
 
 impl Needs {
-    pub fn of(source: &[u8]) -> Self {
-        let Ok(text) = answer::text(source) else { return Self::default() };
-        if unwanted(text).is_some() {
-            return Self { tokens: reference::tokens(text).len(), ..Self::default() };
-        }
-        let parsed = reference::parsed(text);
-        Self {
-            tokens: parsed.tokens.len(),
-            events: parsed.events.len(),
-            diagnostics: parsed.diagnostics.len(),
+    pub fn of(reading: &Reading) -> Self {
+        let tokens = reading.tokens().len();
+        match reading {
+            Reading::Parsed(parsed) => {
+                Self { tokens, events: parsed.events.len(), diagnostics: parsed.diagnostics.len() }
+            },
+            _ => Self { tokens, ..Self::default() },
         }
     }
 }
@@ -94,6 +91,31 @@ impl Plan {
             plan.counts = random.below(5);
         }
         plan
+    }
+
+    /// Ample but for one slice, at each of its lengths; and all slices exact.
+    pub fn each() -> Vec<Self> {
+        let exact = Self {
+            counts: 3,
+            token_kinds: Room::Exact,
+            token_ends: Room::Exact,
+            events: Room::Exact,
+            messages: Room::Exact,
+            starts: Room::Exact,
+            ends: Room::Exact,
+        };
+        let lengths = [Room::Zero, Room::One, Room::OneLess, Room::Exact];
+        let short = lengths.into_iter().flat_map(|room| {
+            [
+                Self { token_kinds: room, ..Self::AMPLE },
+                Self { token_ends: room, ..Self::AMPLE },
+                Self { events: room, ..Self::AMPLE },
+                Self { messages: room, ..Self::AMPLE },
+                Self { starts: room, ..Self::AMPLE },
+                Self { ends: room, ..Self::AMPLE },
+            ]
+        });
+        short.chain([exact]).collect()
     }
 
     /// The lengths; no slice is longer than the largest source can fill.

@@ -4,9 +4,18 @@ use std::collections::BTreeMap;
 
 use crate::{Case, Family, Size, cases};
 
-/// `count` of the cases that `keep` wants.
+/// `count` of the lexer's cases that `keep` wants.
 pub fn spread(count: usize, keep: fn(&Case) -> bool) -> impl Iterator<Item = Case> {
-    let wanted = move || cases(Size::Ci).filter(keep);
+    spread_over(Family::LEXER, count, keep)
+}
+
+/// `count` of these families' cases that `keep` wants.
+pub fn spread_over(
+    families: &'static [Family],
+    count: usize,
+    keep: fn(&Case) -> bool,
+) -> impl Iterator<Item = Case> {
+    let wanted = move || cases(families, Size::Ci).filter(keep);
     let mut all = BTreeMap::new();
     for case in wanted() {
         *all.entry(case.family).or_insert(0) += 1;

@@ -3,7 +3,7 @@
 use std::collections::{BTreeMap, BTreeSet};
 
 use corpus::{Case, Family, Size, cases, rooms::Needs};
-use reference::{MAX_CONTROL_FLOW_NESTING, MAX_SOURCE, answer, messages, parsed, parsed::unwanted};
+use reference::{MAX_CONTROL_FLOW_NESTING, MAX_SOURCE, Reading, messages, reading};
 
 /// One case in so many is looked at, so that the test stays short.
 const STEP: usize = 7;
@@ -15,8 +15,9 @@ fn every_kind_message_and_status_occurs() {
     let looked_at = |case: &(usize, Case)| {
         case.0.is_multiple_of(STEP) || matches!(case.1.family, Family::Examples | Family::Edges)
     };
-    for (_, case) in cases(Size::Ci).enumerate().filter(looked_at) {
-        let found = answer(&case.source, case.plan.rooms(Needs::of(&case.source)));
+    for (_, case) in cases(&Family::ALL, Size::Ci).enumerate().filter(looked_at) {
+        let reading = reading(&case.source);
+        let found = reading.answer(case.plan.rooms(Needs::of(&reading)));
         statuses.insert(found.status);
         if found.status == 0 {
             let [tokens, events, diagnostics] = found.counts.map(|count| count as usize);
@@ -35,12 +36,8 @@ fn every_kind_message_and_status_occurs() {
 /// What document 01 says of every parse.
 #[test]
 fn bounds_hold() {
-    for case in cases(Size::Ci).step_by(STEP) {
-        let Ok(text) = answer::text(&case.source) else { continue };
-        if unwanted(text).is_some() {
-            continue;
-        }
-        let parsed = parsed(text);
+    for case in cases(&Family::ALL, Size::Ci).step_by(STEP) {
+        let Reading::Parsed(parsed) = reading(&case.source) else { continue };
         let tokens = parsed.tokens.len();
         assert!(parsed.events.len() <= 7 * tokens + 2);
         assert!(parsed.diagnostics.len() <= 2 * tokens);
@@ -64,14 +61,14 @@ fn most_open(events: &[u16]) -> usize {
 
 #[test]
 fn cases_are_the_same_at_every_run() {
-    let sample = || cases(Size::Ci).step_by(997).collect::<Vec<Case>>();
+    let sample = || cases(&Family::ALL, Size::Ci).step_by(997).collect::<Vec<Case>>();
     assert!(sample() == sample());
 }
 
 #[test]
 fn every_family_has_cases() {
     let mut counts = BTreeMap::new();
-    for case in cases(Size::Ci) {
+    for case in cases(&Family::ALL, Size::Ci) {
         assert!(case.source.len() <= MAX_SOURCE + 1);
         *counts.entry(case.family).or_insert(0) += 1;
     }

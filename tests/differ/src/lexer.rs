@@ -1,11 +1,13 @@
 //! The UTF-8 check and the lexer.
 
-use corpus::{Case, rooms::Needs};
+use corpus::{Case, Family, rooms::Needs};
 use reference::{Rooms, Slices, answer};
 
 use crate::part::{Exchange, Part, frame, push_line};
 
-pub const PART: Part = Part { name: "lexer", lines: 3, exchange };
+pub fn part() -> Part {
+    Part { name: "lexer", families: Family::LEXER, lines: 3, exchange: Box::new(exchange) }
+}
 
 /// Frame: source length, kinds length, ends length, source. Answer: status and value, kinds, ends.
 fn exchange(case: &Case) -> Exchange {

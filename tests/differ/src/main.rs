@@ -2,25 +2,39 @@
 
 mod lexer;
 mod part;
+mod readings;
 mod run;
 mod store;
 
 use std::{env, path::Path, process::ExitCode, time::Duration};
 
-use corpus::{Size, cases};
+use corpus::{Family, Size, cases};
 use part::Part;
+use readings::Limits;
 
-const USAGE: &str =
-    "usage: differ lexer --program PATH [--large N] [--every N] [--patience SECONDS]
-       differ lexer --store DIR N";
+const USAGE: &str = "usage: differ PART --program PATH [OPTIONS]
+       differ PART --store DIR N
+parts: lexer, readings
+options: --large N, --every N, --family NAME, --patience SECONDS
+         and for readings the greatest lengths of slices: --tokens N, --events N, --diagnostics N";
 
 const PATIENCE: Duration = Duration::from_secs(120);
+
+/// What a run is told.
+struct Options {
+    size: Size,
+    every: usize,
+    family: Option<Family>,
+    patience: Duration,
+    limits: Limits,
+}
 
 fn main() -> ExitCode {
     let arguments: Vec<String> = env::args().skip(1).collect();
     let words: Vec<&str> = arguments.iter().map(String::as_str).collect();
     let answer = match words.as_slice() {
-        ["lexer", options @ ..] => dispatch(&lexer::PART, options),
+        [name, "--store", folder, count] => store(name, folder, count),
+        [name, "--program", program, rest @ ..] => compare(name, program, rest),
         _ => None,
     };
     answer.unwrap_or_else(|| {
@@ -29,30 +43,55 @@ fn main() -> ExitCode {
     })
 }
 
-/// Nothing if the options are not understood.
-fn dispatch(part: &Part, options: &[&str]) -> Option<ExitCode> {
-    match options {
-        ["--store", folder, count] => {
-            store::store(part, Path::new(folder), count.parse().ok()?)
-                .expect("the folder is written");
-            Some(ExitCode::SUCCESS)
-        },
-        ["--program", program, rest @ ..] => compare(part, program, rest),
+fn part(name: &str, limits: Limits) -> Option<Part> {
+    match name {
+        "lexer" => Some(lexer::part()),
+        "readings" => Some(readings::part(limits)),
         _ => None,
     }
 }
 
-fn compare(part: &Part, program: &str, options: &[&str]) -> Option<ExitCode> {
-    let (mut size, mut every, mut patience) = (Size::Ci, 1, PATIENCE);
-    for option in options.chunks(2) {
-        match option {
-            ["--large", times] => size = Size::Large(times.parse().ok()?),
-            ["--every", step] => every = step.parse().ok().filter(|step| *step > 0)?,
-            ["--patience", seconds] => patience = Duration::from_secs(seconds.parse().ok()?),
+/// Nothing if the words are not understood.
+fn store(name: &str, folder: &str, count: &str) -> Option<ExitCode> {
+    let part = part(name, Limits::default())?;
+    store::store(&part, Path::new(folder), count.parse().ok()?).expect("the folder is written");
+    Some(ExitCode::SUCCESS)
+}
+
+/// Nothing if the words are not understood.
+fn compare(name: &str, program: &str, options: &[&str]) -> Option<ExitCode> {
+    let Options { size, every, family, patience, limits } = read_options(options)?;
+    let part = part(name, limits)?;
+    let chosen = |other: &&Family| family.is_none_or(|family| family == **other);
+    let families: Vec<Family> = part.families.iter().filter(chosen).copied().collect();
+    let joins = !families.contains(&Family::Pairs) || readings::check_joins(size, every);
+    let cases = cases(&families, size).step_by(every);
+    let outcome = run::run(&part, Path::new(program), patience, cases);
+    outcome.print(part.name);
+    Some(if joins && outcome.agrees() { ExitCode::SUCCESS } else { ExitCode::FAILURE })
+}
+
+fn read_options(words: &[&str]) -> Option<Options> {
+    let mut options = Options {
+        size: Size::Ci,
+        every: 1,
+        family: None,
+        patience: PATIENCE,
+        limits: Limits::default(),
+    };
+    for option in words.chunks(2) {
+        let [name, value] = option else { return None };
+        let number = || value.parse::<usize>().ok();
+        match *name {
+            "--large" => options.size = Size::Large(number()?),
+            "--every" => options.every = number().filter(|step| *step > 0)?,
+            "--family" => options.family = Some(Family::named(value)?),
+            "--patience" => options.patience = Duration::from_secs(number()? as u64),
+            "--tokens" => options.limits.tokens = number()?,
+            "--events" => options.limits.events = number()?,
+            "--diagnostics" => options.limits.diagnostics = number()?,
             _ => return None,
         }
     }
-    let outcome = run::run(part, Path::new(program), patience, cases(size).step_by(every));
-    outcome.print(part.name);
-    Some(if outcome.agrees() { ExitCode::SUCCESS } else { ExitCode::FAILURE })
+    Some(options)
 }

@@ -2,13 +2,14 @@
 
 use std::io::Write;
 
-use corpus::Case;
+use corpus::{Case, Family};
 
 pub struct Part {
     pub name: &'static str,
+    pub families: &'static [Family],
     /// How many lines an answer has.
     pub lines: usize,
-    pub exchange: fn(&Case) -> Exchange,
+    pub exchange: Box<dyn Fn(&Case) -> Exchange + Sync>,
 }
 
 /// What the program is sent for a case, and what it must answer.

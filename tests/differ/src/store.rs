@@ -2,7 +2,7 @@
 
 use std::{fs, io, path::Path};
 
-use corpus::{Case, spread::spread};
+use corpus::{Case, spread::spread_over};
 
 use crate::part::Part;
 
@@ -13,7 +13,7 @@ const LONGEST: usize = 60;
 pub fn store(part: &Part, folder: &Path, count: usize) -> io::Result<()> {
     let (mut stdin, mut stdout) = (Vec::new(), Vec::new());
     let mut stored = 0;
-    for case in spread(count, short) {
+    for case in spread_over(part.families, count, short) {
         let exchange = (part.exchange)(&case);
         stdin.extend(exchange.frame);
         stdout.extend(exchange.expected);

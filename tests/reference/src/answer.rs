@@ -112,15 +112,19 @@ impl Slices {
     }
 }
 
+/// What a source holds, before any room is looked at.
+#[derive(Debug, Clone, PartialEq, Eq)]
+pub enum Reading {
+    /// Refusal 1 or 2.
+    Refused([u64; 4]),
+    /// Refusal 4: the tokens, and where the first `use` or `extern` starts.
+    Unwanted(Vec<Token>, usize),
+    Parsed(Parsed),
+}
+
 /// The answer over slices that hold the fillers.
 pub fn answer(source: &[u8], rooms: Rooms) -> Answer {
-    let mut slices = Slices::filled(rooms);
-    if rooms.counts < 3 {
-        return Answer { status: 6, counts: [0; 3], slices };
-    }
-    let [status, counts @ ..] = numbers(source, rooms, &mut slices);
-    slices.counts[..3].copy_from_slice(&counts);
-    Answer { status, counts, slices }
+    reading(source).answer(rooms)
 }
 
 /// The source as text, or the numbers of refusal 1 or 2.
@@ -131,25 +135,52 @@ pub fn text(source: &[u8]) -> Result<&str, [u64; 4]> {
     str::from_utf8(source).map_err(|error| [2, error.valid_up_to() as u64, 0, 0])
 }
 
-/// The four numbers for a call whose counts fit, in the order in which the table is checked.
-fn numbers(source: &[u8], rooms: Rooms, slices: &mut Slices) -> [u64; 4] {
-    let text = match text(source) {
-        Ok(text) => text,
-        Err(refusal) => return refusal,
-    };
-    let tokens = parsed::tokens(text);
-    slices.write_tokens(&tokens);
-    if tokens.len() > rooms.tokens() {
-        return [3, tokens.len() as u64, 0, 0];
+pub fn reading(source: &[u8]) -> Reading {
+    match text(source) {
+        Err(refusal) => Reading::Refused(refusal),
+        Ok(text) => match parsed::unwanted(text) {
+            Some(offset) => Reading::Unwanted(parsed::tokens(text), offset),
+            None => Reading::Parsed(parsed::parsed(text)),
+        },
     }
-    if let Some(offset) = parsed::unwanted(text) {
-        return [4, offset as u64, 0, 0];
+}
+
+impl Reading {
+    pub fn answer(&self, rooms: Rooms) -> Answer {
+        let mut slices = Slices::filled(rooms);
+        if rooms.counts < 3 {
+            return Answer { status: 6, counts: [0; 3], slices };
+        }
+        let [status, counts @ ..] = self.numbers(rooms, &mut slices);
+        slices.counts[..3].copy_from_slice(&counts);
+        Answer { status, counts, slices }
     }
 
-    let parsed = parsed::parsed(text);
-    slices.write_tree(&parsed);
-    let (events, diagnostics) = (parsed.events.len(), parsed.diagnostics.len());
-    let short = events > rooms.events || diagnostics > rooms.diagnostics();
-    let status = if short { 5 } else { 0 };
-    [status, tokens.len() as u64, events as u64, diagnostics as u64]
+    pub fn tokens(&self) -> &[Token] {
+        match self {
+            Self::Refused(_) => &[],
+            Self::Unwanted(tokens, _) => tokens,
+            Self::Parsed(parsed) => &parsed.tokens,
+        }
+    }
+
+    /// The four numbers for a call whose counts fit, in the order in which the table is checked.
+    fn numbers(&self, rooms: Rooms, slices: &mut Slices) -> [u64; 4] {
+        let tokens = self.tokens().len();
+        slices.write_tokens(self.tokens());
+        if tokens > rooms.tokens() {
+            return [3, tokens as u64, 0, 0];
+        }
+        match self {
+            Self::Refused(refusal) => *refusal,
+            Self::Unwanted(_, offset) => [4, *offset as u64, 0, 0],
+            Self::Parsed(parsed) => {
+                slices.write_tree(parsed);
+                let (events, diagnostics) = (parsed.events.len(), parsed.diagnostics.len());
+                let short = events > rooms.events || diagnostics > rooms.diagnostics();
+                let status = if short { 5 } else { 0 };
+                [status, tokens as u64, events as u64, diagnostics as u64]
+            },
+        }
+    }
 }

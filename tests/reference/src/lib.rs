@@ -7,6 +7,7 @@ include!(concat!(env!("OUT_DIR"), "/sources.rs"));
 
 pub mod answer;
 pub mod ast;
+pub mod joined;
 pub mod messages;
 pub mod parsed;
 pub mod tree;
@@ -15,5 +16,5 @@ pub mod tree;
 pub use miden_utils_diagnostics as diagnostics;
 pub use syntax::MasmLanguage;
 
-pub use answer::{Answer, MAX_SOURCE, Rooms, Slices, answer};
+pub use answer::{Answer, MAX_SOURCE, Reading, Rooms, Slices, answer, reading};
 pub use parsed::{Diagnostic, Parsed, Token, parsed, tokens};

@@ -5,27 +5,59 @@
 
 use std::{collections::BTreeSet, env};
 
-use corpus::{Case, spread::spread};
+use corpus::{Case, Family, spread::spread};
 use reference::{answer, messages, parsed, parsed::unwanted};
 
 /// Longer sources are not sampled.
-const LONGEST: usize = 60;
+const LONGEST: usize = 200;
+
+const HEADER: &str = "\
+-- What the compiled reference answers to the smallest input of each message and to COUNT short sources at equal distances in the test corpus:
+-- of each source the tokens' kinds and ends, the events and the diagnostics. The definitions give the same, by computation.
+-- Generated, in tests/, by: cargo run --release --bin samples COUNT > ../crates/grammar/specs/Samples.antt
+-- Assumes nothing.
+use mathlib.Core.Path.{_≡_, refl}
+use mathlib.Core.List.{List, [], _∷_, map}
+use Rattle.grammar.specs.Source.{Reading}
+use Rattle.grammar.specs.Compute.{_from_to_, read, again}
+
+pub samples : List Reading
+samples =
+";
+
+const FOOTER: &str = "
+
+pub agree : map again samples ≡ samples
+unfolding again samples
+agree = refl";
 
 fn main() {
     let count = env::args().nth(1).and_then(|count| count.parse().ok());
     let count: usize = count.expect("the number of sources");
     let smallest = messages::rows().iter().map(|row| row.smallest.clone());
-    let sampled = spread(count, wanted).map(|case| case.source);
+    let nested = spread(count - count / 2, |case| wanted(case) && has_control_flow(&case.source));
+    let sampled = spread(count / 2, wanted).chain(nested).map(|case| case.source);
     let mut seen = BTreeSet::new();
     let sources = smallest.chain(sampled).filter(|source| seen.insert(source.clone()));
     let entries: Vec<String> = sources.map(|source| entry(&source)).collect();
-    print!("{}", file(count, &entries));
+    let header = HEADER.replace("COUNT", &count.to_string());
+    println!("{header}    {}\n    ∷ []{FOOTER}", entries.join("\n    ∷ "));
 }
 
-/// Short, and accepted.
+/// Accepted, short and easy to read, and not from a family that is about the lexer alone.
 fn wanted(case: &Case) -> bool {
-    case.source.len() <= LONGEST
-        && answer::text(&case.source).is_ok_and(|text| unwanted(text).is_none())
+    let Ok(text) = answer::text(&case.source) else { return false };
+    let plain = |character: char| character.is_ascii() || "é€😀".contains(character);
+    text.len() <= LONGEST
+        && text.chars().all(plain)
+        && unwanted(text).is_none()
+        && !matches!(case.family, Family::Lexical | Family::Utf8)
+}
+
+/// Whether a node for `if`, `while`, `do` or `repeat` is opened.
+fn has_control_flow(source: &[u8]) -> bool {
+    let text = str::from_utf8(source).expect("the source is accepted");
+    parsed(text).events.iter().any(|event| (19..=22).contains(event))
 }
 
 /// A source and its kinds, ends, events and diagnostics, in antt.
@@ -41,15 +73,10 @@ fn entry(source: &[u8]) -> String {
             .iter()
             .map(|found| format!("{} from {} to {}", found.message, found.start, found.end)),
     );
-    format!("\"{}\" reads {kinds} | {ends} | {events} | {diagnostics}", quoted(source))
+    format!("read {text:?} {kinds} {ends} {events} {diagnostics}")
 }
 
 fn list(items: impl IntoIterator<Item = impl ToString>) -> String {
     let items: String = items.into_iter().map(|item| item.to_string() + " ∷ ").collect();
-    format!("({items}[])")
-}
-
-/// The bytes as a text whose characters have these codes.
-fn quoted(source: &[u8]) -> String {
-    source.iter().map(|byte| char::from(*byte).escape_default().to_string()).collect()
+    if items.is_empty() { "[]".into() } else { format!("({items}[])") }
 }

@@ -1,37 +1,49 @@
 -- `lexer::lexer::comment` meets its contract. Assumes nothing.
-use mathlib.Core.Path.{ap, sym, _∙_}
-use Rattle.lexer.specs.Syntax.{Comment, DocComment}
-use Rattle.lexer.specs.Lexer.{run, in-line}
-use Rattle.lexer.specs.Code.{placed}
-use Rattle.lexer.proofs.Laws.{placed-yes, follow-no, starts-within}
+use Prim.Native.Nat.{ℕ, _+_}
+use mathlib.Core.Path.{_≡_, ap, sym, _∙_}
+use mathlib.Core.List.{List}
 use borrow.Author.Needs.{needs}
+use lib.ListN.{drop}
+use Rattle.lexer.specs.declared.lexer.Token.{Token}
+use Rattle.lexer.specs.Syntax.{Comment, DocComment}
+use Rattle.lexer.specs.Lexer.{advance-while, run, in-line}
+use Rattle.lexer.specs.Code.{placed}
+use Rattle.lexer.proofs.Laws.{placed-yes, placed-no, starts-within}
 use Rattle.lexer.proofs.lexer.comment.Statement.{statement}
 use Rattle.lexer.proofs.lexer.comment.Tie as tie
+
+-- a token up to the line's end, in its place
+to-line-end : (k from end : ℕ) (s : List ℕ) → end ≡ from + advance-while in-line (drop from s)
+    → _≡_ {A = Token} (record { kind = k; end = end }) (placed from (run k in-line (drop from s)))
+unfolding run
+to-line-end k from end s e = ap (λ (n : ℕ). record { kind = k; end = n }) e
 
 current-is-requires : tie.Need-current-is-requires
 current-is-requires c κs = search needs
 
-add-run : tie.Need-add-run
-add-run c = search needs
+add-line-rest : tie.Need-add-line-rest
+add-line-rest c = search needs
 
-run-requires : tie.Need-run-requires
-run-requires c κs =
+line-rest-requires : tie.Need-line-rest-requires
+line-rest-requires c κs =
     let a = c .before .before .before .args in
     starts-within 33 (a .source .now) (a .from) (sym (c .before .current-is .ensures) ∙ c .if1 .taken)
 
 returns : tie.Need-returns
 returns c =
     let a = c .before .before .before .before .args in
-    c .run .ensures ∙ placed-yes 33 (run DocComment in-line) (run Comment in-line) (a .source .now) (a .from) (sym (c .before .before .current-is .ensures) ∙ c .before .if1 .taken)
+    to-line-end DocComment (a .from + 1) _ (a .source .now) (c .line-rest .ensures)
+    ∙ placed-yes 33 (run DocComment in-line) (run Comment in-line) (a .source .now) (a .from) (sym (c .before .before .current-is .ensures) ∙ c .before .if1 .taken)
 
-run-requires-2 : tie.Need-run-requires-2
-run-requires-2 c κs = search needs
+line-rest-requires-2 : tie.Need-line-rest-requires-2
+line-rest-requires-2 c κs = search needs
 
 returns-2 : tie.Need-returns-2
 returns-2 c =
     let a = c .before .before .before .before .args in
-    c .run2 .ensures ∙ ap (placed (a .from)) (sym (follow-no 33 (run DocComment in-line) (run Comment in-line) _ (sym (c .before .before .current-is .ensures) ∙ c .before .if1 .left)))
+    to-line-end Comment (a .from) _ (a .source .now) (c .line-rest2 .ensures)
+    ∙ placed-no 33 (run DocComment in-line) (run Comment in-line) (a .from) _ (sym (c .before .before .current-is .ensures) ∙ c .before .if1 .left)
 
 pub comment-spec : {M : Type 1} → statement M
 comment-spec =
-    tie.close (tie.spec current-is-requires add-run run-requires returns run-requires-2 returns-2)
+    tie.close (tie.spec current-is-requires add-line-rest line-rest-requires returns line-rest-requires-2 returns-2)
