@@ -1,19 +1,20 @@
-//! Prints crates/grammar/specs/Samples.antt: sources with the reference's answers, as readings.
+//! Prints crates/grammar/specs/Samples.antt: sources with the reference's answers.
 //!
-//! Takes the number of sources that are spread over the corpus. The messages' smallest inputs
-//! stand before them.
+//! Takes the number of sources to pick from the corpus, half of them with control flow. The
+//! messages' smallest inputs stand before them; a source stands once.
 
 use std::{collections::BTreeSet, env};
 
 use corpus::{Case, Family, spread::spread};
-use reference::{answer, messages, parsed, parsed::unwanted};
+use reference::{Diagnostic, answer, messages, parsed, parsed::unwanted};
 
 /// Longer sources are not sampled.
 const LONGEST: usize = 200;
 
 const HEADER: &str = "\
--- What the compiled reference answers to the smallest input of each message and to COUNT short sources at equal distances in the test corpus:
--- of each source the tokens' kinds and ends, the events and the diagnostics. The definitions give the same, by computation.
+-- The compiled reference's answers to NUMBER sources: the smallest input of each message, and short sources at equal distances in the test
+-- corpus, half of them with control flow. Of each the source, the tokens' kinds and ends, the events and the diagnostics. The definitions
+-- give the same, by computation.
 -- Generated, in tests/, by: cargo run --release --bin samples COUNT > ../crates/grammar/specs/Samples.antt
 -- Assumes nothing.
 use mathlib.Core.Path.{_≡_, refl}
@@ -40,7 +41,8 @@ fn main() {
     let mut seen = BTreeSet::new();
     let sources = smallest.chain(sampled).filter(|source| seen.insert(source.clone()));
     let entries: Vec<String> = sources.map(|source| entry(&source)).collect();
-    let header = HEADER.replace("COUNT", &count.to_string());
+    let header = HEADER.replace("NUMBER", &entries.len().to_string());
+    let header = header.replace("COUNT", &count.to_string());
     println!("{header}    {}\n    ∷ []{FOOTER}", entries.join("\n    ∷ "));
 }
 
@@ -67,13 +69,13 @@ fn entry(source: &[u8]) -> String {
     let kinds = list(found.tokens.iter().map(|token| token.kind));
     let ends = list(found.tokens.iter().map(|token| token.end));
     let events = list(&found.events);
-    let diagnostics = list(
-        found
-            .diagnostics
-            .iter()
-            .map(|found| format!("{} from {} to {}", found.message, found.start, found.end)),
-    );
+    let diagnostics = list(found.diagnostics.iter().map(place));
     format!("read {text:?} {kinds} {ends} {events} {diagnostics}")
+}
+
+fn place(diagnostic: &Diagnostic) -> String {
+    let Diagnostic { message, start, end, .. } = diagnostic;
+    format!("{message} from {start} to {end}")
 }
 
 fn list(items: impl IntoIterator<Item = impl ToString>) -> String {

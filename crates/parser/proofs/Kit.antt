@@ -1,0 +1,212 @@
+-- The kit: how what the callees do is put together, once for each way in which the definition puts functions together. Assumes nothing.
+use mathlib.Core.Bool.{Bool, true, false, false≢true}
+use mathlib.Core.List.{List, [], _∷_}
+use mathlib.Core.Path.{_≡_, refl, sym, ap, ap₂, subst, fun-ext, _∙_}
+use Prim.Native.Nat.{ℕ, zero, suc, _<_}
+use native.Mathlib.Omega.{arith}
+use lib.ListN.{length}
+use Rattle.grammar.specs.Words.{Sym}
+use Rattle.grammar.specs.Words.{File, from}
+use Rattle.grammar.specs.Look
+use Rattle.grammar.specs.Run
+use Rattle.grammar.specs.Run.{Res, _<>_, Kind, num, P, pure, peek, inNode, pick, _>>=_, _>>_, if_then_else_, take, repeat, loop, scan, Round, stop, go, warn, turn}
+use Rattle.grammar.specs.Bump.{bump-while}
+use Rattle.grammar.specs.State.{State, after, run, write}
+use Rattle.grammar.specs.Laws.Code.{run-bind, run-node, run-pure, run-if}
+use Rattle.parser.specs.Rep.{Base, World, Rep, Wrote, Went, WentTo, Paid, Ran}
+
+run-same : {A : Type 0} (f g : P A) (s : State) → f (s .rest) ≡ g (s .rest) → run f s ≡ run g s
+unfolding run
+run-same f g s e = ap (λ x. after s x) e
+
+if-is : {A : Type 0} (t : List Sym → Bool) (f g : P A) (r : List Sym) → (if t then f else g) r ≡ pick (t r) f g r
+unfolding _>>=_ peek
+if-is t f g r = refl
+
+node-rest : {A : Type 0} (k : Kind) (f : P A) (r : List Sym) → inNode k f r .rest ≡ f r .rest
+unfolding inNode
+node-rest k f r = refl
+
+node-val : {A : Type 0} (k : Kind) (f : P A) (r : List Sym) → inNode k f r .val ≡ f r .val
+unfolding inNode
+node-val k f r = refl
+
+bind-rest : {A B : Type 0} (f : P A) (g : A → P B) (r : List Sym) → (f >>= g) r .rest ≡ g (f r .val) (f r .rest) .rest
+unfolding _>>=_
+bind-rest f g r = refl
+
+bind-val : {A B : Type 0} (f : P A) (g : A → P B) (r : List Sym) → (f >>= g) r .val ≡ g (f r .val) (f r .rest) .val
+unfolding _>>=_
+bind-val f g r = refl
+
+pure-rest : {A : Type 0} (a : A) (r : List Sym) → pure a r .rest ≡ r
+unfolding pure
+pure-rest a r = refl
+
+pure-val : {A : Type 0} (a : A) (r : List Sym) → pure a r .val ≡ a
+unfolding pure
+pure-val a r = refl
+
+module _ {A : Type 0} {F : File} {w w′ : World} where
+  -- f and g are the same at what is left here
+  pub like : {f : P A} (g : P A) → f (from F (w .c .pos)) ≡ g (from F (w .c .pos)) → Went F g w w′ → Went F f w w′
+  like {f} g e h = record {
+    sim = λ b s r. subst (Rep F b w′) (sym (run-same f g s (ap f (r .rest) ∙ e ∙ ap g (sym (r .rest))))) (h .sim b s r);
+    rest = ap (λ x. x .rest) e ∙ h .rest;
+  }
+
+  pub like-to : {f : P A} {a : A} (g : P A) → f (from F (w .c .pos)) ≡ g (from F (w .c .pos)) → WentTo F g w w′ a → WentTo F f w w′ a
+  like-to g e h = record { went = like g e (h .went); val = ap (λ x. x .val) e ∙ h .val }
+
+  -- a test of the code, x, that says what t says here
+  pub yes : (t : List Sym → Bool) {f : P A} (g : P A) {x : Bool} → x ≡ t (from F (w .c .pos)) → x ≡ true → Went F f w w′ → Went F (if t then f else g) w w′
+  yes t {f} g e k h = like f (if-is t f g _ ∙ ap (λ u. pick u f g (from F (w .c .pos))) (sym e ∙ k)) h
+
+  pub no : (t : List Sym → Bool) (f : P A) {g : P A} {x : Bool} → x ≡ t (from F (w .c .pos)) → x ≡ false → Went F g w w′ → Went F (if t then f else g) w w′
+  no t f {g} e k h = like g (if-is t f g _ ∙ ap (λ u. pick u f g (from F (w .c .pos))) (sym e ∙ k)) h
+
+  pub yes-to : (t : List Sym → Bool) {f : P A} (g : P A) {x : Bool} {a : A} → x ≡ t (from F (w .c .pos)) → x ≡ true → WentTo F f w w′ a → WentTo F (if t then f else g) w w′ a
+  yes-to t {f} g e k h = like-to f (if-is t f g _ ∙ ap (λ u. pick u f g (from F (w .c .pos))) (sym e ∙ k)) h
+
+  pub no-to : (t : List Sym → Bool) (f : P A) {g : P A} {x : Bool} {a : A} → x ≡ t (from F (w .c .pos)) → x ≡ false → WentTo F g w w′ a → WentTo F (if t then f else g) w w′ a
+  no-to t f {g} e k h = like-to g (if-is t f g _ ∙ ap (λ u. pick u f g (from F (w .c .pos))) (sym e ∙ k)) h
+
+  -- a value of the code that decides
+  pub on : {f : P A} (g : P A) {x : Bool} → x ≡ true → Went F f w w′ → Went F (pick x f g) w w′
+  on {f} g k h = subst (λ (u : Bool). Went F (pick u f g) w w′) (sym k) h
+
+  pub off : (f : P A) {g : P A} {x : Bool} → x ≡ false → Went F g w w′ → Went F (pick x f g) w w′
+  off f {g} k h = subst (λ (u : Bool). Went F (pick u f g) w w′) (sym k) h
+
+  pub on-to : {f : P A} (g : P A) {x : Bool} {a : A} → x ≡ true → WentTo F f w w′ a → WentTo F (pick x f g) w w′ a
+  on-to {f} g {a} k h = subst (λ (u : Bool). WentTo F (pick u f g) w w′ a) (sym k) h
+
+  pub off-to : (f : P A) {g : P A} {x : Bool} {a : A} → x ≡ false → WentTo F g w w′ a → WentTo F (pick x f g) w w′ a
+  off-to f {g} {a} k h = subst (λ (u : Bool). WentTo F (pick u f g) w w′ a) (sym k) h
+
+  -- start_node .. finish_node
+  pub node : (k : Kind) {f : P A} {v v′ : World} → Wrote F (num k) w v → Went F f v v′ → Wrote F 0 v′ w′ → Went F (inNode k f) w w′
+  node k {f} p h q = record {
+    sim = λ b s r. subst (Rep F b w′) (sym (run-node k f s)) (q .sim b _ (h .sim b _ (p .sim b s r)));
+    rest = node-rest k f _ ∙ ap (λ i. f (from F i) .rest) (sym (p .pos)) ∙ h .rest ∙ ap (from F) (sym (q .pos));
+  }
+
+  pub node-to : (k : Kind) {f : P A} {v v′ : World} {a : A} → Wrote F (num k) w v → WentTo F f v v′ a → Wrote F 0 v′ w′ → WentTo F (inNode k f) w w′ a
+  node-to k {f} p h q = record { went = node k p (h .went) q; val = node-val k f _ ∙ ap (λ i. f (from F i) .val) (sym (p .pos)) ∙ h .val }
+
+module _ {A : Type 0} {F : File} {w : World} (a : A) where
+  pub done : Went F (pure a) w w
+  done = record { sim = λ b s r. subst (Rep F b w) (sym (run-pure a s)) r; rest = pure-rest a _ }
+
+  pub done-to : WentTo F (pure a) w w a
+  done-to = record { went = done; val = pure-val a _ }
+
+module _ {A B : Type 0} {F : File} {w v w′ : World} where
+  -- one after the other
+  pub bind : {f : P A} (g : A → P B) {a : A} → WentTo F f w v a → Went F (g a) v w′ → Went F (f >>= g) w w′
+  bind {f} g {a} h k = record {
+    sim = λ b s r.
+        let x = ap (λ l. f l .val) (r .rest) ∙ h .val in
+        subst (Rep F b w′) (sym (run-bind f g s ∙ ap (λ a. run (g a) (run f s)) x)) (k .sim b (run f s) (h .went .sim b s r));
+    rest = bind-rest f g _ ∙ ap₂ (λ a l. g a l .rest) (h .val) (h .went .rest) ∙ k .rest;
+  }
+
+  pub bind-to : {f : P A} (g : A → P B) {a : A} {c : B} → WentTo F f w v a → WentTo F (g a) v w′ c → WentTo F (f >>= g) w w′ c
+  bind-to {f} g h k = record { went = bind g h (k .went); val = bind-val f g _ ∙ ap₂ (λ a l. g a l .val) (h .val) (h .went .rest) ∙ k .val }
+
+  infixr 10 _then_ _then-to_
+  pub _then_ : {f : P A} {g : P B} → Went F f w v → Went F g v w′ → Went F (f >> g) w w′
+  _then_ {f} {g} h k = record {
+    sim = λ b s r. subst (Rep F b w′) (sym (run-bind f (λ a. g) s)) (k .sim b (run f s) (h .sim b s r));
+    rest = bind-rest f (λ a. g) _ ∙ ap (λ l. g l .rest) (h .rest) ∙ k .rest;
+  }
+
+  pub _then-to_ : {f : P A} {g : P B} {c : B} → Went F f w v → WentTo F g v w′ c → WentTo F (f >> g) w w′ c
+  _then-to_ {f} {g} h k = record { went = h then (k .went); val = bind-val f (λ a. g) _ ∙ ap (λ l. g l .val) (h .rest) ∙ k .val }
+
+-- the same answer in other words, and the same message
+pub answers : {A : Type 0} {F : File} {f : P A} {w w′ : World} {a a′ : A} → WentTo F f w w′ a → a ≡ a′ → WentTo F f w w′ a′
+answers h e = record { went = h .went; val = h .val ∙ e }
+
+pub says : {F : File} {w w′ : World} (m m′ : ℕ) → m ≡ m′ → Went F (Run.err m) w w′ → Went F (Run.err m′) w w′
+says {F} {w} {w′} m m′ e h = subst (λ n. Went F (Run.err n) w w′) e h
+
+-- the same set of tokens in other words
+pub of-set : {F : File} {w w′ : World} {t t′ : Sym → Bool} → ((k : Sym) → t k ≡ t′ k) → Ran 1 0 0 F (bump-while t) w w′ → Ran 1 0 0 F (bump-while t′) w w′
+of-set {F} {w} {w′} e h = subst (λ (t : Sym → Bool). Ran 1 0 0 F (bump-while t) w w′) (fun-ext e) h
+
+-- ---- loops. The loop that began as f₀ at w₀ has come to f at w: what goes on from there goes on from the start
+pub record Leads {A : Type 0} (F : File) (f₀ : P A) (w₀ : World) (f : P A) (w : World) : Type 0 where
+  pub on : (w′ : World) (r : A) → WentTo F f w w′ r → WentTo F f₀ w₀ w′ r
+
+pub begins : {A : Type 0} {F : File} {f : P A} {w : World} → Leads F f w f w
+begins = record { on = λ w′ r h. h }
+
+-- a round that goes on
+pub goes-on : {A : Type 0} {F : File} {f₀ f g : P A} {w₀ w v : World} → Leads F f₀ w₀ f w → ((w′ : World) (r : A) → WentTo F g v w′ r → WentTo F f w w′ r) → Leads F f₀ w₀ g v
+goes-on l k = record { on = λ w′ r h. l .on w′ r (k w′ r h) }
+
+-- what a loop holds: its numbers, that the slices keep their lengths, and where it has come to
+pub record Held {A : Type 0} (a n m : ℕ) (F : File) (f₀ : P A) (w₀ : World) (f : P A) (w : World) : Type 0 where
+  pub paid : Paid a n m F (w₀ .c) (w .c)
+  pub ev : length (w .ev) ≡ length (w₀ .ev)
+  pub dm : length (w .dm) ≡ length (w₀ .dm)
+  pub ds : length (w .ds) ≡ length (w₀ .ds)
+  pub leads : Leads F f₀ w₀ f w
+
+-- ---- scan: a round stops, takes the token, or reports and takes it
+module _ {L : Type 0} (step : L → List Sym → Round L) where
+  scan-stop-eq : (l : L) (r : List Sym) → step l r ≡ stop → scan step l r ≡ pure l r
+  unfolding scan pure
+  scan-stop-eq l [] e = refl
+  scan-stop-eq l (s ∷ r) e = ap (λ t. turn t l s r (λ l′. scan step l′ r)) e
+
+  scan-end-eq : (l : L) (r : List Sym) → Look.eof r ≡ true → scan step l r ≡ pure l r
+  unfolding scan pure Look.eof
+  scan-end-eq l [] e = refl
+  scan-end-eq l (s ∷ r) e = absurd (false≢true e)
+
+  pub scan-go-eq : (l l′ : L) (r : List Sym) → Look.eof r ≡ false → step l r ≡ go l′ → scan step l r ≡ (take >> scan step l′) r
+  unfolding scan _>>=_ take Look.eof
+  scan-go-eq l l′ [] h e = absurd (false≢true (sym h))
+  scan-go-eq l l′ (s ∷ r) h e = ap (λ t. turn t l s r (λ l′. scan step l′ r)) e
+
+  pub scan-warn-eq : (l l′ : L) (m : ℕ) (r : List Sym) → Look.eof r ≡ false → step l r ≡ warn m l′ → scan step l r ≡ (Run.err m >> take >> scan step l′) r
+  unfolding scan _>>=_ take Run.err Look.eof
+  scan-warn-eq l l′ m [] h e = absurd (false≢true (sym h))
+  scan-warn-eq l l′ m (s ∷ r) h e = ap (λ t. turn t l s r (λ l′. scan step l′ r)) e
+
+  module _ {F : File} {w : World} where
+    pub scan-stop : (l : L) → step l (from F (w .c .pos)) ≡ stop → WentTo F (scan step l) w w l
+    scan-stop l e = like-to (pure l) (scan-stop-eq l _ e) (done-to l)
+
+    pub scan-end : (l : L) → Look.eof (from F (w .c .pos)) ≡ true → WentTo F (scan step l) w w l
+    scan-end l e = like-to (pure l) (scan-end-eq l _ e) (done-to l)
+
+    pub scan-go : (l l′ : L) {v w′ : World} {r : L} → Look.eof (from F (w .c .pos)) ≡ false → step l (from F (w .c .pos)) ≡ go l′ → Went F take w v → WentTo F (scan step l′) v w′ r → WentTo F (scan step l) w w′ r
+    scan-go l l′ z e t h = like-to (take >> scan step l′) (scan-go-eq l l′ _ z e) (t then-to h)
+
+    pub scan-warn : (l l′ : L) (m : ℕ) {u v w′ : World} {r : L} → Look.eof (from F (w .c .pos)) ≡ false → step l (from F (w .c .pos)) ≡ warn m l′ → Went F (Run.err m) w u → Went F take u v → WentTo F (scan step l′) v w′ r → WentTo F (scan step l) w w′ r
+    scan-warn l l′ m z e t s h = like-to (Run.err m >> take >> scan step l′) (scan-warn-eq l l′ m _ z e) (t then-to s then-to h)
+
+-- ---- loop: a round of several tokens. Where a round that goes on takes a token, the loop is the round and then the loop
+module _ (f : P Bool) (more : (r : List Sym) → f r .val ≡ true → length (f r .rest) < length r) where
+  repeat-same : (n m : ℕ) (r : List Sym) → length r < n → length r < m → repeat n f r ≡ repeat m f r
+  unfolding repeat _>>=_
+  repeat-same zero m r h k = absurd (omega arith)
+  repeat-same (suc n) zero r h k = absurd (omega arith)
+  repeat-same (suc n) (suc m) r h k =
+      ap (λ (y : Res Bool). record { rest = y .rest; out = f r .out <> y .out; val = y .val })
+      (next (λ e. repeat-same n m (f r .rest) (omega (arith, more r e)) (omega (arith, more r e))) (f r .val) refl)
+    where
+      next : (f r .val ≡ true → repeat n f (f r .rest) ≡ repeat m f (f r .rest)) → (u : Bool) → f r .val ≡ u → pick u (repeat n f) (pure false) (f r .rest) ≡ pick u (repeat m f) (pure false) (f r .rest)
+      next i true e = i e
+      next i false e = refl
+
+  pub loop-eq : (r : List Sym) → loop f r ≡ (f >>= λ c. pick c (loop f) (pure false)) r
+  unfolding loop repeat _>>=_
+  loop-eq r = ap (λ (y : Res Bool). record { rest = y .rest; out = f r .out <> y .out; val = y .val }) (next (f r .val) refl)
+    where
+      next : (u : Bool) → f r .val ≡ u → pick u (repeat (length r) f) (pure false) (f r .rest) ≡ pick u (loop f) (pure false) (f r .rest)
+      next true e = repeat-same (length r) (suc (length (f r .rest))) (f r .rest) (more r e) (omega arith)
+      next false e = refl

@@ -1,0 +1,4 @@
+-- What the functions' proofs share.
+pub mod Laws
+pub mod Kit
+pub mod Ahead

@@ -1,0 +1,34 @@
+-- `parser::kinds::is_name_like` meets its contract: from 256 on the kind is Ident. Assumes nothing.
+use Prim.Native.Nat.{ℕ, _≤_, _<_}
+use mathlib.Core.Path.{_≡_, refl, sym, _∙_}
+use mathlib.Core.Bool.{Bool, true, _||_}
+use mathlib.Core.List.{[], _∷_}
+use borrow.Author.Needs.{needs}
+use borrow.Author.Tests.{lt-ltb, le-ltb, le-leb}
+use lib.Dec.{leb}
+use Rattle.lexer.specs.Syntax.{Ident, SpecialIdent, QuotedIdent}
+use Rattle.grammar.specs.Look.{oneOf, name-like}
+use Rattle.parser.specs.Sets.{bits-are}
+use Rattle.parser.proofs.kinds.is_name_like.Statement.{statement}
+use Rattle.parser.proofs.kinds.is_name_like.Tie as tie
+
+word : (k : ℕ) → 256 ≤ k → leb 256 k ≡ name-like k
+unfolding name-like
+word k h = rw (le-leb 256 k h, le-ltb k 256 h)
+
+plain : (k : ℕ) → k < 256 → oneOf (Ident ∷ SpecialIdent ∷ QuotedIdent ∷ []) k ≡ name-like k
+unfolding name-like oneOf
+plain k h = rw (lt-ltb k 256 h)
+
+in-set-requires : tie.Need-in-set-requires
+in-set-requires c κs = search needs
+
+returns : tie.Need-returns
+returns c = word _ (c .if1 .taken)
+
+returns-2 : tie.Need-returns-2
+unfolding oneOf
+returns-2 c = c .in-set .ensures ∙ bits-are _ (Ident ∷ SpecialIdent ∷ QuotedIdent ∷ []) (c .before .before .args .k) tt tt ∙ plain _ (c .before .if1 .left)
+
+pub is-name-like-spec : {M : Type 1} → statement M
+is-name-like-spec = tie.close (tie.spec in-set-requires returns returns-2)

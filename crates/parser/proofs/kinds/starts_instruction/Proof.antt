@@ -1,0 +1,25 @@
+-- `parser::kinds::starts_instruction` meets its contract. Assumes nothing.
+use mathlib.Core.Path.{_≡_, refl, sym, ap, _∙_}
+use mathlib.Core.Bool.{Bool, true, false, not, _&&_}
+use borrow.Author.Needs.{needs}
+use Rattle.grammar.specs.Look.{name-like, is-reserved-block-keyword, starts-instruction}
+use Rattle.parser.proofs.kinds.starts_instruction.Statement.{statement}
+use Rattle.parser.proofs.kinds.starts_instruction.Tie as tie
+
+is-name-like-requires : tie.Need-is-name-like-requires
+is-name-like-requires c κs = search needs
+
+is-reserved-block-keyword-requires : tie.Need-is-reserved-block-keyword-requires
+is-reserved-block-keyword-requires c κs = search needs
+
+returns : tie.Need-returns
+unfolding starts-instruction
+returns c =
+    rw (← c .before .before .is-name-like .ensures, c .before .if1 .taken) (ap not (c .is-reserved-block-keyword .ensures))
+
+returns-2 : tie.Need-returns-2
+unfolding starts-instruction
+returns-2 c = rw (← c .before .is-name-like .ensures, c .if1 .left)
+
+pub starts-instruction-spec : {M : Type 1} → statement M
+starts-instruction-spec = tie.close (tie.spec is-name-like-requires is-reserved-block-keyword-requires returns returns-2)

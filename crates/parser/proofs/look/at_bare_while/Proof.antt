@@ -1,0 +1,33 @@
+-- `parser::look::at_bare_while` meets its contract. Assumes nothing.
+use mathlib.Core.Path.{refl, ap}
+use mathlib.Core.Bool.{not}
+use borrow.Author.Needs.{needs}
+use Rattle.grammar.specs.Words.{is, WHILE}
+use Rattle.grammar.specs.Look.{at-bare-while}
+use Rattle.parser.proofs.Ahead.{past-on}
+use Rattle.parser.proofs.look.at_bare_while.Statement.{statement}
+use Rattle.parser.proofs.look.at_bare_while.Tie as tie
+
+at-kind-requires : tie.Need-at-kind-requires
+at-kind-requires c κs = search needs
+
+add-at-kind : tie.Need-add-at-kind
+add-at-kind c = search needs
+
+at-kind-requires-2 : tie.Need-at-kind-requires-2
+at-kind-requires-2 c κs = search needs
+
+returns : tie.Need-returns
+unfolding at-bare-while
+returns c =
+    let a = c .before .before .before .before .args in
+    let here = c .before .before .at-kind .ensures in
+    let yes = c .before .if1 .taken in
+    rw (← here, yes, past-on (a .kinds .now) (a .p) (is WHILE) refl here yes) (ap not (c .at-kind2 .ensures))
+
+returns-2 : tie.Need-returns-2
+unfolding at-bare-while
+returns-2 c = rw (← c .before .at-kind .ensures, c .if1 .left)
+
+pub at-bare-while-spec : {M : Type 1} → statement M
+at-bare-while-spec = tie.close (tie.spec at-kind-requires add-at-kind at-kind-requires-2 returns returns-2)

@@ -1,0 +1,53 @@
+-- `parser::look::at_stray_else` meets its contract, for each kind of terminators. Assumes nothing.
+use mathlib.Core.Path.{sym, ap, _∙_}
+use lib.ListN.{drop}
+use borrow.Author.Needs.{needs}
+use Rattle.grammar.specs.Look.{at-stray-else}
+use Rattle.parser.proofs.look.at_stray_else.Statement.{statement}
+use Rattle.parser.proofs.look.at_stray_else.Tie as tie
+
+enum-told : tie.Need-enum-told
+enum-told c = search needs
+
+at-kind-requires : tie.Need-at-kind-requires
+at-kind-requires c κs = search needs
+
+enum-told-2 : tie.Need-enum-told-2
+enum-told-2 c = search needs
+
+enum-told-3 : tie.Need-enum-told-3
+enum-told-3 c = search needs
+
+at-kind-requires-2 : tie.Need-at-kind-requires-2
+at-kind-requires-2 c κs = search needs
+
+returns : tie.Need-returns
+unfolding at-stray-else
+returns c =
+    let a = c .before .before .before .before .args in
+    c .at-kind .ensures ∙ sym (ap (λ t. at-stray-else t (drop (a .p) (a .kinds .now))) (c .before .enum-told .given .1))
+
+returns-2 : tie.Need-returns-2
+unfolding at-stray-else
+returns-2 c =
+    let a = c .before .before .before .args in
+    sym (ap (λ t. at-stray-else t (drop (a .p) (a .kinds .now))) (c .enum-told2 .given .1))
+
+returns-3 : tie.Need-returns-3
+unfolding at-stray-else
+returns-3 c =
+    let a = c .before .before .before .before .args in
+    c .at-kind2 .ensures ∙ sym (ap (λ t. at-stray-else t (drop (a .p) (a .kinds .now))) (c .before .enum-told3 .given .1))
+
+pub at-stray-else-spec : {M : Type 1} → statement M
+at-stray-else-spec =
+    tie.close
+    (tie.spec
+    enum-told
+    at-kind-requires
+    enum-told-2
+    enum-told-3
+    at-kind-requires-2
+    returns
+    returns-2
+    returns-3)

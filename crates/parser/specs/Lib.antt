@@ -1,0 +1,4 @@
+-- What ties the code to the grammar's definitions.
+pub mod Rep
+pub mod Sets
+pub mod Ahead

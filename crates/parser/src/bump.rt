@@ -1,0 +1,138 @@
+// The small steps: a run of trivia, a token that must be there, a name, a token in an Error node.
+use crate::cursor::Cursor;
+use crate::cursor::Flow;
+use crate::cursor::bump;
+use crate::cursor::error_here;
+use crate::cursor::put;
+use crate::kinds::NON_COMMENT_TRIVIA;
+use crate::kinds::REGULAR_TRIVIA;
+use crate::kinds::SPACE;
+use crate::kinds::in_set;
+use crate::kinds::is_name_like;
+use crate::look::at_kind;
+use crate::look::current;
+use grammar::message::Message;
+ghost use mathlib.Core.Bool.{false};
+ghost use mathlib.Core.Path.{_≡_};
+ghost use Rattle.lexer.specs.Syntax.{Tombstone, Whitespace};
+ghost use Rattle.grammar.specs.Words.{is};
+ghost use Rattle.grammar.specs.Look.{regular-trivia, non-comment-trivia};
+ghost use Rattle.grammar.specs.Bump.{bump-while, expect-kind, expect-name, error-token};
+ghost use Rattle.parser.specs.Sets.{bit};
+ghost use Rattle.parser.specs.Rep.{world, Ready, Ran, RanTo};
+
+// while the token is in the set { bump }. Past the last token `current` is 0, which no set holds.
+fn bump_while(
+    kinds: &[u16],
+    ev: &mut [u16],
+    dm: &mut [u16],
+    ds: &mut [u32],
+    c0: Cursor,
+    mask: u64,
+) -> Cursor
+    requires { ⌜ (Ready 0 (now kinds) c0) × (bit mask Tombstone ≡ false) ⌝ }
+    ensures { λ r. ⌜ Ran 1 0 0 (now (kinds .entry)) (bump-while (bit mask)) (world (now (ev .entry)) (now (dm .entry)) (now (ds .entry)) c0) (world (now (ev .exit)) (now (dm .exit)) (now (ds .exit)) r) ⌝ }
+{
+    let mut c = c0;
+    while in_set(mask, current(kinds, c.pos)) {
+        c = bump(kinds, ev, dm, ds, c);
+    }
+    c
+}
+
+pub fn bump_regular_trivia(
+    kinds: &[u16],
+    ev: &mut [u16],
+    dm: &mut [u16],
+    ds: &mut [u32],
+    c0: Cursor,
+) -> Cursor
+    requires { ⌜ Ready 0 (now kinds) c0 ⌝ }
+    ensures { λ r. ⌜ Ran 1 0 0 (now (kinds .entry)) (bump-while regular-trivia) (world (now (ev .entry)) (now (dm .entry)) (now (ds .entry)) c0) (world (now (ev .exit)) (now (dm .exit)) (now (ds .exit)) r) ⌝ }
+{
+    bump_while(kinds, ev, dm, ds, c0, REGULAR_TRIVIA)
+}
+
+pub fn bump_non_comment_trivia(
+    kinds: &[u16],
+    ev: &mut [u16],
+    dm: &mut [u16],
+    ds: &mut [u32],
+    c0: Cursor,
+) -> Cursor
+    requires { ⌜ Ready 0 (now kinds) c0 ⌝ }
+    ensures { λ r. ⌜ Ran 1 0 0 (now (kinds .entry)) (bump-while non-comment-trivia) (world (now (ev .entry)) (now (dm .entry)) (now (ds .entry)) c0) (world (now (ev .exit)) (now (dm .exit)) (now (ds .exit)) r) ⌝ }
+{
+    bump_while(kinds, ev, dm, ds, c0, NON_COMMENT_TRIVIA)
+}
+
+pub fn bump_inline_whitespace(
+    kinds: &[u16],
+    ev: &mut [u16],
+    dm: &mut [u16],
+    ds: &mut [u32],
+    c0: Cursor,
+) -> Cursor
+    requires { ⌜ Ready 0 (now kinds) c0 ⌝ }
+    ensures { λ r. ⌜ Ran 1 0 0 (now (kinds .entry)) (bump-while (is Whitespace)) (world (now (ev .entry)) (now (dm .entry)) (now (ds .entry)) c0) (world (now (ev .exit)) (now (dm .exit)) (now (ds .exit)) r) ⌝ }
+{
+    bump_while(kinds, ev, dm, ds, c0, SPACE)
+}
+
+// expect_kind and expect_keyword
+pub fn expect_kind(
+    kinds: &[u16],
+    ev: &mut [u16],
+    dm: &mut [u16],
+    ds: &mut [u32],
+    c0: Cursor,
+    k: u16,
+    m: Message,
+) -> Flow
+    requires { ⌜ Ready 1 (now kinds) c0 ⌝ }
+    ensures { λ r. ⌜ RanTo 1 0 1 (now (kinds .entry)) (expect-kind k m) (world (now (ev .entry)) (now (dm .entry)) (now (ds .entry)) c0) (world (now (ev .exit)) (now (dm .exit)) (now (ds .exit)) (r .c)) (r .ok) ⌝ }
+{
+    let c = bump_regular_trivia(kinds, ev, dm, ds, c0);
+    if at_kind(kinds, c.pos, k) {
+        let d = bump(kinds, ev, dm, ds, c);
+        return Flow { c: d, ok: true };
+    }
+    let d = error_here(dm, ds, c, m);
+    Flow { c: d, ok: false }
+}
+
+// A name, or a diagnostic.
+pub fn expect_name(
+    kinds: &[u16],
+    ev: &mut [u16],
+    dm: &mut [u16],
+    ds: &mut [u32],
+    c0: Cursor,
+    m: Message,
+) -> Cursor
+    requires { ⌜ Ready 1 (now kinds) c0 ⌝ }
+    ensures { λ r. ⌜ Ran 1 0 1 (now (kinds .entry)) (expect-name m) (world (now (ev .entry)) (now (dm .entry)) (now (ds .entry)) c0) (world (now (ev .exit)) (now (dm .exit)) (now (ds .exit)) r) ⌝ }
+{
+    if is_name_like(current(kinds, c0.pos)) {
+        return bump(kinds, ev, dm, ds, c0);
+    }
+    error_here(dm, ds, c0, m)
+}
+
+// An Error node around one token, with a diagnostic.
+pub fn error_token(
+    kinds: &[u16],
+    ev: &mut [u16],
+    dm: &mut [u16],
+    ds: &mut [u32],
+    c0: Cursor,
+    m: Message,
+) -> Cursor
+    requires { ⌜ Ready 2 (now kinds) c0 ⌝ }
+    ensures { λ r. ⌜ Ran 1 2 1 (now (kinds .entry)) (error-token m) (world (now (ev .entry)) (now (dm .entry)) (now (ds .entry)) c0) (world (now (ev .exit)) (now (dm .exit)) (now (ds .exit)) r) ⌝ }
+{
+    let a = put(ev, c0, 1);
+    let b = error_here(dm, ds, a, m);
+    let d = bump(kinds, ev, dm, ds, b);
+    put(ev, d, 0)
+}

@@ -1,0 +1,41 @@
+//! The table, as text or as markdown.
+
+use crate::measure::Row;
+
+pub struct Table {
+    pub markdown: bool,
+    /// Rows with a greater ratio are marked.
+    pub greatest: f64,
+}
+
+impl Table {
+    pub fn print_head(&self, [small, large]: [usize; 2]) {
+        let [at_small, at_large] = [small, large].map(|size| format!("at {size} bytes"));
+        let head = ["family", "tokens", &at_small, &at_large, "per byte", "ratio"];
+        self.line(head.map(str::to_string));
+        if self.markdown {
+            println!("|---|--:|--:|--:|--:|--:|");
+        }
+    }
+
+    pub fn print(&self, row: &Row) {
+        let mark = if row.ratio() > self.greatest { " above" } else { "" };
+        self.line([
+            row.name.to_string(),
+            row.tokens.to_string(),
+            row.net[0].to_string(),
+            row.net[1].to_string(),
+            format!("{:.1}", row.per_byte()),
+            format!("{:.2}{mark}", row.ratio()),
+        ]);
+    }
+
+    fn line(&self, cells: [String; 6]) {
+        if self.markdown {
+            println!("| {} |", cells.join(" | "));
+        } else {
+            let [name, tokens, small, large, per_byte, ratio] = cells;
+            println!("{name:28} {tokens:>8} {small:>16} {large:>16} {per_byte:>9} {ratio:>6}");
+        }
+    }
+}
