@@ -2,11 +2,12 @@
 -- The sixteen words that the parser compares with are numbered from 1; any other text is word 0.
 -- Assumes nothing: these are definitions.
 use Prim.Native.Nat.{ℕ, suc, _+_, _*_}
-use mathlib.Core.Bool.{Bool, true, false, cond, _&&_}
+use mathlib.Core.Bool.{Bool, cond}
 use mathlib.Core.List.{List, [], _∷_}
 use lib.Dec.{eqb, ltb}
 use lib.ListN.{drop}
 use Rattle.lexer.specs.Syntax.{Ident}
+use Rattle.lexer.specs.Lexer.{same}
 
 abbrev pub Sym : Type 0
 Sym = ℕ
@@ -91,16 +92,10 @@ words =
     (119 ∷ 104 ∷ 105 ∷ 108 ∷ 101 ∷ []) ∷  -- while
     []
 
-unfoldable pub sameText : List ℕ → List ℕ → Bool
-sameText [] [] = true
-sameText [] (b ∷ u) = false
-sameText (a ∷ t) [] = false
-sameText (a ∷ t) (b ∷ u) = eqb a b && sameText t u
-
 -- The number of the text t among texts that are numbered from n; 0 if it is none of them.
 unfoldable pub numberIn : ℕ → List (List ℕ) → List ℕ → ℕ
 numberIn n [] t = 0
-numberIn n (w ∷ ws) t = cond (sameText w t) n (numberIn (suc n) ws t)
+numberIn n (w ∷ ws) t = cond (same w t) n (numberIn (suc n) ws t)
 
 unfoldable pub wordOf : List ℕ → ℕ
 wordOf t = numberIn 1 words t

@@ -8,3 +8,4 @@ pub mod FirstByte
 pub mod Rows
 pub mod Laws
 pub mod Characters
+pub mod Last

@@ -7,6 +7,9 @@ ghost use Rattle.utf8.specs.Validate.{validate};
 
 mod ascii;
 mod character;
+mod last;
+
+pub use last::last_char;
 
 pub enum Utf8 {
     Valid,

@@ -4,11 +4,6 @@ use std::collections::BTreeMap;
 
 use crate::{Case, Family, Size, cases};
 
-/// `count` of the lexer's cases that `keep` wants.
-pub fn spread(count: usize, keep: fn(&Case) -> bool) -> impl Iterator<Item = Case> {
-    spread_over(Family::LEXER, count, keep)
-}
-
 /// `count` of these families' cases that `keep` wants.
 pub fn spread_over(
     families: &'static [Family],

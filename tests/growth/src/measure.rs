@@ -1,8 +1,11 @@
 //! The instructions that a source's answer takes, without the frame's fixed part.
 
-use corpus::shapes::{self, SHAPES};
+use corpus::{random::Random, script::script, shapes::SHAPES};
 
 use crate::callgrind::Valgrind;
+
+/// About the length of the script that is repeated.
+const SCRIPT: usize = 8_000;
 
 /// Counts for one program and two sizes.
 pub struct Measure<'a> {
@@ -27,12 +30,18 @@ type Make = Box<dyn Fn(usize) -> Vec<u8>>;
 
 /// Each family's name, and its source of a size.
 pub fn families() -> impl Iterator<Item = (&'static str, Make)> {
-    let scripts: Make = Box::new(shapes::script);
+    let scripts: Make = Box::new(scripts);
     let shapes = SHAPES.iter().map(|shape| {
         let make: Make = Box::new(|size| shape.sized(size));
         (shape.name, make)
     });
     [("a script", scripts)].into_iter().chain(shapes)
+}
+
+/// One script again and again, so that both sizes hold the same mixture.
+fn scripts(size: usize) -> Vec<u8> {
+    let one = script(&mut Random::new(7), size.min(SCRIPT));
+    one.repeat((size / one.len()).max(1)).into_bytes()
 }
 
 impl<'a> Measure<'a> {

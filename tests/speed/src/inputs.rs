@@ -1,19 +1,16 @@
-//! What is lexed: scripts of three sizes, and 1 MiB of one thing.
+//! What is read: scripts of three sizes; for the lexers 1 MiB, for the readers 64 KiB of one thing.
 
-use corpus::{random::Random, script};
+use corpus::shapes;
 
 pub struct Input {
     pub name: &'static str,
     pub bytes: Vec<u8>,
 }
 
+const KIB: usize = 1 << 10;
 const MIB: usize = 1 << 20;
 
-pub fn inputs() -> Vec<Input> {
-    let mut inputs: Vec<Input> =
-        [("script 4 KiB", 4 << 10), ("script 64 KiB", 64 << 10), ("script 1 MiB", MIB)]
-            .map(|(name, size)| Input { name, bytes: script(size) })
-            .into();
+pub fn for_lexers() -> impl Iterator<Item = Input> {
     let repeated = [
         ("spaces", "", " ", ""),
         ("newlines", "", "\n", ""),
@@ -24,18 +21,21 @@ pub fn inputs() -> Vec<Input> {
         ("errors, not ASCII", "", "é", ""),
         ("identifiers", "", "word_12 ", ""),
     ];
-    inputs.extend(repeated.map(|(name, start, piece, end)| {
+    scripts().chain(repeated.into_iter().map(|(name, start, piece, end)| {
         let count = (MIB - start.len() - end.len()) / piece.len();
         Input { name, bytes: [start, &piece.repeat(count), end].concat().into_bytes() }
-    }));
-    inputs
+    }))
 }
 
-/// A script of at most this size, cut at the end of a line.
-fn script(size: usize) -> Vec<u8> {
-    let mut bytes = script::script(&mut Random::new(7), size).into_bytes();
-    while bytes.len() > size || bytes.last() != Some(&b'\n') {
-        bytes.pop();
-    }
-    bytes
+/// On some shapes the upstream parser's time is quadratic, so they are not longer.
+#[cfg(masm_cst)]
+pub fn for_readers() -> impl Iterator<Item = Input> {
+    let sized = |shape: &shapes::Shape| Input { name: shape.name, bytes: shape.sized(64 * KIB) };
+    scripts().chain(shapes::SHAPES.iter().map(sized))
+}
+
+fn scripts() -> impl Iterator<Item = Input> {
+    [("script 4 KiB", 4 * KIB), ("script 64 KiB", 64 * KIB), ("script 1 MiB", MIB)]
+        .into_iter()
+        .map(|(name, size)| Input { name, bytes: shapes::script(size) })
 }

@@ -1,20 +1,34 @@
 //! Prints crates/grammar/specs/Samples.antt: sources with the reference's answers.
 //!
-//! Takes the number of sources to pick from the corpus, half of them with control flow. The
-//! messages' smallest inputs stand before them; a source stands once.
+//! Takes the number of sources to pick from the corpus. The messages' smallest inputs stand
+//! before them; a source stands once.
 
 use std::{collections::BTreeSet, env};
 
-use corpus::{Case, Family, spread::spread};
+use corpus::{Case, Family, spread::spread_over};
 use reference::{Diagnostic, answer, messages, parsed, parsed::unwanted};
 
 /// Longer sources are not sampled.
 const LONGEST: usize = 200;
 
+/// Those with sources of their own, but for the two that are about the lexer alone.
+const FAMILIES: [Family; 11] = [
+    Family::Examples,
+    Family::Spaced,
+    Family::Joined,
+    Family::Samples,
+    Family::Scripts,
+    Family::Damaged,
+    Family::Edges,
+    Family::Publics,
+    Family::Nested,
+    Family::Shapes,
+    Family::Pairs,
+];
+
 const HEADER: &str = "\
 -- The compiled reference's answers to NUMBER sources: the smallest input of each message, and short sources at equal distances in the test
--- corpus, half of them with control flow. Of each the source, the tokens' kinds and ends, the events and the diagnostics. The definitions
--- give the same, by computation.
+-- corpus. Of each the source, the tokens' kinds and ends, the events and the diagnostics. The definitions give the same, by computation.
 -- Generated, in tests/, by: cargo run --release --bin samples COUNT > ../crates/grammar/specs/Samples.antt
 -- Assumes nothing.
 use mathlib.Core.Path.{_≡_, refl}
@@ -36,8 +50,7 @@ fn main() {
     let count = env::args().nth(1).and_then(|count| count.parse().ok());
     let count: usize = count.expect("the number of sources");
     let smallest = messages::rows().iter().map(|row| row.smallest.clone());
-    let nested = spread(count - count / 2, |case| wanted(case) && has_control_flow(&case.source));
-    let sampled = spread(count / 2, wanted).chain(nested).map(|case| case.source);
+    let sampled = spread_over(&FAMILIES, count, wanted).map(|case| case.source);
     let mut seen = BTreeSet::new();
     let sources = smallest.chain(sampled).filter(|source| seen.insert(source.clone()));
     let entries: Vec<String> = sources.map(|source| entry(&source)).collect();
@@ -46,20 +59,11 @@ fn main() {
     println!("{header}    {}\n    ∷ []{FOOTER}", entries.join("\n    ∷ "));
 }
 
-/// Accepted, short and easy to read, and not from a family that is about the lexer alone.
+/// Accepted, short and easy to read.
 fn wanted(case: &Case) -> bool {
     let Ok(text) = answer::text(&case.source) else { return false };
     let plain = |character: char| character.is_ascii() || "é€😀".contains(character);
-    text.len() <= LONGEST
-        && text.chars().all(plain)
-        && unwanted(text).is_none()
-        && !matches!(case.family, Family::Lexical | Family::Utf8)
-}
-
-/// Whether a node for `if`, `while`, `do` or `repeat` is opened.
-fn has_control_flow(source: &[u8]) -> bool {
-    let text = str::from_utf8(source).expect("the source is accepted");
-    parsed(text).events.iter().any(|event| (19..=22).contains(event))
+    text.len() <= LONGEST && text.chars().all(plain) && unwanted(text).is_none()
 }
 
 /// A source and its kinds, ends, events and diagnostics, in antt.
