@@ -1,5 +1,5 @@
 # The front door. Each target is one command; `make test` is the gate.
-.PHONY: check test differ large speed store
+.PHONY: check test differ large speed store samples
 
 # Prove every crate and run the programs.
 check:
@@ -27,3 +27,7 @@ speed:
 # Writes the stored cases and answers that `rt ci` replays.
 store:
 	cd tests && cargo run --offline --release --bin differ lexer --store ../crates/tokens 400
+
+# Writes the reference's answers that the grammar's definitions are held to.
+samples:
+	cd tests && cargo run --offline --release --bin samples 300 > ../crates/grammar/specs/Samples.antt
