@@ -49,11 +49,3 @@ fn the_premise_is_checked() {
     }
     assert_eq!(obeyed(b"begin end\n", b"\xFF"), None);
 }
-
-/// Document 01: without the premise on `)` the join reads otherwise.
-#[test]
-fn the_premise_on_the_parenthesis_is_needed() {
-    let [first, second] = ["proc a pub ( end\n", ") proc b end"];
-    let of = |text: &str| reference::parsed(text).diagnostics.len();
-    assert_ne!(of(first) + of(second), of(&[first, second].concat()));
-}
