@@ -1,0 +1,2 @@
+-- What the proof of `places` leans on.
+pub mod Going
