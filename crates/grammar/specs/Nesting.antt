@@ -1,7 +1,7 @@
 -- Delimiter counts: they step by value, and a closer without its opener leaves them as they are.
 -- Defines: Nesting::default, Nesting::is_root, Nesting::bump, closing_delimiter_text (by its message), bump_nesting.
 -- Assumes nothing: these are definitions.
-use Prim.Native.Nat.{suc, pred}
+use Prim.Native.Nat.{ℕ, suc, pred, _<_}
 use mathlib.Core.Bool.{Bool, cond, _&&_}
 use lib.Dec.{eqb}
 use Rattle.lexer.specs.Syntax.{LBrace, LBracket, LParen, RBrace, RBracket, RParen}
@@ -54,3 +54,9 @@ counted n locals (Bumped.Refused c) = warn (number (Message.UnexpectedCloser c))
 
 unfoldable pub bump-nesting : {L : Type 0} → Nesting → Sym → (Nesting → L) → Round L
 bump-nesting n kind locals = counted n locals (bump-by n kind)
+
+-- ---- For the code: each count is below n.
+pub record Below (n : ℕ) (c : Nesting) : Type 0 where
+  pub parens : c .parens < n
+  pub brackets : c .brackets < n
+  pub braces : c .braces < n

@@ -142,6 +142,9 @@ pub record Leads {A : Type 0} (F : File) (f₀ : P A) (w₀ : World) (f : P A) (
 pub begins : {A : Type 0} {F : File} {f : P A} {w : World} → Leads F f w f w
 begins = record { on = λ w′ r h. h }
 
+pub begins-as : {A : Type 0} {F : File} {f g : P A} {w : World} → f ≡ g → Leads F f w g w
+begins-as {F} {w} e = record { on = λ w′ r h. subst (λ f. WentTo F f w w′ r) (sym e) h }
+
 -- a round that goes on
 pub goes-on : {A : Type 0} {F : File} {f₀ f g : P A} {w₀ w v : World} → Leads F f₀ w₀ f w → ((w′ : World) (r : A) → WentTo F g v w′ r → WentTo F f w w′ r) → Leads F f₀ w₀ g v
 goes-on l k = record { on = λ w′ r h. l .on w′ r (k w′ r h) }

@@ -295,3 +295,13 @@ pub at-current : (t : Sym → Bool) (r : List Sym) → t Syntax.Tombstone ≡ fa
 unfolding current at
 at-current t [] e = e
 at-current t (s ∷ r) e = refl
+
+-- the same of a number that `current` gave
+pub at-by : (t : Sym → Bool) (r : List Sym) {x : Bool} {k : Sym} → t Syntax.Tombstone ≡ false → x ≡ t k → k ≡ current r → x ≡ at t r
+at-by t r n e c = e ∙ ap t c ∙ at-current t r n
+
+-- any test, where there is a token
+pub at-token : (t : Sym → Bool) (r : List Sym) → Look.eof r ≡ false → at t r ≡ t (current r)
+unfolding current at Look.eof
+at-token t [] e = absurd (false≢true (sym e))
+at-token t (s ∷ r) e = refl

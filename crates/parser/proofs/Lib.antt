@@ -2,3 +2,4 @@
 pub mod Laws
 pub mod Kit
 pub mod Ahead
+pub mod Counts

@@ -2,3 +2,4 @@
 pub mod Rep
 pub mod Sets
 pub mod Ahead
+pub mod Counts

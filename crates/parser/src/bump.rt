@@ -16,8 +16,9 @@ ghost use mathlib.Core.Bool.{false};
 ghost use mathlib.Core.Path.{_≡_};
 ghost use Rattle.lexer.specs.Syntax.{Tombstone, Whitespace};
 ghost use Rattle.grammar.specs.Words.{is};
-ghost use Rattle.grammar.specs.Look.{regular-trivia, non-comment-trivia};
-ghost use Rattle.grammar.specs.Bump.{bump-while, expect-kind, expect-name, error-token};
+ghost use Rattle.grammar.specs.Look.{at, regular-trivia, non-comment-trivia};
+ghost use Rattle.grammar.specs.Run.{if_then_else_, take};
+ghost use Rattle.grammar.specs.Bump.{nop, bump-while, expect-kind, expect-name, error-token};
 ghost use Rattle.parser.specs.Sets.{bit};
 ghost use Rattle.parser.specs.Rep.{world, Ready, Ran, RanTo};
 
@@ -135,4 +136,22 @@ pub fn error_token(
     let b = error_here(dm, ds, a, m);
     let d = bump(kinds, ev, dm, ds, b);
     put(ev, d, 0)
+}
+
+// if at_kind(k) { bump }
+pub fn bump_at(
+    kinds: &[u16],
+    ev: &mut [u16],
+    dm: &mut [u16],
+    ds: &mut [u32],
+    c0: Cursor,
+    k: u16,
+) -> Cursor
+    requires { ⌜ Ready 0 (now kinds) c0 ⌝ }
+    ensures { λ r. ⌜ Ran 1 0 0 (now (kinds .entry)) (if at (is k) then take else nop) (world (now (ev .entry)) (now (dm .entry)) (now (ds .entry)) c0) (world (now (ev .exit)) (now (dm .exit)) (now (ds .exit)) r) ⌝ }
+{
+    if at_kind(kinds, c0.pos, k) {
+        return bump(kinds, ev, dm, ds, c0);
+    }
+    c0
 }

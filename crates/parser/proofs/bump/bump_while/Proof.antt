@@ -10,7 +10,7 @@ use Rattle.grammar.specs.Run.{go, stop}
 use Rattle.parser.specs.Rep.{world}
 use Rattle.parser.specs.Sets.{bit}
 use Rattle.parser.proofs.Kit.{begins, goes-on, scan-stop, scan-go, Held}
-use Rattle.parser.proofs.Laws.{at-some, at-within, at-current}
+use Rattle.parser.proofs.Laws.{at-some, at-within, at-by}
 use Rattle.parser.proofs.bump.bump_while.Statement.{statement}
 use Rattle.parser.proofs.bump.bump_while.Tie as tie
 
@@ -44,7 +44,7 @@ loop-less c =
     let c₃ = c₂ .before in
     let c₄ = c₃ .before in
     let c₅ = c₄ .before .before .before .before .before .before in
-    let e = c₃ .in-set .ensures ∙ ap (bit (c₅ .args .mask)) (c₄ .current .ensures) ∙ at-current (bit (c₅ .args .mask)) _ (c₅ .pre .1) in
+    let e = at-by (bit (c₅ .args .mask)) _ (c₅ .pre .1) (c₃ .in-set .ensures) (c₄ .current .ensures) in
     omega (arith, c₁ .bump .ensures .moved (at-within (c₅ .args .kinds .now) _ (bit (c₅ .args .mask)) e (c₂ .if1 .taken)))
 
 loop-again : tie.Need-loop-again Inv-loop μ-loop
@@ -57,13 +57,14 @@ loop-again c =
     let c₅ = c₄ .before in
     let c₆ = c₅ .before .before .before .before .before in
     let i = c₅ .loop .inv in
-    let e = sym (c₃ .in-set .ensures ∙ ap (bit (c₆ .args .mask)) (c₄ .current .ensures) ∙ at-current (bit (c₆ .args .mask)) _ (c₆ .pre .1)) ∙ c₂ .if1 .taken in
+    let e = sym (at-by (bit (c₆ .args .mask)) _ (c₆ .pre .1) (c₃ .in-set .ensures) (c₄ .current .ensures)) ∙ c₂ .if1 .taken in
     record {
       paid = omega (arith, c₆ .pre, c₅ .loop .inv .paid, c₁ .bump .ensures .paid);
       ev = c₁ .bump .kept .1 .0 ∙ i .ev;
       dm = c₁ .bump .kept .1 .1 .0 ∙ i .dm;
       ds = c₁ .bump .kept .1 .1 .1 .0 ∙ i .ds;
-      leads = goes-on (i .leads) (λ w′ r k. scan-go (while-round (bit (c₆ .args .mask))) true true (at-some (bit (c₆ .args .mask)) _ e) (ap (λ u. cond u (go true) stop) e) (c₁ .bump .ensures .went) k);
+      leads = goes-on (i .leads) (λ w′ r k.
+          scan-go (while-round (bit (c₆ .args .mask))) true true (at-some (bit (c₆ .args .mask)) _ e) (ap (λ u. cond u (go true) stop) e) (c₁ .bump .ensures .went) k);
     }
 
 same-length : tie.Need-same-length Inv-loop μ-loop
@@ -87,7 +88,7 @@ returns c =
     let c₁ = c .before .before .before in
     let c₂ = c₁ .before .before .before .before .before in
     let i = c₁ .loop .inv in
-    let e = sym (c .before .in-set .ensures ∙ ap (bit (c₂ .args .mask)) (c .before .before .current .ensures) ∙ at-current (bit (c₂ .args .mask)) _ (c₂ .pre .1)) ∙ c .if1 .left in
+    let e = sym (at-by (bit (c₂ .args .mask)) _ (c₂ .pre .1) (c .before .in-set .ensures) (c .before .before .current .ensures)) ∙ c .if1 .left in
     record { paid = i .paid; went = i .leads .on _ _ (scan-stop (while-round (bit (c₂ .args .mask))) true (ap (λ u. cond u (go true) stop) e)) .went }
 
 pub bump-while-spec : {M : Type 1} → statement M

@@ -57,7 +57,10 @@ returns c =
     let c₂ = c₁ .before .before .before .before .before .before .before .before in
     let c₃ = c₂ .before .before .before .before .before in
     let c₄ = c₃ .before .before .before .before .before .before in
-    record { paid = omega (arith, c₄ .pre, c₃ .put .ensures, c₂ .error-here .ensures, c₁ .bump .ensures .paid, c .before .before .put2 .ensures); went = node _ (c₃ .put .ensures .wrote (c₄ .args .kinds .now) _ _) (c₂ .error-here .ensures .went (c₄ .args .kinds .now) _ then c₁ .bump .ensures .went) (c .before .before .put2 .ensures .wrote (c₄ .args .kinds .now) _ _) }
+    record {
+      paid = omega (arith, c₄ .pre, c₃ .put .ensures, c₂ .error-here .ensures, c₁ .bump .ensures .paid, c .before .before .put2 .ensures);
+      went = node _ (c₃ .put .ensures .wrote (c₄ .args .kinds .now) _ _) (c₂ .error-here .ensures .went (c₄ .args .kinds .now) _ then c₁ .bump .ensures .went) (c .before .before .put2 .ensures .wrote (c₄ .args .kinds .now) _ _);
+    }
 
 pub error-token-spec : {M : Type 1} → statement M
 error-token-spec = tie.close (tie.spec put-requires error-here-requires bump-requires put-requires-2 same-length same-length-2 same-length-3 returns)

@@ -48,7 +48,10 @@ returns c =
     let c₃ = c₂ .before in
     let c₄ = c₃ .before .before .before .before .before .before .before in
     let c₅ = c₄ .before .before .before .before .before .before .before .before in
-    record { paid = omega (arith, c₅ .pre, c₄ .bump-regular-trivia .ensures .paid, c₁ .bump .ensures .paid); went = c₄ .bump-regular-trivia .ensures .went then-to yes-to _ _ (c₃ .at-kind .ensures) (c₂ .if1 .taken) (c₁ .bump .ensures .went then-to done-to true) }
+    record {
+      paid = omega (arith, c₅ .pre, c₄ .bump-regular-trivia .ensures .paid, c₁ .bump .ensures .paid);
+      went = c₄ .bump-regular-trivia .ensures .went then-to yes-to _ _ (c₃ .at-kind .ensures) (c₂ .if1 .taken) (c₁ .bump .ensures .went then-to done-to true);
+    }
 
 error-here-requires : tie.Need-error-here-requires
 error-here-requires c κs =
@@ -81,7 +84,10 @@ returns-2 c =
     let c₃ = c₂ .before in
     let c₄ = c₃ .before .before .before .before .before .before .before in
     let c₅ = c₄ .before .before .before .before .before .before .before .before in
-    record { paid = omega (arith, c₅ .pre, c₄ .bump-regular-trivia .ensures .paid, c₁ .error-here .ensures); went = c₄ .bump-regular-trivia .ensures .went then-to no-to _ _ (c₃ .at-kind .ensures) (c₂ .if1 .left) (c₁ .error-here .ensures .went (c₅ .args .kinds .now) _ then-to done-to false) }
+    record {
+      paid = omega (arith, c₅ .pre, c₄ .bump-regular-trivia .ensures .paid, c₁ .error-here .ensures);
+      went = c₄ .bump-regular-trivia .ensures .went then-to no-to _ _ (c₃ .at-kind .ensures) (c₂ .if1 .left) (c₁ .error-here .ensures .went (c₅ .args .kinds .now) _ then-to done-to false);
+    }
 
 pub expect-kind-spec : {M : Type 1} → statement M
 expect-kind-spec =

@@ -1,11 +1,11 @@
 -- `parser::bump::expect_name`: the name or a report. Assumes nothing.
-use mathlib.Core.Path.{refl, ap, _∙_}
+use mathlib.Core.Path.{refl}
 use native.Mathlib.Omega.{arith}
 use borrow.Author.Needs.{needs}
 use Rattle.grammar.specs.Bump.{expect-name}
 use Rattle.grammar.specs.Look.{oneOf, name-like}
 use Rattle.parser.proofs.Kit.{yes, no}
-use Rattle.parser.proofs.Laws.{at-current}
+use Rattle.parser.proofs.Laws.{at-by}
 use Rattle.parser.proofs.bump.expect_name.Statement.{statement}
 use Rattle.parser.proofs.bump.expect_name.Tie as tie
 
@@ -43,7 +43,7 @@ returns c =
     let c₃ = c₂ .before in
     let c₄ = c₃ .before in
     let c₅ = c₄ .before .before .before .before .before in
-    let e = c₃ .is-name-like .ensures ∙ ap name-like (c₄ .current .ensures) ∙ at-current name-like _ refl in
+    let e = at-by name-like _ refl (c₃ .is-name-like .ensures) (c₄ .current .ensures) in
     record { paid = omega (arith, c₅ .pre, c₁ .bump .ensures .paid); went = yes _ _ e (c₂ .if1 .taken) (c₁ .bump .ensures .went) }
 
 error-here-requires : tie.Need-error-here-requires
@@ -69,8 +69,11 @@ returns-2 c =
     let c₃ = c₂ .before in
     let c₄ = c₃ .before in
     let c₅ = c₄ .before .before .before .before .before in
-    let e = c₃ .is-name-like .ensures ∙ ap name-like (c₄ .current .ensures) ∙ at-current name-like _ refl in
-    record { paid = omega (arith, c₅ .pre, c₁ .error-here .ensures); went = no _ _ e (c₂ .if1 .left) (c₁ .error-here .ensures .went (c₅ .args .kinds .now) _) }
+    let e = at-by name-like _ refl (c₃ .is-name-like .ensures) (c₄ .current .ensures) in
+    record {
+      paid = omega (arith, c₅ .pre, c₁ .error-here .ensures);
+      went = no _ _ e (c₂ .if1 .left) (c₁ .error-here .ensures .went (c₅ .args .kinds .now) _);
+    }
 
 pub expect-name-spec : {M : Type 1} → statement M
 expect-name-spec =
