@@ -1,0 +1,181 @@
+// Instructions.
+use crate::line::LINE_END;
+use grammar::block::Terminators;
+use grammar::nesting::Nesting;
+use grammar::nesting::Significant;
+use parser::cursor::Cursor;
+use parser::cursor::bump;
+use parser::cursor::put;
+use parser::kinds::expects_continuation_operand;
+use parser::kinds::in_set;
+use parser::kinds::in_words;
+use parser::kinds::is_trivia;
+use parser::kinds::punctuation_continues_instruction;
+use parser::kinds::starts_instruction;
+use parser::look::at_terminator;
+use parser::look::current;
+use parser::look::eof;
+use parser::look::is_top_level_starter;
+use parser::look::peek_after_inline_whitespace;
+use parser::nest::bump_nesting;
+ghost use mathlib.Core.Path.{_≡_};
+ghost use mathlib.Core.Bool.{false};
+ghost use Prim.Native.Nat.{_≤_};
+ghost use lib.ListN.{length, drop};
+ghost use Rattle.lexer.specs.Syntax.{DocComment};
+ghost use Rattle.grammar.specs.Words.{is};
+ghost use Rattle.grammar.specs.Look.{at};
+ghost use Rattle.grammar.specs.Run.{scan};
+ghost use Rattle.grammar.specs.Instruction.{is-some, expects-operand, should-continue-instruction-after-whitespace as shouldContinue, should-stop-instruction-before as shouldStop, instruction-round, before-first, parse-instruction};
+ghost use Rattle.parser.specs.Rep.{world, Ready, Ran};
+ghost use Rattle.forms.specs.Instruction.{starts-next, instruction-ends};
+
+const INSTRUCTION: u16 = 23;
+
+const WHITESPACE: u16 = 27;
+
+// `if`, `do`, `while`, `repeat`
+const CONTROL_FLOW: u64 = 0x14110;
+
+fn is_some(previous: Significant) -> bool
+    ensures { λ r. ⌜ r ≡ is-some previous ⌝ }
+{
+    match previous {
+        Significant::Nothing => false,
+        Significant::Kind(_) => true,
+    }
+}
+
+fn expects_operand(previous: Significant) -> bool
+    ensures { λ r. ⌜ r ≡ expects-operand previous ⌝ }
+{
+    match previous {
+        Significant::Nothing => false,
+        Significant::Kind(k) => expects_continuation_operand(k),
+    }
+}
+
+pub fn should_continue_instruction_after_whitespace(
+    kinds: &[u16],
+    p: usize,
+    previous: Significant,
+    nesting: Nesting,
+) -> bool
+    requires { ⌜ p ≤ length (now kinds) ⌝ }
+    ensures { λ r. ⌜ r ≡ shouldContinue previous nesting (drop p (now (kinds .entry))) ⌝ }
+{
+    if !nesting.is_root() {
+        return true;
+    }
+    if !is_some(previous) {
+        return false;
+    }
+    if expects_operand(previous) {
+        return true;
+    }
+    let next = peek_after_inline_whitespace(kinds, p);
+    punctuation_continues_instruction(current(kinds, next))
+}
+
+// A terminator, an operation, or what ends a block that lacks its `end`; not asked at a doc comment.
+fn at_next(kinds: &[u16], p: usize) -> bool
+    requires { ⌜ (p ≤ length (now kinds)) × (at (is DocComment) (drop p (now kinds)) ≡ false) ⌝ }
+    ensures { λ r. ⌜ r ≡ starts-next (drop p (now (kinds .entry))) ⌝ }
+{
+    if at_terminator(kinds, p, Terminators::ElseEnd) {
+        return true;
+    }
+    let k = current(kinds, p);
+    if starts_instruction(k) {
+        return true;
+    }
+    if in_words(CONTROL_FLOW, k) {
+        return true;
+    }
+    is_top_level_starter(kinds, p)
+}
+
+pub fn should_stop_instruction_before(
+    kinds: &[u16],
+    p: usize,
+    previous: Significant,
+    nesting: Nesting,
+) -> bool
+    requires { ⌜ (p ≤ length (now kinds)) × (at (is DocComment) (drop p (now kinds)) ≡ false) ⌝ }
+    ensures { λ r. ⌜ r ≡ shouldStop previous nesting (drop p (now (kinds .entry))) ⌝ }
+{
+    if !nesting.is_root() {
+        return false;
+    }
+    if expects_operand(previous) {
+        return false;
+    }
+    if punctuation_continues_instruction(current(kinds, p)) {
+        return false;
+    }
+    at_next(kinds, p)
+}
+
+// Whether an instruction ends before the token here.
+fn at_instruction_end(kinds: &[u16], p: usize, previous: Significant, nesting: Nesting) -> bool
+    requires { ⌜ p ≤ length (now kinds) ⌝ }
+    ensures { λ r. ⌜ r ≡ instruction-ends previous nesting (drop p (now (kinds .entry))) ⌝ }
+{
+    let k = current(kinds, p);
+    if k == WHITESPACE {
+        return !should_continue_instruction_after_whitespace(kinds, p, previous, nesting);
+    }
+    if in_set(LINE_END, k) {
+        return nesting.is_root();
+    }
+    if is_some(previous) {
+        return should_stop_instruction_before(kinds, p, previous, nesting);
+    }
+    false
+}
+
+fn instruction_tokens(
+    kinds: &[u16],
+    ev: &mut [u16],
+    dm: &mut [u16],
+    ds: &mut [u32],
+    c0: Cursor,
+) -> Cursor
+    requires { ⌜ Ready 0 (now kinds) c0 ⌝ }
+    ensures { λ r. ⌜ Ran 2 0 0 (now (kinds .entry)) (scan instruction-round before-first) (world (now (ev .entry)) (now (dm .entry)) (now (ds .entry)) c0) (world (now (ev .exit)) (now (dm .exit)) (now (ds .exit)) r) ⌝ }
+{
+    let mut c = c0;
+    let mut nesting = Nesting::new();
+    let mut previous = Significant::Nothing;
+    while !eof(kinds, c.pos) {
+        if at_instruction_end(kinds, c.pos, previous, nesting) {
+            return c;
+        }
+        let k = current(kinds, c.pos);
+        if is_trivia(k) {
+            c = bump(kinds, ev, dm, ds, c);
+            continue;
+        }
+        let b = bump_nesting(dm, ds, c, nesting, k);
+        let d = b.c;
+        nesting = b.nesting;
+        previous = Significant::Kind(k);
+        c = bump(kinds, ev, dm, ds, d);
+    }
+    c
+}
+
+pub fn parse_instruction(
+    kinds: &[u16],
+    ev: &mut [u16],
+    dm: &mut [u16],
+    ds: &mut [u32],
+    c0: Cursor,
+) -> Cursor
+    requires { ⌜ Ready 2 (now kinds) c0 ⌝ }
+    ensures { λ r. ⌜ Ran 2 2 0 (now (kinds .entry)) parse-instruction (world (now (ev .entry)) (now (dm .entry)) (now (ds .entry)) c0) (world (now (ev .exit)) (now (dm .exit)) (now (ds .exit)) r) ⌝ }
+{
+    let a = put(ev, c0, INSTRUCTION);
+    let b = instruction_tokens(kinds, ev, dm, ds, a);
+    put(ev, b, 0)
+}
