@@ -1,0 +1,212 @@
+-- What an arm says of the token here, and how the parts of a form are put together. Assumes nothing.
+use mathlib.Core.Bool.{Bool, true, false, cond, not, _&&_, _||_, false≢true}
+use mathlib.Core.List.{List, [], _∷_}
+use mathlib.Core.Path.{_≡_, refl, sym, ap, subst, _∙_}
+use Prim.Native.Nat.{ℕ, suc, _+_, _<_, _≤_}
+use native.Mathlib.Omega.{arith}
+use lib.ListN.{length}
+use Rattle.lexer.specs.Syntax
+use Rattle.grammar.specs.Words.{Sym, File, from, is, DO, ELSE, END, IF, REPEAT, WHILE}
+use Rattle.grammar.specs.Look.{oneOf, at, eof, current, regular-trivia, at-bare-while, control-flow, starts-instruction, at-terminator, at-stray-else, at-regular-trivia, is-top-level-starter, at-top-level-form-starter-in-block}
+use Rattle.grammar.specs.Run.{P, Block, pure, peek, inNode, pick, _>>=_, _>>_, if_then_else_}
+use Rattle.grammar.specs.State.{run}
+use Rattle.grammar.specs.declared.block.BlockOwner.{BlockOwner}
+use Rattle.grammar.specs.declared.block.Terminators.{Terminators}
+use Rattle.grammar.specs.declared.block.BlockParseOutcome.{BlockParseOutcome}
+use Rattle.grammar.specs.Block.{block-in, parse-block, parse-control-flow, found-terminator, reached-eof, closing, ended, do-condition}
+use Rattle.grammar.specs.Bump.{nop}
+use Rattle.grammar.specs.Laws.Here.{is-not, none, oneOf-not}
+use Rattle.grammar.specs.Laws.Live.{some, eats-take}
+use Rattle.grammar.specs.Laws.LiveLine.{eats-error-token, eats-instruction}
+use Rattle.grammar.specs.Laws.LiveBlock.{bare-while, repeat-left}
+use Rattle.grammar.specs.Laws.Stops.{stops-block}
+use Rattle.parser.specs.Rep.{World, Wrote, Went, WentTo, Paid}
+use Rattle.parser.proofs.Kit.{like-to, yes-to, no-to, done-to, bind-to}
+use Rattle.parser.proofs.Laws.{at-current}
+use Rattle.blocks.specs.declared.arm.Taken.{Taken}
+use Rattle.blocks.specs.declared.arm.Closing.{Closing}
+use Rattle.blocks.specs.declared.arm.Arm.{Arm}
+use Rattle.blocks.specs.Arms.{arm-of, inner-arm, by-arm, block-by, silent, taking, ending}
+use Rattle.blocks.specs.Shapes.{keyword-line, else-line, else-part, behind, Opened, ItemAt, Ended, Finished}
+
+-- ---- tests of the token here
+-- a test of its number
+pub at-number : (t : Sym → Bool) (r : List Sym) → t Syntax.Tombstone ≡ false → {k : Sym} {x b : Bool} → k ≡ current r → x ≡ t k → x ≡ b → at t r ≡ b
+at-number t r n e f h = sym (at-current t r n) ∙ ap t (sym e) ∙ sym f ∙ h
+
+pub at-or : (s t : Sym → Bool) (r : List Sym) → at (λ k. s k || t k) r ≡ (at s r || at t r)
+unfolding at
+at-or s t [] = refl
+at-or s t (x ∷ r) = refl
+
+if-of : {A : Type 0} (t : List Sym → Bool) (f g : P A) (r : List Sym) {b : Bool} → t r ≡ b → (if t then f else g) r ≡ pick b f g r
+unfolding _>>=_ peek
+if-of t f g r e = ap (λ u. pick u f g r) e
+
+-- two tests with the same answer
+module _ {A : Type 0} (s t : List Sym → Bool) (f g : P A) (r : List Sym) where
+  pub either : (s r || t r) ≡ true → (if s then f else if t then f else g) r ≡ f r
+  either = go (s r) (t r) refl refl
+    where
+      go : (u v : Bool) → s r ≡ u → t r ≡ v → (u || v) ≡ true → (if s then f else if t then f else g) r ≡ f r
+      go true v p q e = if-of s f (if t then f else g) r p
+      go false true p q e = if-of s f (if t then f else g) r p ∙ if-of t f g r q
+      go false false p q e = absurd (false≢true e)
+
+  pub neither : (s r || t r) ≡ false → (if s then f else if t then f else g) r ≡ g r
+  neither = go (s r) (t r) refl refl
+    where
+      go : (u v : Bool) → s r ≡ u → t r ≡ v → (u || v) ≡ false → (if s then f else if t then f else g) r ≡ g r
+      go true v p q e = absurd (false≢true (sym e))
+      go false true p q e = absurd (false≢true (sym e))
+      go false false p q e = if-of s f (if t then f else g) r p ∙ if-of t f g r q
+
+-- trivia closes no block
+pub trivia-no-end : (t : Terminators) (r : List Sym) → at regular-trivia r ≡ true → at-terminator t r ≡ false
+unfolding at at-terminator at-bare-while oneOf none
+trivia-no-end t [] e = absurd (false≢true e)
+trivia-no-end Terminators.End (s ∷ r) e = is-not regular-trivia END s refl e
+trivia-no-end Terminators.ElseEnd (s ∷ r) e = oneOf-not regular-trivia (ELSE ∷ END ∷ []) refl s e
+trivia-no-end Terminators.While (s ∷ r) e = rw (is-not regular-trivia WHILE s refl e)
+
+pub plain-starter : (r : List Sym) → at (is Syntax.DocComment) r ≡ false → at-top-level-form-starter-in-block r ≡ is-top-level-starter r
+unfolding at-top-level-form-starter-in-block
+plain-starter r e = rw (at-top-level-form-starter-in-block, e)
+
+-- ---- arms
+-- what the tests before an arm have shown
+abbrev pub Meant : Arm → List Sym → Type 0
+Meant (Arm.Takes Taken.Trivia) r = eof r ≡ false
+Meant (Arm.Takes Taken.Doc) r = eof r ≡ false
+Meant (Arm.Takes Taken.Instruction) r = at starts-instruction r ≡ true
+Meant (Arm.Takes Taken.Bad) r = eof r ≡ false
+Meant (Arm.Closes Closing.Eof) r = Unit {0}
+Meant (Arm.Closes Closing.Terminator) r = Unit {0}
+Meant (Arm.Closes Closing.StrayElse) r = Unit {0}
+Meant (Arm.Closes Closing.Item) r = at-top-level-form-starter-in-block r ≡ true
+Meant Arm.Control r = at control-flow r ≡ true
+
+meant-inner : (r : List Sym) → eof r ≡ false → Meant (inner-arm r) r
+unfolding inner-arm
+meant-inner r p = go (at-top-level-form-starter-in-block r) refl (at (is Syntax.DocComment) r) (at control-flow r) refl (at starts-instruction r) refl
+  where
+    go : (i : Bool) → at-top-level-form-starter-in-block r ≡ i → (d c : Bool) → at control-flow r ≡ c → (n : Bool) → at starts-instruction r ≡ n
+        → Meant (cond i (Arm.Closes Closing.Item) (cond d (Arm.Takes Taken.Doc) (cond c Arm.Control (cond n (Arm.Takes Taken.Instruction) (Arm.Takes Taken.Bad))))) r
+    go true q d c w n x = q
+    go false q true c w n x = p
+    go false q false true w n x = w
+    go false q false false w true x = x
+    go false q false false w false x = p
+
+meant-of : (t : Terminators) (r : List Sym) → Meant (arm-of t r) r
+unfolding arm-of
+meant-of t r = go (eof r) refl (at-terminator t r) (at-regular-trivia r) (at-stray-else t r)
+  where
+    go : (e : Bool) → eof r ≡ e → (m v s : Bool)
+        → Meant (cond e (Arm.Closes Closing.Eof) (cond m (Arm.Closes Closing.Terminator) (cond v (Arm.Takes Taken.Trivia) (cond s (Arm.Closes Closing.StrayElse) (inner-arm r))))) r
+    go true p m v s = tt
+    go false p true v s = tt
+    go false p false true s = p
+    go false p false false true = tt
+    go false p false false false = meant-inner r p
+
+pub meant : (t : Terminators) (r : List Sym) {a : Arm} (b : Arm) → a ≡ arm-of t r → a ≡ b → Meant b r
+meant t r b e f = subst (λ a. Meant a r) (sym e ∙ f) (meant-of t r)
+
+some-of : (r : List Sym) → eof r ≡ false → some r ≡ true
+unfolding eof some
+some-of [] e = absurd (false≢true (sym e))
+some-of (s ∷ r) e = refl
+
+pub takes : (k : Taken) (r : List Sym) → Meant (Arm.Takes k) r → length (taking k r .rest) < length r
+unfolding taking silent
+takes Taken.Trivia r h = eats-take .eats r (some-of r h)
+takes Taken.Doc r h = eats-error-token _ .eats r (some-of r h)
+takes Taken.Instruction r h = eats-instruction .eats r h
+takes Taken.Bad r h = eats-error-token _ .eats r (some-of r h)
+
+-- ---- simulation
+module _ {F : File} {w w′ : World} where
+  pub silently : {A : Type 0} {f : P A} → Went F f w w′ → Went F (silent f) w w′
+  unfolding run silent
+  silently h = record { sim = h .sim; rest = h .rest }
+
+  pub took : {k k′ : Taken} → k ≡ k′ → Went F (taking k′) w w′ → Went F (taking k) w w′
+  took e h = subst (λ k. Went F (taking k) w w′) (sym e) h
+
+  -- a form of a block below the limit
+  pub deeper : {r : Bool} (d : ℕ) → WentTo F (parse-control-flow (parse-block 256) (d + 1)) w w′ r → WentTo F (parse-control-flow (λ o t e. inNode Block (block-in 256 o t e)) (suc d)) w w′ r
+  unfolding parse-block
+  deeper {r} d h = let z : d + 1 ≡ suc d = omega arith in subst (λ (n : ℕ). WentTo F (parse-control-flow (parse-block 256) n) w w′ r) z h
+
+  -- a round of parse_block's loop, by its arm
+  pub round : (owner : BlockOwner) (terminators : Terminators) (depth : ℕ) {o : BlockParseOutcome} {a : Arm} (b : Arm) → a ≡ arm-of terminators (from F (w .c .pos)) → a ≡ b
+      → WentTo F (by-arm b (block-in 256) 256 owner terminators depth) w w′ o → WentTo F (block-in 256 owner terminators depth) w w′ o
+  round owner terminators depth b e f h = like-to (by-arm b (block-in 256) 256 owner terminators depth) (block-by 256 owner terminators depth _ b (sym f ∙ e)) h
+
+  -- ---- the parts of a form
+  pub opened : {v : ℕ} {lead : P Bool → P Bool} {u : World} → Wrote F v w u → ((next : P Bool) (z : World) (r : Bool) → WentTo F next w′ z r → WentTo F (lead next) u z r)
+      → Paid 7 2 2 F (behind (w .c)) (w′ .c) → Opened F v lead w w′
+  opened {u} p h n = record { mid = u; wrote = p; on = h; paid = n }
+
+  pub finished : {owner : BlockOwner} {o o′ : BlockParseOutcome} {u : World} {e i : Bool} → o ≡ o′ → WentTo F (ended owner o′) w u e → Wrote F 0 u w′
+      → Paid 1 1 1 F (w .c) (w′ .c) → ItemAt F (w′ .c .pos) i → Finished F owner o w w′ e i
+  finished {owner} {u} {e} q h p n i = record { mid = u; went = subst (λ o. WentTo F (ended owner o) w u e) (sym q) h; wrote = p; paid = n; here = i }
+
+pub closed : {k k′ : Closing} {owner : BlockOwner} {w w′ u : World} {o : BlockParseOutcome} {i : Bool} → k ≡ k′ → ((F : File) → WentTo F (ending k′ owner) w u o)
+    → ((F : File) → Wrote F 0 u w′) → w′ .c .pos ≡ w .c .pos → w′ .c .events ≤ w .c .events + 3 → w′ .c .diags ≤ w .c .diags + 1 → (i ≡ true → k′ ≡ Closing.Item) → Ended k owner w w′ o i
+closed {owner} {w} {u} {o} q h p n e d j = record {
+  mid = u;
+  went = λ F. subst (λ k. WentTo F (ending k owner) w u o) (sym q) (h F);
+  wrote = p;
+  pos = n;
+  events = e;
+  diags = d;
+  at-item = λ z. q ∙ j z;
+}
+
+-- nothing is said of an item
+pub no-item : {F : File} {p : ℕ} → ItemAt F p false
+no-item = record { starts = λ h. absurd (false≢true h) }
+
+-- ---- parse_if behind its first block, and parse_do_while behind its body
+module _ {F : File} {w u : World} (d : ℕ) {x b : Bool} where
+  pub no-else : (o : BlockParseOutcome) → x ≡ (not (reached-eof o) && at (is ELSE) (from F (w .c .pos))) → x ≡ false
+      → WentTo F (ended BlockOwner.If o) w u b → WentTo F (else-part (parse-block 256) d o) w u b
+  unfolding ended
+  no-else BlockParseOutcome.ReachedEof e k h = h
+  no-else BlockParseOutcome.FoundTerminator e k h = bind-to (λ last. ended BlockOwner.If last) (no-to _ _ e k (done-to BlockParseOutcome.FoundTerminator)) h
+  no-else BlockParseOutcome.RecoveredImplicitEnd e k h = bind-to (λ last. ended BlockOwner.If last) (no-to _ _ e k (done-to BlockParseOutcome.RecoveredImplicitEnd)) h
+
+  pub with-else : {v : World} {p : BlockParseOutcome} (o : BlockParseOutcome) → x ≡ (not (reached-eof o) && at (is ELSE) (from F (w .c .pos))) → x ≡ true
+      → WentTo F (else-line (parse-block 256 BlockOwner.If Terminators.End d)) w v p → WentTo F (ended BlockOwner.If p) v u b → WentTo F (else-part (parse-block 256) d o) w u b
+  with-else BlockParseOutcome.ReachedEof e k g h = absurd (false≢true (sym e ∙ k))
+  with-else BlockParseOutcome.FoundTerminator e k g h = bind-to (λ last. ended BlockOwner.If last) (yes-to _ _ e k g) h
+  with-else BlockParseOutcome.RecoveredImplicitEnd e k g h = bind-to (λ last. ended BlockOwner.If last) (yes-to _ _ e k g) h
+
+  pub no-condition : (o : BlockParseOutcome) → x ≡ found-terminator o → x ≡ false → WentTo F (ended BlockOwner.DoWhile o) w u b → WentTo F (do-condition (parse-block 256) d o) w u b
+  unfolding ended closing do-condition pure _>>=_
+  no-condition BlockParseOutcome.ReachedEof e k h = h
+  no-condition BlockParseOutcome.FoundTerminator e k h = absurd (false≢true (sym k ∙ e))
+  no-condition BlockParseOutcome.RecoveredImplicitEnd e k h = like-to (nop >> pure false) refl h
+
+  pub condition : (o : BlockParseOutcome) → x ≡ found-terminator o → x ≡ true
+      → WentTo F (keyword-line WHILE (parse-block 256 BlockOwner.DoWhile Terminators.End d >>= λ last. ended BlockOwner.DoWhile last)) w u b → WentTo F (do-condition (parse-block 256) d o) w u b
+  unfolding do-condition
+  condition BlockParseOutcome.ReachedEof e k h = absurd (false≢true (sym e ∙ k))
+  condition BlockParseOutcome.FoundTerminator e k h = h
+  condition BlockParseOutcome.RecoveredImplicitEnd e k h = absurd (false≢true (sym e ∙ k))
+
+found-is : (o : BlockParseOutcome) → found-terminator o ≡ true → o ≡ BlockParseOutcome.FoundTerminator
+found-is BlockParseOutcome.FoundTerminator e = refl
+found-is BlockParseOutcome.RecoveredImplicitEnd e = absurd (false≢true e)
+found-is BlockParseOutcome.ReachedEof e = absurd (false≢true e)
+
+-- the body of a `do` that was closed stands before a `while`
+pub at-while : {F : File} {w w′ : World} {o : BlockParseOutcome} (d : ℕ) → WentTo F (parse-block 256 BlockOwner.DoWhileBody Terminators.While d) w w′ o → found-terminator o ≡ true → at (is WHILE) (from F (w′ .c .pos)) ≡ true
+at-while {F} {w} {w′} {o} d h e =
+    bare-while _ (ap (at-terminator Terminators.While) (sym (h .went .rest)) ∙ stops-block 256 BlockOwner.DoWhileBody Terminators.While d .stops _ (h .val ∙ found-is o e))
+
+-- the last of the four forms
+pub repeat-here : (r : List Sym) → at control-flow r ≡ true → at (is IF) r ≡ false → at (is DO) r ≡ false → at (is WHILE) r ≡ false → at (is REPEAT) r ≡ true
+repeat-here r a b c d = repeat-left r (rw (a, b, c, d))

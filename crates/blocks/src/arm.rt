@@ -1,0 +1,143 @@
+// What a round of parse_block's loop does, by the token here.
+use grammar::block::Terminators;
+use parser::kinds::in_words;
+use parser::kinds::is_regular_trivia;
+use parser::kinds::starts_instruction;
+use parser::look::Remembered;
+use parser::look::at_stray_else;
+use parser::look::at_terminator;
+use parser::look::current;
+use parser::look::eof;
+use parser::look::is_top_level_starter;
+use parser::look::starts_behind_doc;
+ghost use mathlib.Core.Path.{_≡_};
+ghost use Prim.Native.Nat.{_≤_};
+ghost use lib.ListN.{length, drop};
+ghost use Rattle.grammar.specs.Look.{control-flow};
+ghost use Rattle.parser.specs.Ahead.{DocKnown};
+ghost use Rattle.blocks.specs.Arms.{arm-of, inner-arm};
+ghost use Rattle.blocks.specs.Shapes.{ItemAt};
+
+// Tokens are taken, and there is another round.
+pub enum Taken {
+    Trivia,
+    Doc,
+    Instruction,
+    Bad,
+}
+
+// The loop ends.
+pub enum Closing {
+    Eof,
+    Terminator,
+    StrayElse,
+    Item,
+}
+
+pub enum Arm {
+    Takes(Taken),
+    Closes(Closing),
+    Control,
+}
+
+// The arm, and what is remembered of the lookahead behind doc comments.
+pub struct Seen {
+    pub arm: Arm,
+    pub known: Remembered,
+}
+
+// The words `do`, `if`, `repeat` and `while`, as bits.
+const CONTROL_FLOW: u64 = 0x14110;
+
+fn is_control_flow(k: u16) -> bool
+    ensures { λ r. ⌜ r ≡ control-flow k ⌝ }
+{
+    in_words(CONTROL_FLOW, k)
+}
+
+// The tests behind those of `arm_here`. Where `item` holds, a block inside ended at an item that starts here.
+fn inner_arm(kinds: &[u16], p: usize, known: Remembered, item: bool) -> Seen
+    requires { ⌜ (p ≤ length (now kinds)) × (DocKnown (now kinds) p known) × (ItemAt (now kinds) p item) ⌝ }
+    ensures { λ r. ⌜ (r .arm ≡ inner-arm (drop p (now (kinds .entry)))) × (DocKnown (now (kinds .entry)) p (r .known)) ⌝ }
+{
+    if item {
+        return Seen {
+            arm: Arm::Closes(Closing::Item),
+            known: known,
+        };
+    }
+    let k = current(kinds, p);
+    if k == 30 {
+        let doc = starts_behind_doc(kinds, p, known);
+        if doc.starts {
+            return Seen {
+                arm: Arm::Closes(Closing::Item),
+                known: doc,
+            };
+        }
+        return Seen {
+            arm: Arm::Takes(Taken::Doc),
+            known: doc,
+        };
+    }
+    if is_top_level_starter(kinds, p) {
+        return Seen {
+            arm: Arm::Closes(Closing::Item),
+            known: known,
+        };
+    }
+    if is_control_flow(k) {
+        return Seen {
+            arm: Arm::Control,
+            known: known,
+        };
+    }
+    if starts_instruction(k) {
+        return Seen {
+            arm: Arm::Takes(Taken::Instruction),
+            known: known,
+        };
+    }
+    Seen {
+        arm: Arm::Takes(Taken::Bad),
+        known: known,
+    }
+}
+
+// The tests of a round. Trivia is met most, and is neither the end of the file nor a terminator, so it is tested first.
+pub fn arm_here(
+    kinds: &[u16],
+    p: usize,
+    terminators: Terminators,
+    known: Remembered,
+    item: bool,
+) -> Seen
+    requires { ⌜ (p ≤ length (now kinds)) × (DocKnown (now kinds) p known) × (ItemAt (now kinds) p item) ⌝ }
+    ensures { λ r. ⌜ (r .arm ≡ arm-of terminators (drop p (now (kinds .entry)))) × (DocKnown (now (kinds .entry)) p (r .known)) ⌝ }
+{
+    if is_regular_trivia(current(kinds, p)) {
+        return Seen {
+            arm: Arm::Takes(Taken::Trivia),
+            known: known,
+        };
+    }
+    if eof(kinds, p) {
+        return Seen {
+            arm: Arm::Closes(Closing::Eof),
+            known: known,
+        };
+    }
+    if at_terminator(kinds, p, terminators) {
+        return Seen {
+            arm: Arm::Closes(Closing::Terminator),
+            known: known,
+        };
+    }
+    if at_stray_else(kinds, p, terminators) {
+        return Seen {
+            arm: Arm::Closes(Closing::StrayElse),
+            known: known,
+        };
+    }
+    inner_arm(kinds, p, known, item)
+}

@@ -1,0 +1,175 @@
+// How a block ends, and a form after its last block.
+use crate::arm::Closing;
+use grammar::block::BlockOwner;
+use grammar::block::BlockParseOutcome;
+use grammar::block::BlockRecoveryBoundary;
+use grammar::message::Message;
+use parser::bump::expect_kind;
+use parser::cursor::Cursor;
+use parser::cursor::error_here;
+use parser::cursor::put;
+use parser::kinds::ELSE;
+use parser::kinds::END;
+use parser::look::at_kind;
+ghost use mathlib.Core.Path.{_≡_};
+ghost use mathlib.Core.Bool.{not, _&&_};
+ghost use Prim.Native.Nat.{_<_, _^_};
+ghost use lib.ListN.{drop};
+ghost use Rattle.grammar.specs.Words.{is, ELSE as elseWord};
+ghost use Rattle.grammar.specs.Look.{at};
+ghost use Rattle.grammar.specs.Block.{found-terminator, reached-eof};
+ghost use Rattle.parser.specs.Rep.{world, Ready};
+ghost use Rattle.blocks.specs.Shapes.{Recovered, Ended, Finished, ItemAt};
+
+// A block's end; `item` says that an item is known to start here.
+pub struct BlockEnd {
+    pub c: Cursor,
+    pub outcome: BlockParseOutcome,
+    pub item: bool,
+}
+
+// A form's end, and whether the file ended in it.
+pub struct Form {
+    pub c: Cursor,
+    pub eof: bool,
+    pub item: bool,
+}
+
+// The empty Error node of a recovery.
+fn recover(
+    ev: &mut [u16],
+    dm: &mut [u16],
+    ds: &mut [u32],
+    c0: Cursor,
+    owner: BlockOwner,
+    boundary: BlockRecoveryBoundary,
+) -> Cursor
+    requires { ⌜ (c0 .events < 2 ^ 39) × (c0 .diags < 2 ^ 40) × (c0 .pos < 2 ^ 32) ⌝ }
+    ensures { λ r. ⌜ Recovered owner boundary (world (now (ev .entry)) (now (dm .entry)) (now (ds .entry)) c0) (world (now (ev .exit)) (now (dm .exit)) (now (ds .exit)) r) ⌝ }
+{
+    let a = put(ev, c0, 1);
+    let b = error_here(dm, ds, a, Message::Recovery(owner, boundary));
+    put(ev, b, 0)
+}
+
+// A round that ends the loop, and the block's closing event.
+pub fn close(
+    ev: &mut [u16],
+    dm: &mut [u16],
+    ds: &mut [u32],
+    c0: Cursor,
+    owner: BlockOwner,
+    k: Closing,
+) -> BlockEnd
+    requires { ⌜ (c0 .events < 2 ^ 38) × (c0 .diags < 2 ^ 40) × (c0 .pos < 2 ^ 32) ⌝ }
+    ensures { λ r. ⌜ Ended k owner (world (now (ev .entry)) (now (dm .entry)) (now (ds .entry)) c0) (world (now (ev .exit)) (now (dm .exit)) (now (ds .exit)) (r .c)) (r .outcome) (r .item) ⌝ }
+{
+    match k {
+        Closing::Eof => {
+            let a = error_here(dm, ds, c0, Message::MissingEnd(owner));
+            let b = put(ev, a, 0);
+            BlockEnd {
+                c: b,
+                outcome: BlockParseOutcome::ReachedEof,
+                item: false,
+            }
+        }
+        Closing::Terminator => {
+            let b = put(ev, c0, 0);
+            BlockEnd {
+                c: b,
+                outcome: BlockParseOutcome::FoundTerminator,
+                item: false,
+            }
+        }
+        Closing::StrayElse => {
+            let a = recover(ev, dm, ds, c0, owner, BlockRecoveryBoundary::Else);
+            let b = put(ev, a, 0);
+            BlockEnd {
+                c: b,
+                outcome: BlockParseOutcome::RecoveredImplicitEnd,
+                item: false,
+            }
+        }
+        Closing::Item => {
+            let a = recover(ev, dm, ds, c0, owner, BlockRecoveryBoundary::TopLevelItem);
+            let b = put(ev, a, 0);
+            BlockEnd {
+                c: b,
+                outcome: BlockParseOutcome::RecoveredImplicitEnd,
+                item: true,
+            }
+        }
+    }
+}
+
+// After a form's last block: its `end` where there is one, and the form's closing event.
+pub fn finish(
+    kinds: &[u16],
+    ev: &mut [u16],
+    dm: &mut [u16],
+    ds: &mut [u32],
+    b: BlockEnd,
+    owner: BlockOwner,
+) -> Form
+    requires { ⌜ (Ready 2 (now kinds) (b .c)) × ItemAt (now kinds) (b .c .pos) (b .item) ⌝ }
+    ensures { λ r. ⌜ Finished (now (kinds .entry)) owner (b .outcome) (world (now (ev .entry)) (now (dm .entry)) (now (ds .entry)) (b .c)) (world (now (ev .exit)) (now (dm .exit)) (now (ds .exit)) (r .c)) (r .eof) (r .item) ⌝ }
+{
+    let c = b.c;
+    let outcome = b.outcome;
+    match outcome {
+        BlockParseOutcome::ReachedEof => {
+            let e = put(ev, c, 0);
+            Form {
+                c: e,
+                eof: true,
+                item: false,
+            }
+        }
+        BlockParseOutcome::FoundTerminator => {
+            let d = expect_kind(kinds, ev, dm, ds, c, END, Message::MissingEnd(owner));
+            let dc = d.c;
+            let e = put(ev, dc, 0);
+            Form {
+                c: e,
+                eof: false,
+                item: false,
+            }
+        }
+        BlockParseOutcome::RecoveredImplicitEnd => {
+            let e = put(ev, c, 0);
+            Form {
+                c: e,
+                eof: false,
+                item: b.item,
+            }
+        }
+    }
+}
+
+pub fn found_terminator(outcome: BlockParseOutcome) -> bool
+    ensures { λ r. ⌜ r ≡ found-terminator outcome ⌝ }
+{
+    match outcome {
+        BlockParseOutcome::FoundTerminator => true,
+        BlockParseOutcome::RecoveredImplicitEnd => false,
+        BlockParseOutcome::ReachedEof => false,
+    }
+}
+
+fn reached_eof(outcome: BlockParseOutcome) -> bool
+    ensures { λ r. ⌜ r ≡ reached-eof outcome ⌝ }
+{
+    match outcome {
+        BlockParseOutcome::FoundTerminator => false,
+        BlockParseOutcome::RecoveredImplicitEnd => false,
+        BlockParseOutcome::ReachedEof => true,
+    }
+}
+
+// Whether an `else` follows the block of an `if`.
+pub fn goes_to_else(kinds: &[u16], p: usize, outcome: BlockParseOutcome) -> bool
+    ensures { λ r. ⌜ r ≡ (not (reached-eof outcome) && at (is elseWord) (drop p (now (kinds .entry)))) ⌝ }
+{
+    !reached_eof(outcome) && at_kind(kinds, p, ELSE)
+}

@@ -1,0 +1,8 @@
+// Blocks and the four control forms.
+pub mod arm;
+pub mod block;
+pub mod close;
+pub mod header;
+pub mod reject;
+pub mod step;
+pub mod suffix;

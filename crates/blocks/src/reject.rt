@@ -1,0 +1,29 @@
+// The rest of a file whose control flow is nested too deep.
+use grammar::message::BlockMessage;
+use grammar::message::Message;
+use parser::cursor::Cursor;
+use parser::cursor::bump;
+use parser::cursor::error_here;
+use parser::cursor::put;
+use parser::look::eof;
+ghost use Rattle.grammar.specs.Block.{reject-excessive-control-flow-nesting as reject};
+ghost use Rattle.parser.specs.Rep.{world, Ready, Ran};
+
+// Past its test of the depth: an Error node around all that is left.
+pub fn reject_excessive_control_flow_nesting(
+    kinds: &[u16],
+    ev: &mut [u16],
+    dm: &mut [u16],
+    ds: &mut [u32],
+    c0: Cursor,
+) -> Cursor
+    requires { ⌜ Ready 2 (now kinds) c0 ⌝ }
+    ensures { λ r. ⌜ Ran 1 2 1 (now (kinds .entry)) reject (world (now (ev .entry)) (now (dm .entry)) (now (ds .entry)) c0) (world (now (ev .exit)) (now (dm .exit)) (now (ds .exit)) r) ⌝ }
+{
+    let a = put(ev, c0, 1);
+    let mut c = error_here(dm, ds, a, Message::Block(BlockMessage::NestingTooDeep));
+    while !eof(kinds, c.pos) {
+        c = bump(kinds, ev, dm, ds, c);
+    }
+    put(ev, c, 0)
+}
