@@ -1,0 +1,37 @@
+-- The arm that the code finds, by two tokens, is the definition's. Assumes nothing.
+use mathlib.Core.Bool.{Bool, true, false, cond, _||_, or-false}
+use mathlib.Core.List.{List, [], _∷_}
+use mathlib.Core.Path.{_≡_, refl, sym, ap, ap₂, subst, _∙_}
+use Rattle.lexer.specs.Syntax.{DocComment, At}
+use Rattle.grammar.specs.Words.{Sym, File, from, is, ADV-MAP, BEGIN, CONST, ENUM, MOD, NAMESPACE, PROC, PUB, TYPE}
+use Rattle.grammar.specs.Look.{oneOf, current, regular-trivia, at}
+use Rattle.grammar.specs.Block.{Blocks}
+use Rattle.grammar.specs.Item.{at-declaration, at-procedure, parse-source-item}
+use Rattle.parser.specs.Ahead.{declared}
+use Rattle.parser.specs.Rep.{World, Went}
+use Rattle.parser.proofs.Kit.{like}
+use Rattle.parser.proofs.Laws.{at-current}
+use Rattle.parser.proofs.Ahead.{declaration-is}
+use Rattle.items.specs.declared.arm.Arm.{Arm}
+use Rattle.items.specs.Arms.{arm-of, arm-by, declared-arm, by-arm, item-is}
+
+module _ (r : List Sym) where
+  -- a token's test, and a declaration's
+  here : (k : Sym) → is k 0 ≡ false → at (is k) r ≡ is k (current r)
+  here k e = sym (at-current (is k) r e)
+
+  one : (k : Sym) → oneOf (k ∷ []) PUB ≡ false → oneOf (k ∷ []) 0 ≡ false → at-declaration (k ∷ []) r ≡ is k (declared r)
+  unfolding oneOf
+  one k p n = declaration-is (k ∷ []) r p n ∙ or-false _
+
+  pub arm-is : arm-by (current r) (declared r) ≡ arm-of r
+  unfolding arm-by arm-of declared-arm oneOf at-procedure
+  arm-is = rw (here DocComment refl, sym (at-current regular-trivia r refl), here NAMESPACE refl, one MOD refl refl, here At refl, one PROC refl refl, here BEGIN refl, one CONST refl refl, declaration-is (TYPE ∷ ENUM ∷ []) r refl refl, or-false (is ENUM (declared r)), here ADV-MAP refl)
+
+-- the function of an arm that is known
+pub armed : {F : File} {w w′ : World} {a a′ : Arm} (block : Blocks) → a ≡ a′ → Went F (by-arm a′ block) w w′ → Went F (by-arm a block) w w′
+armed {F} {w} {w′} block e h = subst (λ a. Went F (by-arm a block) w w′) (sym e) h
+
+-- an item, by the arm that is found
+pub by-item : {F : File} {w w′ : World} (a : Arm) (block : Blocks) → a ≡ arm-of (from F (w .c .pos)) → Went F (by-arm a block) w w′ → Went F (parse-source-item block) w w′
+by-item {F} {w} a block e h = like (by-arm a block) (item-is block _ ∙ ap (λ (x : Arm). by-arm x block (from F (w .c .pos))) (sym e)) h

@@ -1,0 +1,5 @@
+-- What the functions' proofs share.
+pub mod Steps
+pub mod Rounds
+pub mod Arms
+pub mod Whole

@@ -1,0 +1,78 @@
+-- Which item starts at a token, in the order of parse_source_item's tests, and what it does there: `item-is`. The code finds the arm by
+-- the token here and by the one that says which declaration starts here: `arm-is`.
+-- Assumes nothing.
+use mathlib.Core.Path.{_≡_, refl, sym, _∙_, ap}
+use mathlib.Core.Bool.{Bool, true, false, cond, _||_}
+use mathlib.Core.List.{List, [], _∷_}
+use Rattle.lexer.specs.Syntax.{DocComment, At}
+use Rattle.grammar.specs.Words.{Sym, is, ADV-MAP, BEGIN, CONST, ENUM, MOD, NAMESPACE, PROC, TYPE}
+use Rattle.grammar.specs.Look.{oneOf, regular-trivia, at-kind, at-keyword, at-regular-trivia}
+use Rattle.grammar.specs.Run.{Res, P, peek, pick, _>>=_, if_then_else_}
+use Rattle.grammar.specs.declared.message.Message.{Message}
+use Rattle.grammar.specs.declared.message.ItemMessage.the-variants.{UnexpectedTopLevelToken}
+use Rattle.grammar.specs.Bump.{bump, error-token}
+use Rattle.grammar.specs.Block.{Blocks}
+use Rattle.grammar.specs.Item.{parse-doc-form, parse-namespace, parse-submodule, parse-procedure, parse-begin-block, parse-constant, parse-type-decl, parse-advice-map, at-declaration, at-procedure, parse-source-item}
+use Rattle.items.specs.declared.arm.Arm.{Arm}
+
+unfoldable pub arm-of : List Sym → Arm
+arm-of r =
+    cond (at-kind DocComment r) Arm.Doc
+    (cond (at-regular-trivia r) Arm.Trivia
+    (cond (at-keyword NAMESPACE r) Arm.Namespace
+    (cond (at-declaration (MOD ∷ []) r) Arm.Submodule
+    (cond (at-procedure r) Arm.Procedure
+    (cond (at-keyword BEGIN r) Arm.Begin
+    (cond (at-declaration (CONST ∷ []) r) Arm.Constant
+    (cond (at-declaration (TYPE ∷ ENUM ∷ []) r) Arm.Type
+    (cond (at-keyword ADV-MAP r) Arm.AdviceMap
+    Arm.Bad))))))))
+
+unfoldable pub by-arm : Arm → Blocks → P Bool
+by-arm Arm.Doc block = parse-doc-form
+by-arm Arm.Trivia block = bump
+by-arm Arm.Namespace block = parse-namespace
+by-arm Arm.Submodule block = parse-submodule
+by-arm Arm.Procedure block = parse-procedure block
+by-arm Arm.Begin block = parse-begin-block block
+by-arm Arm.Constant block = parse-constant
+by-arm Arm.Type block = parse-type-decl
+by-arm Arm.AdviceMap block = parse-advice-map
+by-arm Arm.Bad block = error-token (Message.Item UnexpectedTopLevelToken)
+
+-- an `if`, as its test chooses between two arms
+if-arm : {A X : Type 0} (h : X → Res A) (t : List Sym → Bool) (f g : P A) (r : List Sym) {a b : X} → f r ≡ h a → g r ≡ h b → (if t then f else g) r ≡ h (cond (t r) a b)
+unfolding _>>=_ peek
+if-arm h t f g r {a} {b} p q = go (t r)
+  where
+    go : (u : Bool) → pick u f g r ≡ h (cond u a b)
+    go true = p
+    go false = q
+
+pub item-is : (block : Blocks) (r : List Sym) → parse-source-item block r ≡ by-arm (arm-of r) block r
+unfolding parse-source-item arm-of by-arm
+item-is block r =
+    let h : Arm → Res Bool = λ a. by-arm a block r in
+    if-arm h (at-kind DocComment) _ _ r refl
+    (if-arm h at-regular-trivia _ _ r refl
+    (if-arm h (at-keyword NAMESPACE) _ _ r refl
+    (if-arm h (at-declaration (MOD ∷ [])) _ _ r refl
+    (if-arm h at-procedure _ _ r refl
+    (if-arm h (at-keyword BEGIN) _ _ r refl
+    (if-arm h (at-declaration (CONST ∷ [])) _ _ r refl
+    (if-arm h (at-declaration (TYPE ∷ ENUM ∷ [])) _ _ r refl
+    (if-arm h (at-keyword ADV-MAP) _ _ r refl refl))))))))
+
+-- the arm by the token here and the declaration that it starts
+unfoldable pub declared-arm : Sym → Sym → Arm
+declared-arm k d =
+    cond (is MOD d) Arm.Submodule
+    (cond (is At k || is PROC d) Arm.Procedure
+    (cond (is BEGIN k) Arm.Begin
+    (cond (is CONST d) Arm.Constant
+    (cond (is TYPE d || is ENUM d) Arm.Type
+    (cond (is ADV-MAP k) Arm.AdviceMap
+    Arm.Bad)))))
+
+unfoldable pub arm-by : Sym → Sym → Arm
+arm-by k d = cond (is DocComment k) Arm.Doc (cond (regular-trivia k) Arm.Trivia (cond (is NAMESPACE k) Arm.Namespace (declared-arm k d)))

@@ -1,0 +1,55 @@
+// An entry of the advice map.
+use crate::parts::keyword_and_name;
+use crate::parts::optional_parens;
+use crate::parts::value_line;
+use grammar::message::ItemMessage;
+use grammar::message::Message;
+use parser::bump::bump_inline_whitespace;
+use parser::cursor::Cursor;
+use parser::cursor::put;
+use parser::kinds::ADV_MAP;
+ghost use Rattle.grammar.specs.Item.{parse-advice-map};
+ghost use Rattle.parser.specs.Rep.{world, Ready, Ran};
+
+const ADVICE_MAP: u16 = 12;
+
+pub fn parse_advice_map(
+    kinds: &[u16],
+    ev: &mut [u16],
+    dm: &mut [u16],
+    ds: &mut [u32],
+    c0: Cursor,
+) -> Cursor
+    requires { ⌜ Ready 8 (now kinds) c0 ⌝ }
+    ensures { λ r. ⌜ Ran 2 4 5 (now (kinds .entry)) parse-advice-map (world (now (ev .entry)) (now (dm .entry)) (now (ds .entry)) c0) (world (now (ev .exit)) (now (dm .exit)) (now (ds .exit)) r) ⌝ }
+{
+    let a = put(ev, c0, ADVICE_MAP);
+    let b = keyword_and_name(
+        kinds,
+        ev,
+        dm,
+        ds,
+        a,
+        ADV_MAP,
+        Message::Unreached,
+        Message::Item(ItemMessage::ExpectedAdviceMapName),
+    );
+    let d = bump_inline_whitespace(kinds, ev, dm, ds, b);
+    let e = optional_parens(
+        kinds,
+        ev,
+        dm,
+        ds,
+        d,
+        Message::Item(ItemMessage::ExpectedAdviceMapKeyEnd),
+    );
+    let f = value_line(
+        kinds,
+        ev,
+        dm,
+        ds,
+        e,
+        Message::Item(ItemMessage::ExpectedAdviceMapEqual),
+    );
+    put(ev, f, 0)
+}

@@ -1,0 +1,46 @@
+// A constant.
+use crate::parts::keyword_and_name;
+use crate::parts::value_line;
+use crate::visibility::optional_visibility;
+use grammar::message::ItemMessage;
+use grammar::message::Message;
+use parser::cursor::Cursor;
+use parser::cursor::put;
+use parser::kinds::CONST;
+ghost use Rattle.grammar.specs.Item.{parse-constant};
+ghost use Rattle.parser.specs.Rep.{world, Ready, Ran};
+
+const CONSTANT: u16 = 10;
+
+pub fn parse_constant(
+    kinds: &[u16],
+    ev: &mut [u16],
+    dm: &mut [u16],
+    ds: &mut [u32],
+    c0: Cursor,
+) -> Cursor
+    requires { ⌜ Ready 8 (now kinds) c0 ⌝ }
+    ensures { λ r. ⌜ Ran 2 6 6 (now (kinds .entry)) parse-constant (world (now (ev .entry)) (now (dm .entry)) (now (ds .entry)) c0) (world (now (ev .exit)) (now (dm .exit)) (now (ds .exit)) r) ⌝ }
+{
+    let a = put(ev, c0, CONSTANT);
+    let b = optional_visibility(kinds, ev, dm, ds, a);
+    let d = keyword_and_name(
+        kinds,
+        ev,
+        dm,
+        ds,
+        b,
+        CONST,
+        Message::Item(ItemMessage::ExpectedConst),
+        Message::Item(ItemMessage::ExpectedConstantName),
+    );
+    let e = value_line(
+        kinds,
+        ev,
+        dm,
+        ds,
+        d,
+        Message::Item(ItemMessage::ExpectedConstantEqual),
+    );
+    put(ev, e, 0)
+}

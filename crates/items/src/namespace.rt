@@ -1,0 +1,41 @@
+// A namespace.
+use forms::line::parse_line_tail;
+use forms::path::parse_path_with_message;
+use grammar::message::ItemMessage;
+use grammar::message::Message;
+use parser::bump::bump_regular_trivia;
+use parser::bump::expect_kind;
+use parser::cursor::Cursor;
+use parser::cursor::put;
+use parser::kinds::NAMESPACE;
+ghost use Rattle.grammar.specs.Item.{parse-namespace};
+ghost use Rattle.parser.specs.Rep.{world, Ready, Ran};
+
+// The node's kind; NAMESPACE is the word.
+const NAMESPACE_NODE: u16 = 4;
+
+pub fn parse_namespace(
+    kinds: &[u16],
+    ev: &mut [u16],
+    dm: &mut [u16],
+    ds: &mut [u32],
+    c0: Cursor,
+) -> Cursor
+    requires { ⌜ Ready 4 (now kinds) c0 ⌝ }
+    ensures { λ r. ⌜ Ran 2 4 2 (now (kinds .entry)) parse-namespace (world (now (ev .entry)) (now (dm .entry)) (now (ds .entry)) c0) (world (now (ev .exit)) (now (dm .exit)) (now (ds .exit)) r) ⌝ }
+{
+    let a = put(ev, c0, NAMESPACE_NODE);
+    let b = expect_kind(kinds, ev, dm, ds, a, NAMESPACE, Message::Unreached);
+    let bc = b.c;
+    let d = bump_regular_trivia(kinds, ev, dm, ds, bc);
+    let e = parse_path_with_message(
+        kinds,
+        ev,
+        dm,
+        ds,
+        d,
+        Message::Item(ItemMessage::ExpectedNamespacePath),
+    );
+    let f = parse_line_tail(kinds, ev, dm, ds, e);
+    put(ev, f, 0)
+}

@@ -1,0 +1,182 @@
+// Procedures and the `begin` block.
+use crate::attribute::attributes;
+use crate::signature::parse_signature;
+use crate::visibility::optional_visibility;
+use blocks::block::parse_block;
+use blocks::close::found_terminator;
+use forms::line::parse_line_tail;
+use grammar::block::BlockOwner;
+use grammar::block::BlockParseOutcome;
+use grammar::block::Terminators;
+use grammar::message::Message;
+use grammar::message::ProcedureMessage;
+use parser::bump::bump_regular_trivia;
+use parser::bump::expect_kind;
+use parser::bump::expect_name;
+use parser::cursor::Cursor;
+use parser::cursor::Flow;
+use parser::cursor::put;
+use parser::kinds::BEGIN;
+use parser::kinds::END;
+use parser::kinds::PROC;
+use parser::look::at_kind;
+ghost use Rattle.grammar.specs.Block.{closing as closingOf, parse-block};
+ghost use Rattle.grammar.specs.Item.{procedure-body, parse-procedure, parse-begin-block};
+ghost use Rattle.parser.specs.Rep.{world, Ready, Ran, RanTo};
+ghost use Rattle.items.specs.Parts.{optional-signature, procedure-header, procedure-lead};
+
+const BEGIN_BLOCK: u16 = 13;
+
+const PROCEDURE: u16 = 14;
+
+const L_PAREN: u16 = 48;
+
+// if outcome == FoundTerminator { expect_keyword("end", owner.missing_end_message()) }
+fn closing(
+    kinds: &[u16],
+    ev: &mut [u16],
+    dm: &mut [u16],
+    ds: &mut [u32],
+    c0: Cursor,
+    owner: BlockOwner,
+    outcome: BlockParseOutcome,
+) -> Cursor
+    requires { ⌜ Ready 1 (now kinds) c0 ⌝ }
+    ensures { λ r. ⌜ Ran 1 0 1 (now (kinds .entry)) (closingOf owner outcome) (world (now (ev .entry)) (now (dm .entry)) (now (ds .entry)) c0) (world (now (ev .exit)) (now (dm .exit)) (now (ds .exit)) r) ⌝ }
+{
+    if found_terminator(outcome) {
+        let d = expect_kind(kinds, ev, dm, ds, c0, END, Message::MissingEnd(owner));
+        return d.c;
+    }
+    c0
+}
+
+fn optional_signature(
+    kinds: &[u16],
+    ev: &mut [u16],
+    dm: &mut [u16],
+    ds: &mut [u32],
+    c0: Cursor,
+) -> Cursor
+    requires { ⌜ Ready 4 (now kinds) c0 ⌝ }
+    ensures { λ r. ⌜ Ran 2 2 4 (now (kinds .entry)) optional-signature (world (now (ev .entry)) (now (dm .entry)) (now (ds .entry)) c0) (world (now (ev .exit)) (now (dm .exit)) (now (ds .exit)) r) ⌝ }
+{
+    if at_kind(kinds, c0.pos, L_PAREN) {
+        return parse_signature(kinds, ev, dm, ds, c0);
+    }
+    c0
+}
+
+// What stands between `proc` and the block.
+fn procedure_header(
+    kinds: &[u16],
+    ev: &mut [u16],
+    dm: &mut [u16],
+    ds: &mut [u32],
+    c0: Cursor,
+) -> Cursor
+    requires { ⌜ Ready 5 (now kinds) c0 ⌝ }
+    ensures { λ r. ⌜ Ran 2 2 5 (now (kinds .entry)) procedure-header (world (now (ev .entry)) (now (dm .entry)) (now (ds .entry)) c0) (world (now (ev .exit)) (now (dm .exit)) (now (ds .exit)) r) ⌝ }
+{
+    let a = bump_regular_trivia(kinds, ev, dm, ds, c0);
+    let b = expect_name(
+        kinds,
+        ev,
+        dm,
+        ds,
+        a,
+        Message::Procedure(ProcedureMessage::ExpectedProcedureName),
+    );
+    let d = bump_regular_trivia(kinds, ev, dm, ds, b);
+    let e = optional_signature(kinds, ev, dm, ds, d);
+    parse_line_tail(kinds, ev, dm, ds, e)
+}
+
+// parse_procedure, behind `proc`
+fn procedure_body(
+    kinds: &[u16],
+    ev: &mut [u16],
+    dm: &mut [u16],
+    ds: &mut [u32],
+    c0: Cursor,
+) -> Cursor
+    requires { ⌜ Ready 16 (now kinds) c0 ⌝ }
+    ensures { λ r. ⌜ Ran 7 6 7 (now (kinds .entry)) (procedure-body (parse-block 256)) (world (now (ev .entry)) (now (dm .entry)) (now (ds .entry)) c0) (world (now (ev .exit)) (now (dm .exit)) (now (ds .exit)) r) ⌝ }
+{
+    let a = procedure_header(kinds, ev, dm, ds, c0);
+    let b = parse_block(
+        kinds,
+        ev,
+        dm,
+        ds,
+        a,
+        BlockOwner::Procedure,
+        Terminators::End,
+        0,
+    );
+    let bc = b.c;
+    let outcome = b.outcome;
+    closing(kinds, ev, dm, ds, bc, BlockOwner::Procedure, outcome)
+}
+
+// What stands before a procedure's name; whether `proc` was there.
+fn procedure_lead(kinds: &[u16], ev: &mut [u16], dm: &mut [u16], ds: &mut [u32], c0: Cursor) -> Flow
+    requires { ⌜ Ready 12 (now kinds) c0 ⌝ }
+    ensures { λ r. ⌜ RanTo 7 4 8 (now (kinds .entry)) procedure-lead (world (now (ev .entry)) (now (dm .entry)) (now (ds .entry)) c0) (world (now (ev .exit)) (now (dm .exit)) (now (ds .exit)) (r .c)) (r .ok) ⌝ }
+{
+    let a = attributes(kinds, ev, dm, ds, c0);
+    let b = bump_regular_trivia(kinds, ev, dm, ds, a);
+    let d = optional_visibility(kinds, ev, dm, ds, b);
+    let e = bump_regular_trivia(kinds, ev, dm, ds, d);
+    expect_kind(
+        kinds,
+        ev,
+        dm,
+        ds,
+        e,
+        PROC,
+        Message::Procedure(ProcedureMessage::ExpectedProc),
+    )
+}
+
+pub fn parse_procedure(
+    kinds: &[u16],
+    ev: &mut [u16],
+    dm: &mut [u16],
+    ds: &mut [u32],
+    c0: Cursor,
+) -> Cursor
+    requires { ⌜ Ready 32 (now kinds) c0 ⌝ }
+    ensures { λ r. ⌜ Ran 7 12 15 (now (kinds .entry)) (parse-procedure (parse-block 256)) (world (now (ev .entry)) (now (dm .entry)) (now (ds .entry)) c0) (world (now (ev .exit)) (now (dm .exit)) (now (ds .exit)) r) ⌝ }
+{
+    let a = put(ev, c0, PROCEDURE);
+    let b = procedure_lead(kinds, ev, dm, ds, a);
+    let bc = b.c;
+    if !b.ok {
+        return put(ev, bc, 0);
+    }
+    let d = procedure_body(kinds, ev, dm, ds, bc);
+    put(ev, d, 0)
+}
+
+// A keyword, the rest of the line and the block.
+pub fn parse_begin_block(
+    kinds: &[u16],
+    ev: &mut [u16],
+    dm: &mut [u16],
+    ds: &mut [u32],
+    c0: Cursor,
+) -> Cursor
+    requires { ⌜ Ready 16 (now kinds) c0 ⌝ }
+    ensures { λ r. ⌜ Ran 7 6 3 (now (kinds .entry)) (parse-begin-block (parse-block 256)) (world (now (ev .entry)) (now (dm .entry)) (now (ds .entry)) c0) (world (now (ev .exit)) (now (dm .exit)) (now (ds .exit)) r) ⌝ }
+{
+    let a = put(ev, c0, BEGIN_BLOCK);
+    let b = expect_kind(kinds, ev, dm, ds, a, BEGIN, Message::Unreached);
+    let bc = b.c;
+    let d = parse_line_tail(kinds, ev, dm, ds, bc);
+    let e = parse_block(kinds, ev, dm, ds, d, BlockOwner::Begin, Terminators::End, 0);
+    let f = e.c;
+    let outcome = e.outcome;
+    let g = closing(kinds, ev, dm, ds, f, BlockOwner::Begin, outcome);
+    put(ev, g, 0)
+}

@@ -1,0 +1,79 @@
+// A procedure's signature.
+use forms::line::parse_signature_result_until_line_end;
+use forms::path::parse_balanced_group;
+use grammar::message::Message;
+use grammar::message::ProcedureMessage;
+use parser::bump::bump_non_comment_trivia;
+use parser::cursor::Cursor;
+use parser::cursor::bump;
+use parser::cursor::put;
+use parser::look::at_kind;
+use parser::look::peek_after_non_comment_trivia;
+ghost use Rattle.grammar.specs.Item.{parse-results, parse-signature};
+ghost use Rattle.parser.specs.Rep.{world, Ready, Ran};
+
+const SIGNATURE: u16 = 17;
+
+const L_PAREN: u16 = 48;
+
+const R_ARROW: u16 = 52;
+
+const R_PAREN: u16 = 55;
+
+// parse_signature, behind the arrow
+fn parse_results(
+    kinds: &[u16],
+    ev: &mut [u16],
+    dm: &mut [u16],
+    ds: &mut [u32],
+    c0: Cursor,
+) -> Cursor
+    requires { ⌜ Ready 2 (now kinds) c0 ⌝ }
+    ensures { λ r. ⌜ Ran 2 0 2 (now (kinds .entry)) parse-results (world (now (ev .entry)) (now (dm .entry)) (now (ds .entry)) c0) (world (now (ev .exit)) (now (dm .exit)) (now (ds .exit)) r) ⌝ }
+{
+    let a = bump_non_comment_trivia(kinds, ev, dm, ds, c0);
+    let b = bump(kinds, ev, dm, ds, a);
+    let d = bump_non_comment_trivia(kinds, ev, dm, ds, b);
+    if at_kind(kinds, d.pos, L_PAREN) {
+        return parse_balanced_group(
+            kinds,
+            ev,
+            dm,
+            ds,
+            d,
+            L_PAREN,
+            R_PAREN,
+            Message::Procedure(ProcedureMessage::ExpectedResultsEnd),
+        );
+    }
+    parse_signature_result_until_line_end(kinds, ev, dm, ds, d)
+}
+
+pub fn parse_signature(
+    kinds: &[u16],
+    ev: &mut [u16],
+    dm: &mut [u16],
+    ds: &mut [u32],
+    c0: Cursor,
+) -> Cursor
+    requires { ⌜ Ready 4 (now kinds) c0 ⌝ }
+    ensures { λ r. ⌜ Ran 2 2 4 (now (kinds .entry)) parse-signature (world (now (ev .entry)) (now (dm .entry)) (now (ds .entry)) c0) (world (now (ev .exit)) (now (dm .exit)) (now (ds .exit)) r) ⌝ }
+{
+    let a = put(ev, c0, SIGNATURE);
+    let b = parse_balanced_group(
+        kinds,
+        ev,
+        dm,
+        ds,
+        a,
+        L_PAREN,
+        R_PAREN,
+        Message::Procedure(ProcedureMessage::ExpectedParametersEnd),
+    );
+    let next = peek_after_non_comment_trivia(kinds, b.pos);
+    if at_kind(kinds, next, R_ARROW) {
+        let d = parse_results(kinds, ev, dm, ds, b);
+        return put(ev, d, 0);
+    }
+    put(ev, b, 0)
+}

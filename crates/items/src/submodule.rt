@@ -1,0 +1,39 @@
+// A submodule.
+use crate::parts::keyword_and_name;
+use crate::visibility::optional_visibility;
+use forms::line::parse_line_tail;
+use grammar::message::ItemMessage;
+use grammar::message::Message;
+use parser::cursor::Cursor;
+use parser::cursor::put;
+use parser::kinds::MOD;
+ghost use Rattle.grammar.specs.Item.{parse-submodule};
+ghost use Rattle.parser.specs.Rep.{world, Ready, Ran};
+
+const SUBMODULE: u16 = 6;
+
+pub fn parse_submodule(
+    kinds: &[u16],
+    ev: &mut [u16],
+    dm: &mut [u16],
+    ds: &mut [u32],
+    c0: Cursor,
+) -> Cursor
+    requires { ⌜ Ready 6 (now kinds) c0 ⌝ }
+    ensures { λ r. ⌜ Ran 1 4 5 (now (kinds .entry)) parse-submodule (world (now (ev .entry)) (now (dm .entry)) (now (ds .entry)) c0) (world (now (ev .exit)) (now (dm .exit)) (now (ds .exit)) r) ⌝ }
+{
+    let a = put(ev, c0, SUBMODULE);
+    let b = optional_visibility(kinds, ev, dm, ds, a);
+    let d = keyword_and_name(
+        kinds,
+        ev,
+        dm,
+        ds,
+        b,
+        MOD,
+        Message::Item(ItemMessage::ExpectedMod),
+        Message::Item(ItemMessage::ExpectedSubmoduleName),
+    );
+    let e = parse_line_tail(kinds, ev, dm, ds, d);
+    put(ev, e, 0)
+}
