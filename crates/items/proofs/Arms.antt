@@ -1,7 +1,7 @@
 -- The arm that the code finds, by two tokens, is the definition's. Assumes nothing.
-use mathlib.Core.Bool.{Bool, true, false, cond, _||_, or-false}
+use mathlib.Core.Bool.{false, or-false}
 use mathlib.Core.List.{List, [], _∷_}
-use mathlib.Core.Path.{_≡_, refl, sym, ap, ap₂, subst, _∙_}
+use mathlib.Core.Path.{_≡_, refl, sym, ap, subst, _∙_}
 use Rattle.lexer.specs.Syntax.{DocComment, At}
 use Rattle.grammar.specs.Words.{Sym, File, from, is, ADV-MAP, BEGIN, CONST, ENUM, MOD, NAMESPACE, PROC, PUB, TYPE}
 use Rattle.grammar.specs.Look.{oneOf, current, regular-trivia, at}
@@ -26,7 +26,9 @@ module _ (r : List Sym) where
 
   pub arm-is : arm-by (current r) (declared r) ≡ arm-of r
   unfolding arm-by arm-of declared-arm oneOf at-procedure
-  arm-is = rw (here DocComment refl, sym (at-current regular-trivia r refl), here NAMESPACE refl, one MOD refl refl, here At refl, one PROC refl refl, here BEGIN refl, one CONST refl refl, declaration-is (TYPE ∷ ENUM ∷ []) r refl refl, or-false (is ENUM (declared r)), here ADV-MAP refl)
+  arm-is =
+      rw (here DocComment refl, sym (at-current regular-trivia r refl), here NAMESPACE refl, here At refl, here BEGIN refl, here ADV-MAP refl)
+      (rw (one MOD refl refl, one PROC refl refl, one CONST refl refl, declaration-is (TYPE ∷ ENUM ∷ []) r refl refl, or-false (is ENUM (declared r))))
 
 -- the function of an arm that is known
 pub armed : {F : File} {w w′ : World} {a a′ : Arm} (block : Blocks) → a ≡ a′ → Went F (by-arm a′ block) w w′ → Went F (by-arm a block) w w′

@@ -2,8 +2,8 @@
 use mathlib.Core.Bool.{Bool, true, false, cond, and-false}
 use mathlib.Core.List.{List}
 use mathlib.Core.Path.{_≡_, sym, ap, _∙_}
-use Rattle.grammar.specs.Words.{Sym}
 use Rattle.lexer.specs.Syntax.{Newline}
+use Rattle.grammar.specs.Words.{Sym}
 use Rattle.grammar.specs.Look.{current, at-kind}
 use Rattle.grammar.specs.Run.{Round, stop}
 use Rattle.grammar.specs.Nesting.{is-root, bump-nesting}

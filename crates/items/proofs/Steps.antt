@@ -1,7 +1,7 @@
 -- Functions of the code that do several steps of a definition, and loops of rounds. Assumes nothing.
 use mathlib.Core.Bool.{Bool, true, false}
 use mathlib.Core.List.{List}
-use mathlib.Core.Path.{_≡_, sym, ap, subst, _∙_}
+use mathlib.Core.Path.{_≡_, sym, ap, _∙_}
 use Prim.Native.Nat.{_<_}
 use lib.ListN.{length}
 use Rattle.grammar.specs.Words.{Sym, File}
@@ -12,7 +12,7 @@ use Rattle.parser.proofs.Kit.{like, like-to, done-to, bind-to, loop-eq}
 use Rattle.parser.proofs.Laws.{past-here}
 
 -- ---- steps and then what comes behind them, as the definition puts them: one step and then the others
-pub two : {A B C : Type 0} (f : P A) (g : P B) (k : B → P C) (r : List Sym) → ((f >> g) >>= k) r ≡ (f >> (g >>= k)) r
+two : {A B C : Type 0} (f : P A) (g : P B) (k : B → P C) (r : List Sym) → ((f >> g) >>= k) r ≡ (f >> (g >>= k)) r
 unfolding _>>=_
 two f g k r =
     let x = f r in

@@ -1,12 +1,13 @@
--- Which item starts at a token, in the order of parse_source_item's tests, and what it does there: `item-is`. The code finds the arm by
--- the token here and by the one that says which declaration starts here: `arm-is`.
+-- Which item starts at a token, in the order of parse_source_item's tests, and that it is the arm's function: `item-is`. The code finds
+-- the arm by the token here and by the one that says which declaration starts here (arm-by); that it is the same is `arm-is` in
+-- proofs/Arms.
 -- Assumes nothing.
-use mathlib.Core.Path.{_≡_, refl, sym, _∙_, ap}
+use mathlib.Core.Path.{_≡_, refl}
 use mathlib.Core.Bool.{Bool, true, false, cond, _||_}
 use mathlib.Core.List.{List, [], _∷_}
 use Rattle.lexer.specs.Syntax.{DocComment, At}
 use Rattle.grammar.specs.Words.{Sym, is, ADV-MAP, BEGIN, CONST, ENUM, MOD, NAMESPACE, PROC, TYPE}
-use Rattle.grammar.specs.Look.{oneOf, regular-trivia, at-kind, at-keyword, at-regular-trivia}
+use Rattle.grammar.specs.Look.{regular-trivia, at-kind, at-keyword, at-regular-trivia}
 use Rattle.grammar.specs.Run.{Res, P, peek, pick, _>>=_, if_then_else_}
 use Rattle.grammar.specs.declared.message.Message.{Message}
 use Rattle.grammar.specs.declared.message.ItemMessage.the-variants.{UnexpectedTopLevelToken}
@@ -15,6 +16,7 @@ use Rattle.grammar.specs.Block.{Blocks}
 use Rattle.grammar.specs.Item.{parse-doc-form, parse-namespace, parse-submodule, parse-procedure, parse-begin-block, parse-constant, parse-type-decl, parse-advice-map, at-declaration, at-procedure, parse-source-item}
 use Rattle.items.specs.declared.arm.Arm.{Arm}
 
+-- the tests, in their order
 unfoldable pub arm-of : List Sym → Arm
 arm-of r =
     cond (at-kind DocComment r) Arm.Doc
@@ -28,6 +30,7 @@ arm-of r =
     (cond (at-keyword ADV-MAP r) Arm.AdviceMap
     Arm.Bad))))))))
 
+-- what parse_source_item does in each arm
 unfoldable pub by-arm : Arm → Blocks → P Bool
 by-arm Arm.Doc block = parse-doc-form
 by-arm Arm.Trivia block = bump
@@ -63,7 +66,7 @@ item-is block r =
     (if-arm h (at-declaration (TYPE ∷ ENUM ∷ [])) _ _ r refl
     (if-arm h (at-keyword ADV-MAP) _ _ r refl refl))))))))
 
--- the arm by the token here and the declaration that it starts
+-- the arms behind the first three, by the token k here and the token d that says which declaration starts here
 unfoldable pub declared-arm : Sym → Sym → Arm
 declared-arm k d =
     cond (is MOD d) Arm.Submodule
@@ -74,5 +77,6 @@ declared-arm k d =
     (cond (is ADV-MAP k) Arm.AdviceMap
     Arm.Bad)))))
 
+-- all arms
 unfoldable pub arm-by : Sym → Sym → Arm
 arm-by k d = cond (is DocComment k) Arm.Doc (cond (regular-trivia k) Arm.Trivia (cond (is NAMESPACE k) Arm.Namespace (declared-arm k d)))

@@ -5,7 +5,7 @@ use mathlib.Core.List.{List}
 use Prim.Native.Nat.{ℕ}
 use lib.ListN.{length}
 use Rattle.grammar.specs.Words.{File}
-use Rattle.grammar.specs.Out.{Diag, events as eventsOf, diags as diagsOf}
+use Rattle.grammar.specs.Out.{events as eventsOf, diags as diagsOf}
 use Rattle.parser.specs.Rep.{onto, Base, World, room}
 
 -- control-flow nodes in one another: MAX_CONTROL_FLOW_NESTING

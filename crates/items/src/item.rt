@@ -1,4 +1,4 @@
-// An item, and the whole file.
+// An item, by the token that it starts with.
 use crate::advice_map::parse_advice_map;
 use crate::arm::Arm;
 use crate::arm::arm_here;
@@ -14,16 +14,10 @@ use parser::bump::error_token;
 use parser::cursor::Cursor;
 use parser::cursor::bump;
 use parser::cursor::put;
-use parser::look::eof;
-ghost use Prim.Native.Nat.{_≤_, _^_};
-ghost use lib.ListN.{length};
 ghost use Rattle.grammar.specs.Block.{parse-block};
-ghost use Rattle.grammar.specs.Item.{parse-doc-form, parse-source-item, items-in};
+ghost use Rattle.grammar.specs.Item.{parse-doc-form, parse-source-item};
 ghost use Rattle.parser.specs.Rep.{world, Ready, Ran};
 ghost use Rattle.items.specs.Arms.{by-arm};
-ghost use Rattle.items.specs.Entry.{base, Parsed};
-
-const SOURCE_FILE: u16 = 2;
 
 const DOC: u16 = 3;
 
@@ -87,31 +81,4 @@ pub fn parse_source_item(
 {
     let a = arm_here(kinds, c0.pos);
     parse_arm(kinds, ev, dm, ds, c0, a)
-}
-
-// parse's loop. An item takes a token, which pays for what is beyond 7 times its tokens.
-fn source_items(kinds: &[u16], ev: &mut [u16], dm: &mut [u16], ds: &mut [u32], c0: Cursor) -> Cursor
-    requires { ⌜ Ready (2 ^ 25) (now kinds) c0 ⌝ }
-    ensures { λ r. ⌜ Ran 22 0 0 (now (kinds .entry)) (items-in 256) (world (now (ev .entry)) (now (dm .entry)) (now (ds .entry)) c0) (world (now (ev .exit)) (now (dm .exit)) (now (ds .exit)) r) ⌝ }
-{
-    let mut c = c0;
-    while !eof(kinds, c.pos) {
-        c = parse_source_item(kinds, ev, dm, ds, c);
-    }
-    c
-}
-
-// The whole file, in its root node.
-pub fn parse(kinds: &[u16], ev: &mut [u16], dm: &mut [u16], ds: &mut [u32]) -> Cursor
-    requires { ⌜ length (now kinds) ≤ 2 ^ 20 ⌝ }
-    ensures { λ r. ⌜ Parsed (now (kinds .entry)) (base (now (ev .entry)) (now (dm .entry)) (now (ds .entry))) (world (now (ev .exit)) (now (dm .exit)) (now (ds .exit)) r) ⌝ }
-{
-    let start = Cursor {
-        pos: 0,
-        events: 0,
-        diags: 0,
-    };
-    let a = put(ev, start, SOURCE_FILE);
-    let b = source_items(kinds, ev, dm, ds, a);
-    put(ev, b, 0)
 }

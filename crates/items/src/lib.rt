@@ -3,6 +3,7 @@ pub mod advice_map;
 pub mod arm;
 pub mod attribute;
 pub mod constant;
+pub mod file;
 pub mod item;
 pub mod namespace;
 pub mod parts;

@@ -13,9 +13,9 @@ ghost use Rattle.items.specs.Parts.{keyword-and-name, optional-parens, v
 
 const EQUAL: u16 = 44;
 
-const L_PAREN: u16 = 48;
+pub const L_PAREN: u16 = 48;
 
-const R_PAREN: u16 = 55;
+pub const R_PAREN: u16 = 55;
 
 // A token that must be there, and a name behind it.
 pub fn keyword_and_name(

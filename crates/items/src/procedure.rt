@@ -1,5 +1,6 @@
 // Procedures and the `begin` block.
 use crate::attribute::attributes;
+use crate::parts::L_PAREN;
 use crate::signature::parse_signature;
 use crate::visibility::optional_visibility;
 use blocks::block::parse_block;
@@ -28,8 +29,6 @@ ghost use Rattle.items.specs.Parts.{optional-signature, procedure-header
 const BEGIN_BLOCK: u16 = 13;
 
 const PROCEDURE: u16 = 14;
-
-const L_PAREN: u16 = 48;
 
 // if outcome == FoundTerminator { expect_keyword("end", owner.missing_end_message()) }
 fn closing(

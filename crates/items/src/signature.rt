@@ -1,4 +1,6 @@
 // A procedure's signature.
+use crate::parts::L_PAREN;
+use crate::parts::R_PAREN;
 use forms::line::parse_signature_result_until_line_end;
 use forms::path::parse_balanced_group;
 use grammar::message::Message;
@@ -14,11 +16,7 @@ ghost use Rattle.parser.specs.Rep.{world, Ready, Ran};
 
 const SIGNATURE: u16 = 17;
 
-const L_PAREN: u16 = 48;
-
 const R_ARROW: u16 = 52;
-
-const R_PAREN: u16 = 55;
 
 // parse_signature, behind the arrow
 fn parse_results(

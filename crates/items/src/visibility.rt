@@ -1,4 +1,6 @@
 // A visibility: `pub`, and `package` in parentheses behind it.
+use crate::parts::L_PAREN;
+use crate::parts::R_PAREN;
 use grammar::message::Message;
 use grammar::message::ProcedureMessage;
 use parser::bump::bump_regular_trivia;
@@ -14,10 +16,6 @@ ghost use Rattle.grammar.specs.Item.{package-in-parens, parse-visibility, optio
 ghost use Rattle.parser.specs.Rep.{world, Ready, Ran};
 
 const VISIBILITY: u16 = 16;
-
-const L_PAREN: u16 = 48;
-
-const R_PAREN: u16 = 55;
 
 // parse_visibility, at its parentheses
 fn package_in_parens(

@@ -1,10 +1,10 @@
--- `items::item::parse`: from the empty cursor, the root node around the items. Assumes nothing.
+-- `items::file::parse`: from the empty cursor, the root node around the items. Assumes nothing.
 use mathlib.Core.Path.{_∙_}
 use native.Mathlib.Omega.{arith}
 use Rattle.items.proofs.Whole.{whole}
 use Rattle.parser.proofs.Kit.{node}
-use Rattle.items.proofs.item.parse.Statement.{statement}
-use Rattle.items.proofs.item.parse.Tie as tie
+use Rattle.items.proofs.file.parse.Statement.{statement}
+use Rattle.items.proofs.file.parse.Tie as tie
 
 put-requires : tie.Need-put-requires
 put-requires c κs = omega arith

@@ -1,4 +1,4 @@
--- `items::item::source_items`: the items' loop without fuel; each round takes a token. Assumes nothing.
+-- `items::file::source_items`: the items' loop without fuel; each round takes a token. Assumes nothing.
 use mathlib.Core.Bool.{Bool, true, false, false≢true}
 use mathlib.Core.List.{List, [], _∷_}
 use mathlib.Core.Path.{_≡_, refl, sym, _∙_}
@@ -18,8 +18,8 @@ use Rattle.items.specs.Entry.{limit}
 use Rattle.parser.specs.Rep.{World, world, Went, WentTo}
 use Rattle.parser.proofs.Kit.{like-to, yes-to, no-to, done-to, _then_, _then-to_, begins, goes-on, Held}
 use Rattle.parser.proofs.Laws.{past-here}
-use Rattle.items.proofs.item.source_items.Statement.{statement}
-use Rattle.items.proofs.item.source_items.Tie as tie
+use Rattle.items.proofs.file.source_items.Statement.{statement}
+use Rattle.items.proofs.file.source_items.Tie as tie
 
 abbrev one : P Bool
 one = parse-source-item (parse-block limit)

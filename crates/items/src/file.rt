@@ -1,0 +1,39 @@
+// The whole file.
+use crate::item::parse_source_item;
+use parser::cursor::Cursor;
+use parser::cursor::put;
+use parser::look::eof;
+ghost use Prim.Native.Nat.{_≤_, _^_};
+ghost use lib.ListN.{length};
+ghost use Rattle.grammar.specs.Item.{items-in};
+ghost use Rattle.parser.specs.Rep.{world, Ready, Ran};
+ghost use Rattle.items.specs.Entry.{base, Parsed};
+
+const SOURCE_FILE: u16 = 2;
+
+// parse's loop. An item writes at most 15 more than 7 for each of its tokens, and it takes one: 22 for each pay for all.
+fn source_items(kinds: &[u16], ev: &mut [u16], dm: &mut [u16], ds: &mut [u32], c0: Cursor) -> Cursor
+    requires { ⌜ Ready (2 ^ 25) (now kinds) c0 ⌝ }
+    ensures { λ r. ⌜ Ran 22 0 0 (now (kinds .entry)) (items-in 256) (world (now (ev .entry)) (now (dm .entry)) (now (ds .entry)) c0) (world (now (ev .exit)) (now (dm .exit)) (now (ds .exit)) r) ⌝ }
+{
+    let mut c = c0;
+    while !eof(kinds, c.pos) {
+        c = parse_source_item(kinds, ev, dm, ds, c);
+    }
+    c
+}
+
+// The whole file, in its root node.
+pub fn parse(kinds: &[u16], ev: &mut [u16], dm: &mut [u16], ds: &mut [u32]) -> Cursor
+    requires { ⌜ length (now kinds) ≤ 2 ^ 20 ⌝ }
+    ensures { λ r. ⌜ Parsed (now (kinds .entry)) (base (now (ev .entry)) (now (dm .entry)) (now (ds .entry))) (world (now (ev .exit)) (now (dm .exit)) (now (ds .exit)) r) ⌝ }
+{
+    let start = Cursor {
+        pos: 0,
+        events: 0,
+        diags: 0,
+    };
+    let a = put(ev, start, SOURCE_FILE);
+    let b = source_items(kinds, ev, dm, ds, a);
+    put(ev, b, 0)
+}
