@@ -2,18 +2,14 @@
 //!
 //! `IMITATION` names one fault; without it every answer is right.
 
-use std::{
-    env,
-    io::{self, Read, Write},
-    process::exit,
-    thread,
-    time::Duration,
-};
+#[path = "serve/mod.rs"]
+mod serve;
+
+use std::io::{Read, Write};
+
+use serve::serve;
 
 const MAX_SOURCE: usize = 1_048_576;
-
-/// Answers before the faults `stop` and `hang` show.
-const RIGHT_ANSWERS: usize = 100;
 
 /// A frame and the slices lent for it.
 struct Call {
@@ -23,28 +19,13 @@ struct Call {
 }
 
 fn main() {
-    let fault = env::var("IMITATION").unwrap_or_default();
-    let (mut stdin, mut out) = (io::stdin().lock(), Vec::new());
-    let mut answers = 0;
-    while let Some(mut call) = next_call(&mut stdin) {
-        let (mut status, mut value) = answer(&mut call, &fault);
-        spoil(&fault, &mut call, &mut status, &mut value);
-        write_answer(&mut out, status, value, &call);
-        answers += 1;
-        if answers == RIGHT_ANSWERS {
-            stop_or_hang(&fault);
-        }
-        // Keeps a little back, as a program with a buffer does; the fault `hold` keeps all.
-        if out.len() > 4_000 && fault != "hold" {
-            io::stdout().write_all(&out).unwrap();
-            out.clear();
-        }
-    }
-    if fault == "extra" {
-        out.extend(b"0 0\n\n\n");
-    }
-    io::stdout().write_all(&out).unwrap();
-    exit(if fault == "exit" { 3 } else { 0 });
+    serve(b"0 0\n\n\n", |fault, stdin, out| {
+        let mut call = next_call(stdin)?;
+        let (mut status, mut value) = answer(&mut call, fault);
+        spoil(fault, &mut call, &mut status, &mut value);
+        write_answer(out, status, value, &call);
+        Some(())
+    })
 }
 
 fn next_call(stdin: &mut impl Read) -> Option<Call> {
@@ -80,14 +61,6 @@ fn spoil(fault: &str, call: &mut Call, status: &mut u64, value: &mut u64) {
         "offset" if *status == 2 && *value > 30 => *value += 1,
         "touch" if *status == 2 && room > 0 => call.kinds[0] = 1,
         "accept" if call.source == [0xED, 0xA0, 0x80] => (*status, *value) = (0, 1),
-        _ => {},
-    }
-}
-
-fn stop_or_hang(fault: &str) {
-    match fault {
-        "stop" => exit(0),
-        "hang" => thread::sleep(Duration::from_secs(3600)),
         _ => {},
     }
 }
