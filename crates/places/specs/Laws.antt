@@ -24,7 +24,11 @@ pub place-is : (m : ℕ) (ends : List ℕ) (anchor i : ℕ) → place m ends 0 a
 unfolding start-of stop-of
 place-is m ends anchor i = place-from m ends 0 anchor i
 
--- the starts and the stops of grammar's places
+-- the messages, the starts and the stops of grammar's places
+pub messages-of-places : (ends : List ℕ) (anchor : ℕ) (l : List Diag) → map (λ p. p .msg) (places ends anchor l) ≡ map (λ d. d .msg) l
+messages-of-places ends anchor [] = refl
+messages-of-places ends anchor (d ∷ l) = ap₂ _∷_ (ap (λ (p : Place). p .msg) (place-is (d .msg) ends anchor (d .pos))) (messages-of-places ends anchor l)
+
 pub starts-of-places : (ends : List ℕ) (anchor : ℕ) (l : List Diag) → map (λ p. p .start) (places ends anchor l) ≡ map (start-of ends anchor) (map (λ d. d .pos) l)
 starts-of-places ends anchor [] = refl
 starts-of-places ends anchor (d ∷ l) = ap₂ _∷_ (ap (λ (p : Place). p .start) (place-is (d .msg) ends anchor (d .pos))) (starts-of-places ends anchor l)

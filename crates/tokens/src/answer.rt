@@ -1,23 +1,18 @@
 // One source: its slices filled, the lexer's call, and what is left in the slices.
-use crate::output;
+use frames::fill::fill_u16;
+use frames::fill::fill_u32;
+use frames::output;
 use utf8::Utf8;
-ghost use Rattle.tokens.specs.Ready.{Ready};
+ghost use Rattle.frames.specs.Ready.{Ready};
 
-// Entries that the lexer leaves alone keep this number, in binary 1010...10.
-fn fill_kinds(kinds: &mut [u16]) {
-    let mut i = 0;
-    while i < kinds.len() {
-        kinds[i] = 43690;
-        i += 1;
-    }
-}
-
-fn fill_ends(ends: &mut [u32]) {
-    let mut i = 0;
-    while i < ends.len() {
-        ends[i] = 2863311530;
-        i += 1;
-    }
+// The first line of an answer.
+fn put_status(out: &mut [u8], used: usize, status: usize, value: usize) -> usize
+    requires { ⌜ Ready used (now out) ⌝ }
+    ensures { λ r. ⌜ Ready r (now (out .exit)) ⌝ }
+{
+    let first = output::put_entry(out, used, 0, status);
+    let second = output::put_entry(out, first, 1, value);
+    output::put_byte(out, second, b'\n')
 }
 
 // 1 where the source is too long, 2 and the offset where it is not UTF-8, else 0 and the number of tokens.
@@ -32,13 +27,13 @@ fn tokenize(
     ensures { λ r. ⌜ Ready r (now (out .exit)) ⌝ }
 {
     if 1048576 < source.len() {
-        return output::put_status(out, used, 1, 0);
+        return put_status(out, used, 1, 0);
     }
     match utf8::validate(source) {
-        Utf8::At(n) => output::put_status(out, used, 2, n),
+        Utf8::At(n) => put_status(out, used, 2, n),
         Utf8::Valid => {
             let t = lexer::tokenize(source, kinds, ends);
-            output::put_status(out, used, 0, t)
+            put_status(out, used, 0, t)
         }
     }
 }
@@ -54,9 +49,9 @@ pub fn answer(
     requires { ⌜ Ready used (now out) ⌝ }
     ensures { λ r. ⌜ Ready r (now (out .exit)) ⌝ }
 {
-    fill_kinds(kinds);
-    fill_ends(ends);
+    fill_u16(kinds);
+    fill_u32(ends);
     let first = tokenize(source, kinds, ends, out, used);
-    let second = output::put_kinds(out, first, kinds);
-    output::put_ends(out, second, ends)
+    let second = output::put_u16(out, first, kinds);
+    output::put_u32(out, second, ends)
 }

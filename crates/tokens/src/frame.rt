@@ -1,29 +1,14 @@
 // The frames of the input: three little-endian numbers (bytes of the source, entries of kinds and of ends), then the source.
 use crate::answer;
-use crate::output;
+use frames::header::number;
+use frames::output;
 use libc::STDIN_FILENO;
-ghost use Prim.Native.Nat.{_+_, _≤_, _<_};
-ghost use Rattle.tokens.specs.Ready.{Ready};
+ghost use Rattle.frames.specs.Ready.{Ready};
 
 // How much of the buffer is used, and whether a frame was answered.
 struct Step {
     used: usize,
     more: bool,
-}
-
-fn wide(b: u8) -> usize
-    ensures { λ r. ⌜ r < 256 ⌝ }
-{
-    b as usize
-}
-
-// A number of the header, low byte first.
-fn number(head: &[u8; 12], at: usize) -> usize
-    requires { ⌜ at + 4 ≤ 12 ⌝ }
-{
-    let low = wide(head[at]) + wide(head[at + 1]) * 256;
-    let high = wide(head[at + 2]) + wide(head[at + 3]) * 256;
-    low + high * 65536
 }
 
 // Reads the source and answers it.

@@ -1,7 +1,6 @@
 // Reads framed sources from standard input, and writes what the lexer leaves in its slices.
 mod answer;
 mod frame;
-mod output;
 
 fn main() {
     let mut source = [0u8; 1048577];

@@ -3,7 +3,7 @@ use mathlib.Core.Path.{_≡_}
 use Prim.Native.Nat.{_≤_, _-_}
 use borrow.Author.Needs.{needs}
 use lib.ListN.{length}
-use Rattle.tokens.specs.Ready.{Ready}
+use Rattle.frames.specs.Ready.{Ready}
 use Rattle.tokens.proofs.frame.frames.Statement.{statement}
 use Rattle.tokens.proofs.frame.frames.Tie as tie
 

@@ -1,18 +1,18 @@
--- `tokens::output::put_ends` keeps the buffer ready. Assumes nothing.
+-- `frames::output::put_u32` keeps the buffer ready. Assumes nothing.
 use mathlib.Core.Path.{_≡_}
 use Prim.Native.Nat.{_≤_, _-_}
 use native.Mathlib.Omega.{arith}
 use borrow.Author.Needs.{needs}
 use lib.ListN.{length}
-use Rattle.tokens.specs.Ready.{Ready}
-use Rattle.tokens.proofs.output.put_ends.Statement.{statement}
-use Rattle.tokens.proofs.output.put_ends.Tie as tie
+use Rattle.frames.specs.Ready.{Ready}
+use Rattle.frames.proofs.output.put_u32.Statement.{statement}
+use Rattle.frames.proofs.output.put_u32.Tie as tie
 
 abbrev Inv-loop : tie.InvT-loop
-Inv-loop out₀ used ends at₀ i₀ out at i = Ready at out × (length out ≡ length out₀) × (i ≤ length ends)
+Inv-loop out₀ used row at₀ i₀ out at i = Ready at out × (length out ≡ length out₀) × (i ≤ length row)
 
 abbrev μ-loop : tie.MeasureT-loop
-μ-loop out₀ used ends at₀ i₀ out at i = length ends - i
+μ-loop out₀ used row at₀ i₀ out at i = length row - i
 
 loop-holds : tie.Need-loop-holds Inv-loop μ-loop
 loop-holds c = search needs
@@ -47,8 +47,8 @@ same-length c = search needs
 returns : tie.Need-returns Inv-loop μ-loop
 returns c = search needs
 
-pub put-ends-spec : {M : Type 1} → statement M
-put-ends-spec =
+pub put-u32-spec : {M : Type 1} → statement M
+put-u32-spec =
     tie.close
     (tie.spec
     Inv-loop

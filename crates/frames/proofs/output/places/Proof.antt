@@ -1,8 +1,8 @@
--- `tokens::output::places` ends, with 20 or less. Assumes nothing.
+-- `frames::output::places` ends, with 20 or less. Assumes nothing.
 use Prim.Native.Nat.{_≤_, _-_}
 use borrow.Author.Needs.{needs}
-use Rattle.tokens.proofs.output.places.Statement.{statement}
-use Rattle.tokens.proofs.output.places.Tie as tie
+use Rattle.frames.proofs.output.places.Statement.{statement}
+use Rattle.frames.proofs.output.places.Tie as tie
 
 abbrev Inv-loop : tie.InvT-loop
 Inv-loop n k₀ rest₀ k rest = k ≤ 20

@@ -1,18 +1,18 @@
--- `tokens::output::put_kinds` keeps the buffer ready. Assumes nothing.
+-- `frames::output::put_u16` keeps the buffer ready. Assumes nothing.
 use mathlib.Core.Path.{_≡_}
 use Prim.Native.Nat.{_≤_, _-_}
 use native.Mathlib.Omega.{arith}
 use borrow.Author.Needs.{needs}
 use lib.ListN.{length}
-use Rattle.tokens.specs.Ready.{Ready}
-use Rattle.tokens.proofs.output.put_kinds.Statement.{statement}
-use Rattle.tokens.proofs.output.put_kinds.Tie as tie
+use Rattle.frames.specs.Ready.{Ready}
+use Rattle.frames.proofs.output.put_u16.Statement.{statement}
+use Rattle.frames.proofs.output.put_u16.Tie as tie
 
 abbrev Inv-loop : tie.InvT-loop
-Inv-loop out₀ used kinds at₀ i₀ out at i = Ready at out × (length out ≡ length out₀) × (i ≤ length kinds)
+Inv-loop out₀ used row at₀ i₀ out at i = Ready at out × (length out ≡ length out₀) × (i ≤ length row)
 
 abbrev μ-loop : tie.MeasureT-loop
-μ-loop out₀ used kinds at₀ i₀ out at i = length kinds - i
+μ-loop out₀ used row at₀ i₀ out at i = length row - i
 
 loop-holds : tie.Need-loop-holds Inv-loop μ-loop
 loop-holds c = search needs
@@ -47,8 +47,8 @@ same-length c = search needs
 returns : tie.Need-returns Inv-loop μ-loop
 returns c = search needs
 
-pub put-kinds-spec : {M : Type 1} → statement M
-put-kinds-spec =
+pub put-u16-spec : {M : Type 1} → statement M
+put-u16-spec =
     tie.close
     (tie.spec
     Inv-loop

@@ -1,9 +1,9 @@
--- `tokens::output::put_byte` keeps the buffer ready. Assumes nothing.
+-- `frames::output::put_byte` keeps the buffer ready. Assumes nothing.
 use native.Mathlib.Omega.{arith}
 use borrow.Author.Needs.{needs}
 use lib.ListN.{length-set}
-use Rattle.tokens.proofs.output.put_byte.Statement.{statement}
-use Rattle.tokens.proofs.output.put_byte.Tie as tie
+use Rattle.frames.proofs.output.put_byte.Statement.{statement}
+use Rattle.frames.proofs.output.put_byte.Tie as tie
 
 make-room-requires : tie.Need-make-room-requires
 make-room-requires c κs = search needs

@@ -1,9 +1,9 @@
--- `tokens::output::flush` is safe. Assumes nothing.
+-- `frames::output::flush` is safe. Assumes nothing.
 use mathlib.Core.Path.{sym}
 use borrow.Author.Needs.{needs}
 use lib.Seq.{length-take-le}
-use Rattle.tokens.proofs.output.flush.Statement.{statement}
-use Rattle.tokens.proofs.output.flush.Tie as tie
+use Rattle.frames.proofs.output.flush.Statement.{statement}
+use Rattle.frames.proofs.output.flush.Tie as tie
 
 slice-aggregate-write-all : tie.Need-slice-aggregate-write-all
 slice-aggregate-write-all c = sym (length-take-le _ _ (search needs))

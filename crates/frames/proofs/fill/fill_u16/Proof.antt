@@ -1,26 +1,26 @@
--- `tokens::answer::fill_kinds` is safe and ends. Assumes nothing.
+-- `frames::fill::fill_u16` is safe and ends. Assumes nothing.
 use mathlib.Core.Path.{_≡_}
 use Prim.Native.Nat.{_-_}
 use native.Mathlib.Omega.{arith}
 use borrow.Author.Needs.{needs}
 use lib.ListN.{length, length-set}
-use Rattle.tokens.proofs.answer.fill_kinds.Statement.{statement}
-use Rattle.tokens.proofs.answer.fill_kinds.Tie as tie
+use Rattle.frames.proofs.fill.fill_u16.Statement.{statement}
+use Rattle.frames.proofs.fill.fill_u16.Tie as tie
 
 abbrev Inv-loop : tie.InvT-loop
-Inv-loop kinds₀ i₀ kinds i = length kinds ≡ length kinds₀
+Inv-loop row₀ i₀ row i = length row ≡ length row₀
 
 abbrev μ-loop : tie.MeasureT-loop
-μ-loop kinds₀ i₀ kinds i = length kinds - i
+μ-loop row₀ i₀ row i = length row - i
 
 loop-holds : tie.Need-loop-holds Inv-loop μ-loop
 loop-holds c = search needs
 
-mul-kinds : tie.Need-mul-kinds Inv-loop μ-loop
-mul-kinds c = search needs
+mul-row : tie.Need-mul-row Inv-loop μ-loop
+mul-row c = search needs
 
-slice-write-kinds : tie.Need-slice-write-kinds Inv-loop μ-loop
-slice-write-kinds c = search needs
+slice-write-row : tie.Need-slice-write-row Inv-loop μ-loop
+slice-write-row c = search needs
 
 add-i : tie.Need-add-i Inv-loop μ-loop
 add-i c = search needs
@@ -37,15 +37,15 @@ same-length c = search needs
 returns : tie.Need-returns Inv-loop μ-loop
 returns c = search needs
 
-pub fill-kinds-spec : {M : Type 1} → statement M
-fill-kinds-spec =
+pub fill-u16-spec : {M : Type 1} → statement M
+fill-u16-spec =
     tie.close
     (tie.spec
     Inv-loop
     μ-loop
     loop-holds
-    mul-kinds
-    slice-write-kinds
+    mul-row
+    slice-write-row
     add-i
     loop-less
     loop-again

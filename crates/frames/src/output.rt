@@ -2,7 +2,7 @@
 use libc::STDOUT_FILENO;
 ghost use Prim.Native.Nat.{_+_, _≤_};
 ghost use lib.ListN.{length};
-ghost use Rattle.tokens.specs.Ready.{Ready};
+ghost use Rattle.frames.specs.Ready.{Ready};
 
 pub fn flush(out: &[u8], used: usize)
     requires { ⌜ Ready used (now out) ⌝ }
@@ -22,7 +22,7 @@ fn make_room(out: &[u8], used: usize) -> usize
     0
 }
 
-fn put_byte(out: &mut [u8], used: usize, b: u8) -> usize
+pub fn put_byte(out: &mut [u8], used: usize, b: u8) -> usize
     requires { ⌜ Ready used (now out) ⌝ }
     ensures { λ r. ⌜ Ready r (now (out .exit)) ⌝ }
 {
@@ -71,7 +71,7 @@ fn put_number(out: &mut [u8], used: usize, n: usize) -> usize
 }
 
 // A number of a row: all but the first have a space before them.
-fn put_entry(out: &mut [u8], used: usize, i: usize, n: usize) -> usize
+pub fn put_entry(out: &mut [u8], used: usize, i: usize, n: usize) -> usize
     requires { ⌜ Ready used (now out) ⌝ }
     ensures { λ r. ⌜ Ready r (now (out .exit)) ⌝ }
 {
@@ -83,38 +83,28 @@ fn put_entry(out: &mut [u8], used: usize, i: usize, n: usize) -> usize
 }
 
 // A slice as one line.
-pub fn put_kinds(out: &mut [u8], used: usize, kinds: &[u16]) -> usize
+pub fn put_u16(out: &mut [u8], used: usize, row: &[u16]) -> usize
     requires { ⌜ Ready used (now out) ⌝ }
     ensures { λ r. ⌜ Ready r (now (out .exit)) ⌝ }
 {
     let mut at = used;
     let mut i = 0;
-    while i < kinds.len() {
-        at = put_entry(out, at, i, kinds[i] as usize);
+    while i < row.len() {
+        at = put_entry(out, at, i, row[i] as usize);
         i += 1;
     }
     put_byte(out, at, b'\n')
 }
 
-pub fn put_ends(out: &mut [u8], used: usize, ends: &[u32]) -> usize
+pub fn put_u32(out: &mut [u8], used: usize, row: &[u32]) -> usize
     requires { ⌜ Ready used (now out) ⌝ }
     ensures { λ r. ⌜ Ready r (now (out .exit)) ⌝ }
 {
     let mut at = used;
     let mut i = 0;
-    while i < ends.len() {
-        at = put_entry(out, at, i, ends[i] as usize);
+    while i < row.len() {
+        at = put_entry(out, at, i, row[i] as usize);
         i += 1;
     }
-    put_byte(out, at, b'\n')
-}
-
-// The first line of an answer.
-pub fn put_status(out: &mut [u8], used: usize, status: usize, value: usize) -> usize
-    requires { ⌜ Ready used (now out) ⌝ }
-    ensures { λ r. ⌜ Ready r (now (out .exit)) ⌝ }
-{
-    let at = put_entry(out, used, 0, status);
-    let at = put_entry(out, at, 1, value);
     put_byte(out, at, b'\n')
 }

@@ -1,26 +1,26 @@
--- `tokens::answer::fill_ends` is safe and ends. Assumes nothing.
+-- `frames::fill::fill_u32` is safe and ends. Assumes nothing.
 use mathlib.Core.Path.{_≡_}
 use Prim.Native.Nat.{_-_}
 use native.Mathlib.Omega.{arith}
 use borrow.Author.Needs.{needs}
 use lib.ListN.{length, length-set}
-use Rattle.tokens.proofs.answer.fill_ends.Statement.{statement}
-use Rattle.tokens.proofs.answer.fill_ends.Tie as tie
+use Rattle.frames.proofs.fill.fill_u32.Statement.{statement}
+use Rattle.frames.proofs.fill.fill_u32.Tie as tie
 
 abbrev Inv-loop : tie.InvT-loop
-Inv-loop ends₀ i₀ ends i = length ends ≡ length ends₀
+Inv-loop row₀ i₀ row i = length row ≡ length row₀
 
 abbrev μ-loop : tie.MeasureT-loop
-μ-loop ends₀ i₀ ends i = length ends - i
+μ-loop row₀ i₀ row i = length row - i
 
 loop-holds : tie.Need-loop-holds Inv-loop μ-loop
 loop-holds c = search needs
 
-mul-ends : tie.Need-mul-ends Inv-loop μ-loop
-mul-ends c = search needs
+mul-row : tie.Need-mul-row Inv-loop μ-loop
+mul-row c = search needs
 
-slice-write-ends : tie.Need-slice-write-ends Inv-loop μ-loop
-slice-write-ends c = search needs
+slice-write-row : tie.Need-slice-write-row Inv-loop μ-loop
+slice-write-row c = search needs
 
 add-i : tie.Need-add-i Inv-loop μ-loop
 add-i c = search needs
@@ -37,15 +37,15 @@ same-length c = search needs
 returns : tie.Need-returns Inv-loop μ-loop
 returns c = search needs
 
-pub fill-ends-spec : {M : Type 1} → statement M
-fill-ends-spec =
+pub fill-u32-spec : {M : Type 1} → statement M
+fill-u32-spec =
     tie.close
     (tie.spec
     Inv-loop
     μ-loop
     loop-holds
-    mul-ends
-    slice-write-ends
+    mul-row
+    slice-write-row
     add-i
     loop-less
     loop-again

@@ -1,10 +1,10 @@
--- `tokens::output::put_digits` is safe and ends. Assumes nothing.
+-- `frames::output::put_digits` is safe and ends. Assumes nothing.
 use mathlib.Core.Path.{_≡_}
 use Prim.Native.Nat.{_≤_}
 use borrow.Author.Needs.{needs}
 use lib.ListN.{length, length-set}
-use Rattle.tokens.proofs.output.put_digits.Statement.{statement}
-use Rattle.tokens.proofs.output.put_digits.Tie as tie
+use Rattle.frames.proofs.output.put_digits.Statement.{statement}
+use Rattle.frames.proofs.output.put_digits.Tie as tie
 
 abbrev Inv-loop : tie.InvT-loop
 Inv-loop out₀ at k n rest₀ left₀ out rest left = (length out ≡ length out₀) × (left ≤ k)

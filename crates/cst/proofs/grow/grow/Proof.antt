@@ -1,0 +1,63 @@
+-- `cst::grow::grow` meets its contract: the grammar, the marks taken off, and the places. Assumes nothing.
+use native.Mathlib.Omega.{arith}
+use mathlib.Core.Path.{ap}
+use lib.ListN.{length, length-map}
+use Rattle.lexer.specs.Lexer.{tokenize}
+use Rattle.lexer.specs.Laws.{few-tokens}
+use Rattle.grammar.specs.Source.{sym}
+use Rattle.cst.specs.Laws.{last-within, grown}
+use borrow.Author.Needs.{needs}
+use Rattle.cst.proofs.grow.grow.Statement.{statement}
+use Rattle.cst.proofs.grow.grow.Tie as tie
+
+parse-requires : tie.Need-parse-requires
+parse-requires c κs =
+    let c₁ = c .before .before .before .before .before .before .before .before .before .before .before in
+    let source = c₁ .args .source .now in
+    omega (arith, c₁ .pre .0, ap length (c₁ .pre .2), length-map (tokenize source) sym, few-tokens source)
+
+unmark-requires : tie.Need-unmark-requires
+unmark-requires c κs = search needs
+
+last-char-requires : tie.Need-last-char-requires
+last-char-requires c κs = search needs
+
+places-requires : tie.Need-places-requires
+places-requires c κs =
+    let c₁ = c .before .before .before .before .before .before .before .before .before .before .before .before .before .before .before .before .before .before .before .before .before .before .before .before .before in
+    (omega (arith, c₁ .pre .0, last-within (c₁ .args .source .now), c .before .before .last-char .ensures), omega (arith, c₁ .pre .5))
+
+same-length : tie.Need-same-length
+same-length c = search needs
+
+same-length-2 : tie.Need-same-length-2
+same-length-2 c = search needs
+
+same-length-3 : tie.Need-same-length-3
+same-length-3 c = search needs
+
+same-length-4 : tie.Need-same-length-4
+same-length-4 c = search needs
+
+same-length-5 : tie.Need-same-length-5
+same-length-5 c = search needs
+
+returns : tie.Need-returns
+returns c =
+    let c₁ = c .before .before .before .before .before .before .before .before .before .before .before .before .before .before .before .before .before .before .before .before .before .before .before .before .before .before .before .before .before .before in
+    grown (c₁ .args .source .now) _ _ _ _ _ _ _ _ _ _ _ _ _ _ (c₁ .pre .2) (c₁ .pre .3) (c .before .before .before .before .before .before .before .last-char .ensures) (c₁ .pre .4) (c₁ .pre .5) (c .before .before .before .before .before .before .before .before .before .before .before .before .before .before .before .before .before .before .parse .ensures) (c .before .before .before .before .before .before .before .before .before .before .unmark .ensures) (c .before .before .before .before .places .ensures)
+
+pub grow-spec : {M : Type 1} → statement M
+grow-spec =
+    tie.close
+    (tie.spec
+    parse-requires
+    unmark-requires
+    last-char-requires
+    places-requires
+    same-length
+    same-length-2
+    same-length-3
+    same-length-4
+    same-length-5
+    returns)

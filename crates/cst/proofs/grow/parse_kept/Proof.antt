@@ -1,0 +1,128 @@
+-- `cst::grow::parse_kept` meets its contract: the slices of diagnostics are lent as far as the shortest goes. Assumes nothing.
+use Prim.Native.Nat.{ℕ, _≤_, min}
+use mathlib.Core.Path.{_≡_, refl, sym, ap, _∙_}
+use mathlib.Core.Bool.{cond, _||_}
+use mathlib.Core.List.{List, [], _∷_, _++_, map}
+use native.Mathlib.Omega.{arith}
+use lib.Dec.{ltb}
+use lib.ListN.{length, take, drop, length-map}
+use lib.Seq.{length-take-le}
+use Rattle.lexer.specs.Lexer.{tokenize}
+use Rattle.lexer.specs.Over.{over, fit, in-room, length-over}
+use Rattle.grammar.specs.Source.{sym as symOf, symbols}
+use Rattle.cst.specs.declared.grow.Counts.{Counts}
+use Rattle.cst.specs.declared.Answer.{Answer}
+use Rattle.cst.specs.declared.Answer.the-variants.{OutputRoom, Accepted}
+use Rattle.cst.specs.Answer.{slices, diagnostic-room, grown, events-of, places-of}
+use Rattle.cst.specs.Parts.{Grown, Left}
+use Rattle.cst.specs.Laws.{over-fit}
+use borrow.Author.Needs.{needs}
+use Rattle.cst.proofs.grow.parse_kept.Statement.{statement}
+use Rattle.cst.proofs.grow.parse_kept.Tie as tie
+
+-- what a lent part gives back to its slice
+given-back : (l l′ vs : List ℕ) (room : ℕ) → room ≤ length l → l′ ≡ over (take room l) 0 vs → l′ ++ drop room l ≡ fit room vs l
+given-back l l′ vs room h e = ap (λ (k : List ℕ). k ++ drop room l) e ∙ in-room l vs room h
+
+module _ (source kinds ends ev dm ds de : List ℕ) where
+  abbrev room : ℕ
+  room = diagnostic-room (slices kinds ends ev dm ds de)
+
+  whole : (n : ℕ) (k : Counts) (r : Answer) (kinds′ ev′ dm′ ds′ de′ : List ℕ) → kinds ≡ symbols source → n ≡ room
+      → Grown source ev (take n dm) (take n ds) (take n de) k kinds′ ev′ dm′ ds′ de′
+      → r ≡ cond (ltb (length ev′) (k .events) || ltb n (k .diagnostics)) OutputRoom Accepted (length kinds) (k .events) (k .diagnostics)
+      → Left source (grown source (slices kinds ends ev dm ds de)) r kinds′ ev′ (dm′ ++ drop n dm) (ds′ ++ drop n ds) (de′ ++ drop n de)
+  unfolding grown
+  whole n k r kinds′ ev′ dm′ ds′ de′ e m g a =
+      let tokens : length kinds ≡ length (tokenize source) = ap length e ∙ length-map (tokenize source) symOf in
+      let event-room : length ev′ ≡ length ev = ap length (g .events-are) ∙ length-over ev 0 (events-of source) in
+      record {
+        answer-is = a ∙ rw (tokens, event-room, m, g .event-count, g .diagnostic-count) refl;
+        kinds-are = g .kinds-are;
+        events-are = g .events-are ∙ over-fit ev (events-of source);
+        messages-are = given-back dm dm′ _ n (omega arith) (g .messages-are) ∙ ap (λ (i : ℕ). fit i (map (λ p. p .msg) (places-of source)) dm) m;
+        starts-are = given-back ds ds′ _ n (omega arith) (g .starts-are) ∙ ap (λ (i : ℕ). fit i (map (λ p. p .start) (places-of source)) ds) m;
+        stops-are = given-back de de′ _ n (omega arith) (g .stops-are) ∙ ap (λ (i : ℕ). fit i (map (λ p. p .stop) (places-of source)) de) m;
+      }
+
+least-requires : tie.Need-least-requires
+least-requires c κs = search needs
+
+least-requires-2 : tie.Need-least-requires-2
+least-requires-2 c κs = search needs
+
+slice-relend-prefix-grow : tie.Need-slice-relend-prefix-grow
+slice-relend-prefix-grow c = search needs
+
+slice-aggregate-grow : tie.Need-slice-aggregate-grow
+slice-aggregate-grow c = sym (length-take-le _ _ (omega (arith, c .before .before .before .before .least .ensures, c .before .before .before .least2 .ensures)))
+
+slice-relend-prefix-grow-2 : tie.Need-slice-relend-prefix-grow-2
+slice-relend-prefix-grow-2 c = search needs
+
+slice-aggregate-grow-2 : tie.Need-slice-aggregate-grow-2
+slice-aggregate-grow-2 c = sym (length-take-le _ _ (omega (arith, c .before .before .before .before .before .least .ensures, c .before .before .before .before .least2 .ensures)))
+
+slice-relend-prefix-grow-3 : tie.Need-slice-relend-prefix-grow-3
+slice-relend-prefix-grow-3 c = search needs
+
+slice-aggregate-grow-3 : tie.Need-slice-aggregate-grow-3
+slice-aggregate-grow-3 c = sym (length-take-le _ _ (omega (arith, c .before .before .before .before .before .before .least .ensures, c .before .before .before .before .before .least2 .ensures)))
+
+grow-requires : tie.Need-grow-requires
+grow-requires c κs =
+    let c₁ = c .before .before .before .before .before .before .before .before .before .before .before .before .before .before in
+    let a = c₁ .args in
+    let n = c .before .before .before .before .before .least2 .result in
+    let l = c .before .before .before .before .before .before .least .ensures in
+    let m = c .before .before .before .before .before .least2 .ensures in
+    let dm = length-take-le n (a .messages .now) (omega arith) in
+    let ds = length-take-le n (a .starts .now) (omega arith) in
+    let de = length-take-le n (a .stops .now) (omega arith) in
+    (c₁ .pre .0, c₁ .pre .1, c₁ .pre .2, c₁ .pre .3, dm ∙ sym ds, ds ∙ sym de)
+
+fitted-requires : tie.Need-fitted-requires
+fitted-requires c κs = search needs
+
+same-length : tie.Need-same-length
+same-length c = search needs
+
+same-length-2 : tie.Need-same-length-2
+same-length-2 c = search needs
+
+same-length-3 : tie.Need-same-length-3
+same-length-3 c = search needs
+
+same-length-4 : tie.Need-same-length-4
+same-length-4 c = search needs
+
+same-length-5 : tie.Need-same-length-5
+same-length-5 c = search needs
+
+returns : tie.Need-returns
+returns c =
+    let c₁ = c .before .before .before .before .before .before .before .before .before .before .before .before .before .before .before .before .before .before .before .before .before .before .before .before .before .before in
+    let a = c₁ .args in
+    whole (a .source .now) (a .kinds .now) (a .ends .now) (a .events .now) (a .messages .now) (a .starts .now) (a .stops .now)
+    _ _ _ _ _ _ _ _ (c₁ .pre .2) (omega (arith, c .before .before .before .before .before .before .before .before .before .before .before .before .before .before .before .before .before .before .least .ensures, c .before .before .before .before .before .before .before .before .before .before .before .before .before .before .before .before .before .least2 .ensures)) (c .before .before .before .before .before .before .before .before .before .before .before .grow .ensures) (c .fitted .ensures)
+
+pub parse-kept-spec : {M : Type 1} → statement M
+parse-kept-spec =
+    tie.close
+    (tie.spec
+    least-requires
+    least-requires-2
+    slice-relend-prefix-grow
+    slice-aggregate-grow
+    slice-relend-prefix-grow-2
+    slice-aggregate-grow-2
+    slice-relend-prefix-grow-3
+    slice-aggregate-grow-3
+    grow-requires
+    fitted-requires
+    same-length
+    same-length-2
+    same-length-3
+    same-length-4
+    same-length-5
+    returns)

@@ -1,0 +1,85 @@
+-- `cst::parse_text` meets its contract, by the length and by what UTF-8 says. Assumes nothing.
+use Prim.Native.Nat.{ℕ, _≤_, _<_}
+use mathlib.Core.Path.{_≡_, refl, sym, _∙_}
+use mathlib.Core.List.{List}
+use borrow.Author.Tests.{lt-ltb, le-ltb}
+use lib.ListN.{length}
+use Rattle.utf8.specs.declared.Utf8.the-variants.{Valid, At}
+use Rattle.utf8.specs.Validate.{validate}
+use Rattle.utf8.specs.Laws.{accepted}
+use Rattle.cst.specs.declared.Answer.the-variants.{TooLong, NotUtf8}
+use Rattle.cst.specs.Answer.{Slices, Outcome, outcome, lexed, checked, parse-text}
+use borrow.Author.Needs.{needs}
+use Rattle.cst.proofs.parse_text.Statement.{statement}
+use Rattle.cst.proofs.parse_text.Tie as tie
+
+module _ (source : List ℕ) (s : Slices) where
+  too-long : 1048576 < length source → outcome TooLong s ≡ parse-text source s
+  unfolding parse-text
+  too-long h = rw (lt-ltb 1048576 (length source) h) refl
+
+  module _ (h : length source ≤ 1048576) where
+    not-utf8 : (n : ℕ) → validate source ≡ At n → outcome (NotUtf8 n) s ≡ parse-text source s
+    unfolding parse-text checked
+    not-utf8 n v = rw (le-ltb 1048576 (length source) h, v) refl
+
+    goes-on : {o : Outcome} → validate source ≡ Valid → o ≡ lexed source s → o ≡ parse-text source s
+    unfolding parse-text checked
+    goes-on v e = e ∙ rw (le-ltb 1048576 (length source) h, v) refl
+
+returns : tie.Need-returns
+returns c = too-long _ _ (c .if1 .taken)
+
+validate-requires : tie.Need-validate-requires
+validate-requires c κs = search needs
+
+enum-known-found : tie.Need-enum-known-found
+enum-known-found c = search needs
+
+enum-told : tie.Need-enum-told
+enum-told c = search needs
+
+parse-valid-requires : tie.Need-parse-valid-requires
+parse-valid-requires c κs = (c .before .before .before .before .before .before .before .before .before .if1 .left, accepted _ (sym (c .before .before .before .before .before .before .before .before .validate .ensures) ∙ c .before .before .before .before .before .before .enum-told .given .1))
+
+returns-2 : tie.Need-returns-2
+returns-2 c = not-utf8 _ _ (c .before .before .before .before .if1 .left) _ (sym (c .before .before .before .validate .ensures) ∙ c .before .found .given .1)
+
+same-length : tie.Need-same-length
+same-length c = search needs
+
+same-length-2 : tie.Need-same-length-2
+same-length-2 c = search needs
+
+same-length-3 : tie.Need-same-length-3
+same-length-3 c = search needs
+
+same-length-4 : tie.Need-same-length-4
+same-length-4 c = search needs
+
+same-length-5 : tie.Need-same-length-5
+same-length-5 c = search needs
+
+same-length-6 : tie.Need-same-length-6
+same-length-6 c = search needs
+
+returns-3 : tie.Need-returns-3
+returns-3 c = goes-on _ _ (c .before .before .before .before .before .before .before .before .before .before .before .before .before .before .before .before .before .before .before .before .before .before .if1 .left) (sym (c .before .before .before .before .before .before .before .before .before .before .before .before .before .before .before .before .before .before .before .before .before .validate .ensures) ∙ c .before .before .before .before .before .before .before .before .before .before .before .before .before .before .before .before .before .before .before .enum-told .given .1) (c .before .before .before .before .before .before .before .before .before .before .before .before .parse-valid .ensures)
+
+pub parse-text-spec : {M : Type 1} → statement M
+parse-text-spec =
+    tie.close
+    (tie.spec
+    returns
+    validate-requires
+    enum-known-found
+    enum-told
+    parse-valid-requires
+    returns-2
+    same-length
+    same-length-2
+    same-length-3
+    same-length-4
+    same-length-5
+    same-length-6
+    returns-3)

@@ -1,0 +1,161 @@
+-- `cst::parse_valid` meets its contract, by whether the tokens have room. Assumes nothing.
+use Prim.Native.Nat.{ℕ, _≤_, _<_}
+use mathlib.Core.Path.{_≡_, refl, sym, ap, _∙_}
+use mathlib.Core.List.{List, _++_}
+use native.Mathlib.Omega.{arith}
+use borrow.Author.Tests.{lt-ltb, le-ltb}
+use lib.ListN.{length, take, drop, length-map, take-append-drop}
+use lib.Seq.{length-take-le, take-all, take-at}
+use Rattle.lexer.specs.Lexer.{tokenize}
+use Rattle.lexer.specs.Over.{fit}
+use Rattle.lexer.specs.Tokens.{kindOf, room, token-kinds, token-ends, Tokenized}
+use Rattle.lexer.specs.Laws.{length-ends}
+use Rattle.marks.specs.declared.Refusal.{Refusal}
+use Rattle.marks.specs.declared.Refusal.the-variants.{Nothing, At}
+use Rattle.marks.specs.Marks.{first-refused}
+use Rattle.cst.specs.declared.Answer.{Answer}
+use Rattle.cst.specs.declared.Answer.the-variants.{TokenRoom}
+use Rattle.cst.specs.Answer.{slices, outcome, grown, kept, lexed}
+use Rattle.cst.specs.Parts.{Left}
+use borrow.Author.Needs.{needs}
+use Rattle.cst.proofs.parse_valid.Statement.{statement}
+use Rattle.cst.proofs.parse_valid.Tie as tie
+
+-- all of vs had room: they stand first
+first : (r t : ℕ) (vs l l′ : List ℕ) → l′ ≡ fit r vs l → length vs ≡ t → t ≤ r → take t l′ ≡ vs
+first r t vs l l′ e n h =
+    ap (take t) e ∙ ap (λ (k : List ℕ). take t (k ++ drop (length k) l)) (take-all r vs (omega arith)) ∙ take-at vs (drop (length vs) l) t n
+
+-- and written once more they change nothing
+again : (t : ℕ) (vs l₁ l₂ : List ℕ) → take t l₁ ≡ vs → l₂ ≡ vs → l₂ ++ drop t l₁ ≡ l₁
+again t vs l₁ l₂ e f = ap (λ (k : List ℕ). k ++ drop t l₁) (f ∙ sym e) ∙ take-append-drop t l₁
+
+module _ (source kinds ends ev dm ds de : List ℕ) (t : ℕ) (kinds₁ ends₁ : List ℕ) (lex : Tokenized source kinds ends t kinds₁ ends₁) where
+  too-many : room kinds ends < t → outcome (TokenRoom t) (slices kinds₁ ends₁ ev dm ds de) ≡ lexed source (slices kinds ends ev dm ds de)
+  unfolding lexed
+  too-many h = rw (sym (lex .count-is), lt-ltb (room kinds ends) t h, lex .kinds-are, lex .ends-are) refl
+
+  module _ (h : t ≤ room kinds ends) where
+    all-kinds : take t kinds₁ ≡ token-kinds source
+    all-kinds = first (room kinds ends) t (token-kinds source) kinds kinds₁ (lex .kinds-are) (length-map (tokenize source) kindOf ∙ sym (lex .count-is)) h
+
+    all-ends : take t ends₁ ≡ token-ends source
+    all-ends = first (room kinds ends) t (token-ends source) ends ends₁ (lex .ends-are) (length-ends 0 (tokenize source) ∙ sym (lex .count-is)) h
+
+    by-refusal : (q : Refusal) (k e : List ℕ) {r : Answer} {kinds₂ ev′ dm′ ds′ de′ : List ℕ}
+        → Left source (kept q source (slices k e ev dm ds de)) r kinds₂ ev′ dm′ ds′ de′
+        → outcome r (slices (kinds₂ ++ drop t kinds₁) ends₁ ev′ dm′ ds′ de′) ≡ kept q source (slices kinds ends ev dm ds de)
+    unfolding kept grown
+    by-refusal Nothing k e {kinds₂} l =
+        rw (
+          again t (token-kinds source) kinds₁ kinds₂ all-kinds (l .kinds-are),
+          lex .kinds-are,
+          lex .ends-are,
+          l .answer-is,
+          l .events-are,
+          l .messages-are,
+          l .starts-are,
+          l .stops-are,
+        )
+        refl
+    by-refusal (At n) k e {kinds₂} l =
+        rw (
+          again t (token-kinds source) kinds₁ kinds₂ all-kinds (l .kinds-are),
+          lex .kinds-are,
+          lex .ends-are,
+          l .answer-is,
+          l .events-are,
+          l .messages-are,
+          l .starts-are,
+          l .stops-are,
+        )
+        refl
+
+    enough : (k e : List ℕ) {r : Answer} {kinds₂ ev′ dm′ ds′ de′ : List ℕ}
+        → Left source (kept (first-refused 0 (tokenize source)) source (slices k e ev dm ds de)) r kinds₂ ev′ dm′ ds′ de′
+        → outcome r (slices (kinds₂ ++ drop t kinds₁) ends₁ ev′ dm′ ds′ de′) ≡ lexed source (slices kinds ends ev dm ds de)
+    unfolding lexed
+    enough k e l =
+        by-refusal (first-refused 0 (tokenize source)) k e l
+        ∙ rw (sym (lex .count-is), le-ltb (room kinds ends) t h) refl
+
+tokenize-requires : tie.Need-tokenize-requires
+tokenize-requires c κs = search needs
+
+least-requires : tie.Need-least-requires
+least-requires c κs = search needs
+
+same-length : tie.Need-same-length
+same-length c = search needs
+
+same-length-2 : tie.Need-same-length-2
+same-length-2 c = search needs
+
+returns : tie.Need-returns
+returns c =
+    let a = c .before .before .before .before .before .before .before .before .before .before .before .before .before .before .before .before .args in
+    too-many (a .source .now) (a .kinds .now) (a .ends .now) (a .events .now) (a .messages .now) (a .starts .now) (a .stops .now) _ _ _ (c .before .before .before .before .before .before .tokenize .ensures) (omega (arith, c .if1 .taken, c .before .least .ensures, c .before .before .before .before .before .before .tokenize .kept))
+
+slice-relend-prefix-parse-tokens : tie.Need-slice-relend-prefix-parse-tokens
+slice-relend-prefix-parse-tokens c = search needs
+
+slice-aggregate-parse-tokens : tie.Need-slice-aggregate-parse-tokens
+slice-aggregate-parse-tokens c = sym (length-take-le _ _ (omega (arith, c .before .if1 .left, c .before .before .least .ensures)))
+
+slice-reshare-prefix-parse-tokens : tie.Need-slice-reshare-prefix-parse-tokens
+slice-reshare-prefix-parse-tokens c = search needs
+
+slice-aggregate-parse-tokens-2 : tie.Need-slice-aggregate-parse-tokens-2
+slice-aggregate-parse-tokens-2 c = sym (length-take-le _ _ (omega (arith, c .before .before .if1 .left, c .before .before .before .least .ensures)))
+
+parse-tokens-requires : tie.Need-parse-tokens-requires
+parse-tokens-requires c κs =
+    let c₁ = c .before .before .before .before .before .before .before .before .before .before .before .before .before .before .before .before .before .before .before .before .before .before in
+    let a = c₁ .args in
+    let h : c .before .before .before .before .before .before .before .before .before .before .before .before .tokenize .result ≤ room (a .kinds .now) (a .ends .now) = omega (arith, c .before .before .before .before .before .before .if1 .left, c .before .before .before .before .before .before .before .least .ensures, c .before .before .before .before .before .before .before .before .before .before .before .before .tokenize .kept) in
+    (c₁ .pre .0, c₁ .pre .1, all-kinds (a .source .now) (a .kinds .now) (a .ends .now) (a .events .now) (a .messages .now) (a .starts .now) (a .stops .now) _ _ _ (c .before .before .before .before .before .before .before .before .before .before .before .before .tokenize .ensures) h, all-ends (a .source .now) (a .kinds .now) (a .ends .now) (a .events .now) (a .messages .now) (a .starts .now) (a .stops .now) _ _ _ (c .before .before .before .before .before .before .before .before .before .before .before .before .tokenize .ensures) h)
+
+same-length-3 : tie.Need-same-length-3
+same-length-3 c = search needs
+
+same-length-4 : tie.Need-same-length-4
+same-length-4 c = search needs
+
+same-length-5 : tie.Need-same-length-5
+same-length-5 c = search needs
+
+same-length-6 : tie.Need-same-length-6
+same-length-6 c = search needs
+
+same-length-7 : tie.Need-same-length-7
+same-length-7 c = search needs
+
+same-length-8 : tie.Need-same-length-8
+same-length-8 c = search needs
+
+returns-2 : tie.Need-returns-2
+returns-2 c =
+    let a = c .before .before .before .before .before .before .before .before .before .before .before .before .before .before .before .before .before .before .before .before .before .before .before .before .before .before .before .before .before .before .before .before .before .args in
+    enough (a .source .now) (a .kinds .now) (a .ends .now) (a .events .now) (a .messages .now) (a .starts .now) (a .stops .now) _ _ _ (c .before .before .before .before .before .before .before .before .before .before .before .before .before .before .before .before .before .before .before .before .before .before .before .tokenize .ensures) (omega (arith, c .before .before .before .before .before .before .before .before .before .before .before .before .before .before .before .before .before .if1 .left, c .before .before .before .before .before .before .before .before .before .before .before .before .before .before .before .before .before .before .least .ensures, c .before .before .before .before .before .before .before .before .before .before .before .before .before .before .before .before .before .before .before .before .before .before .before .tokenize .kept)) _ _ (c .before .before .before .before .before .before .before .before .before .before .parse-tokens .ensures)
+
+pub parse-valid-spec : {M : Type 1} → statement M
+parse-valid-spec =
+    tie.close
+    (tie.spec
+    tokenize-requires
+    least-requires
+    same-length
+    same-length-2
+    returns
+    slice-relend-prefix-parse-tokens
+    slice-aggregate-parse-tokens
+    slice-reshare-prefix-parse-tokens
+    slice-aggregate-parse-tokens-2
+    parse-tokens-requires
+    same-length-3
+    same-length-4
+    same-length-5
+    same-length-6
+    same-length-7
+    same-length-8
+    returns-2)

@@ -1,0 +1,111 @@
+-- What a reading answers and leaves in the slices: document 01's table, in its order.
+-- Assumes nothing: these are definitions.
+use Prim.Native.Nat.{ℕ, min}
+use mathlib.Core.Path.{_≡_}
+use mathlib.Core.Bool.{Bool, true, false, cond, _||_}
+use mathlib.Core.List.{List, [], _∷_, map}
+use lib.Dec.{ltb}
+use lib.ListN.{length}
+use Rattle.utf8.specs.declared.Utf8.{Utf8}
+use Rattle.utf8.specs.declared.Utf8.the-variants.{Valid, At}
+use Rattle.utf8.specs.Validate.{validate}
+use Rattle.lexer.specs.Lexer.{tokenize}
+use Rattle.lexer.specs.Over.{fit}
+use Rattle.lexer.specs.Tokens.{token-kinds, token-ends}
+use Rattle.grammar.specs.Out.{Place}
+use Rattle.grammar.specs.Source.{source-events, source-places}
+use Rattle.items.specs.Entry.{limit}
+use Rattle.marks.specs.declared.Refusal.{Refusal}
+use Rattle.marks.specs.declared.Refusal.the-variants as refusal
+use Rattle.marks.specs.Marks.{first-refused}
+use Rattle.cst.specs.declared.Answer.{Answer}
+use Rattle.cst.specs.declared.Answer.the-variants.{TooLong, NotUtf8, TokenRoom, Refused, OutputRoom, Accepted}
+
+-- The six slices: kinds and ends of tokens, events, and messages, starts and stops of diagnostics.
+pub record Slices : Type 0 where
+  pub kinds : List ℕ
+  pub ends : List ℕ
+  pub events : List ℕ
+  pub messages : List ℕ
+  pub starts : List ℕ
+  pub stops : List ℕ
+
+abbrev pub slices : List ℕ → List ℕ → List ℕ → List ℕ → List ℕ → List ℕ → Slices
+slices kinds ends events messages starts stops = record { kinds = kinds; ends = ends; events = events; messages = messages; starts = starts; stops = stops }
+
+abbrev pub token-room : Slices → ℕ
+token-room s = min (length (s .kinds)) (length (s .ends))
+
+abbrev pub diagnostic-room : Slices → ℕ
+diagnostic-room s = min (min (length (s .messages)) (length (s .starts))) (length (s .stops))
+
+abbrev pub events-of : List ℕ → List ℕ
+events-of source = source-events limit source
+
+abbrev pub places-of : List ℕ → List Place
+places-of source = source-places limit source
+
+-- the tokens that fit
+abbrev pub with-tokens : List ℕ → Slices → Slices
+with-tokens source s = record {
+  kinds = fit (token-room s) (token-kinds source) (s .kinds);
+  ends = fit (token-room s) (token-ends source) (s .ends);
+  events = s .events;
+  messages = s .messages;
+  starts = s .starts;
+  stops = s .stops;
+}
+
+-- and the events and diagnostics that fit
+abbrev pub with-all : List ℕ → Slices → Slices
+with-all source s = record {
+  kinds = with-tokens source s .kinds;
+  ends = with-tokens source s .ends;
+  events = fit (length (s .events)) (events-of source) (s .events);
+  messages = fit (diagnostic-room s) (map (λ p. p .msg) (places-of source)) (s .messages);
+  starts = fit (diagnostic-room s) (map (λ p. p .start) (places-of source)) (s .starts);
+  stops = fit (diagnostic-room s) (map (λ p. p .stop) (places-of source)) (s .stops);
+}
+
+pub record Outcome : Type 0 where
+  pub answer : Answer
+  pub slices : Slices
+
+abbrev pub outcome : Answer → Slices → Outcome
+outcome a s = record { answer = a; slices = s }
+
+-- one of E events or D diagnostics is above its room
+abbrev pub short : List ℕ → Slices → Bool
+short source s = ltb (length (s .events)) (length (events-of source)) || ltb (diagnostic-room s) (length (places-of source))
+
+unfoldable pub grown : List ℕ → Slices → Outcome
+grown source s =
+    outcome (cond (short source s) OutputRoom Accepted (length (tokenize source)) (length (events-of source)) (length (places-of source)))
+    (with-all source s)
+
+unfoldable pub kept : Refusal → List ℕ → Slices → Outcome
+kept refusal.Nothing source s = grown source s
+kept (refusal.At n) source s = outcome (Refused n) (with-tokens source s)
+
+unfoldable pub lexed : List ℕ → Slices → Outcome
+lexed source s =
+    cond (ltb (token-room s) (length (tokenize source)))
+    (outcome (TokenRoom (length (tokenize source))) (with-tokens source s))
+    (kept (first-refused 0 (tokenize source)) source s)
+
+unfoldable pub checked : Utf8 → List ℕ → Slices → Outcome
+checked Valid source s = lexed source s
+checked (At n) source s = outcome (NotUtf8 n) s
+
+-- The reading of any bytes into any slices.
+unfoldable pub parse-text : List ℕ → Slices → Outcome
+parse-text source s = cond (ltb 1048576 (length source)) (outcome TooLong s) (checked (validate source) source s)
+
+-- document 01's four numbers of an answer
+abbrev pub numbers : Answer → List ℕ
+numbers TooLong = 1 ∷ 0 ∷ 0 ∷ 0 ∷ []
+numbers (NotUtf8 n) = 2 ∷ n ∷ 0 ∷ 0 ∷ []
+numbers (TokenRoom t) = 3 ∷ t ∷ 0 ∷ 0 ∷ []
+numbers (Refused n) = 4 ∷ n ∷ 0 ∷ 0 ∷ []
+numbers (OutputRoom t e d) = 5 ∷ t ∷ e ∷ d ∷ []
+numbers (Accepted t e d) = 0 ∷ t ∷ e ∷ d ∷ []

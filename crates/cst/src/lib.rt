@@ -1,0 +1,73 @@
+// The reading of a source into lent slices: UTF-8, lexer, words, grammar, places.
+use utf8::Utf8;
+ghost use mathlib.Core.Path.{_≡_};
+ghost use Prim.Native.Nat.{_≤_};
+ghost use lib.ListN.{length};
+ghost use Rattle.utf8.specs.WellFormed.{WellFormed};
+ghost use Rattle.cst.specs.Answer.{slices, outcome, lexed, parse-text};
+
+mod grow;
+
+// Document 01's answers with their values; `numbers` of specs/Answer gives the numbers.
+pub enum Answer {
+    TooLong,
+    NotUtf8(usize),
+    TokenRoom(usize),
+    Refused(usize),
+    OutputRoom(usize, usize, usize),
+    Accepted(usize, usize, usize),
+}
+
+// The most bytes that a source may have.
+const LIMIT: usize = 1048576;
+
+// From the lexer on.
+fn parse_valid(
+    source: &[u8],
+    kinds: &mut [u16],
+    ends: &mut [u32],
+    events: &mut [u16],
+    messages: &mut [u16],
+    starts: &mut [u32],
+    stops: &mut [u32],
+) -> Answer
+    requires { ⌜ (length (now source) ≤ 1048576) × WellFormed (now source) ⌝ }
+    ensures { λ r. ⌜ outcome r (slices (now (kinds .exit)) (now (ends .exit)) (now (events .exit)) (now (messages .exit)) (now (starts .exit)) (now (stops .exit))) ≡ lexed (now (source .entry)) (slices (now (kinds .entry)) (now (ends .entry)) (now (events .entry)) (now (messages .entry)) (now (starts .entry)) (now (stops .entry))) ⌝ }
+{
+    let t = lexer::tokenize(source, kinds, ends);
+    let room = grow::least(kinds.len(), ends.len());
+    if room < t {
+        return Answer::TokenRoom(t);
+    }
+    grow::parse_tokens(
+        source,
+        &mut kinds[..t],
+        &ends[..t],
+        events,
+        messages,
+        starts,
+        stops,
+    )
+}
+
+// The whole reading, of any bytes into any slices.
+pub fn parse_text(
+    source: &[u8],
+    kinds: &mut [u16],
+    ends: &mut [u32],
+    events: &mut [u16],
+    messages: &mut [u16],
+    starts: &mut [u32],
+    stops: &mut [u32],
+) -> Answer
+    ensures { λ r. ⌜ outcome r (slices (now (kinds .exit)) (now (ends .exit)) (now (events .exit)) (now (messages .exit)) (now (starts .exit)) (now (stops .exit))) ≡ parse-text (now (source .entry)) (slices (now (kinds .entry)) (now (ends .entry)) (now (events .entry)) (now (messages .entry)) (now (starts .entry)) (now (stops .entry))) ⌝ }
+{
+    if LIMIT < source.len() {
+        return Answer::TooLong;
+    }
+    let found = utf8::validate(source);
+    match found {
+        Utf8::At(n) => Answer::NotUtf8(n),
+        Utf8::Valid => parse_valid(source, kinds, ends, events, messages, starts, stops),
+    }
+}
