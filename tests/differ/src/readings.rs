@@ -15,7 +15,7 @@ pub struct Limits {
 
 impl Default for Limits {
     fn default() -> Self {
-        Self { tokens: 262_144, events: 1_835_010, diagnostics: 262_144 }
+        Self { tokens: 131_072, events: 917_506, diagnostics: 262_144 }
     }
 }
 

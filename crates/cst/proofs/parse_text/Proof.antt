@@ -40,10 +40,17 @@ enum-told : tie.Need-enum-told
 enum-told c = search needs
 
 parse-valid-requires : tie.Need-parse-valid-requires
-parse-valid-requires c κs = (c .before .before .before .before .before .before .before .before .before .if1 .left, accepted _ (sym (c .before .before .before .before .before .before .before .before .validate .ensures) ∙ c .before .before .before .before .before .before .enum-told .given .1))
+parse-valid-requires c κs =
+    let c₁ = c .before .before .before .before .before .before in
+    let c₂ = c₁ .before .before in
+    let c₃ = c₂ .before in
+    (c₃ .if1 .left, accepted _ (sym (c₂ .validate .ensures) ∙ c₁ .enum-told .given .1))
 
 returns-2 : tie.Need-returns-2
-returns-2 c = not-utf8 _ _ (c .before .before .before .before .if1 .left) _ (sym (c .before .before .before .validate .ensures) ∙ c .before .found .given .1)
+returns-2 c =
+    let c₁ = c .before .before .before in
+    let c₂ = c₁ .before in
+    not-utf8 _ _ (c₂ .if1 .left) _ (sym (c₁ .validate .ensures) ∙ c .before .found .given .1)
 
 same-length : tie.Need-same-length
 same-length c = search needs
@@ -64,7 +71,12 @@ same-length-6 : tie.Need-same-length-6
 same-length-6 c = search needs
 
 returns-3 : tie.Need-returns-3
-returns-3 c = goes-on _ _ (c .before .before .before .before .before .before .before .before .before .before .before .before .before .before .before .before .before .before .before .before .before .before .if1 .left) (sym (c .before .before .before .before .before .before .before .before .before .before .before .before .before .before .before .before .before .before .before .before .before .validate .ensures) ∙ c .before .before .before .before .before .before .before .before .before .before .before .before .before .before .before .before .before .before .before .enum-told .given .1) (c .before .before .before .before .before .before .before .before .before .before .before .before .parse-valid .ensures)
+returns-3 c =
+    let c₁ = c .before .before .before .before .before .before .before .before .before .before .before .before in
+    let c₂ = c₁ .before .before .before .before .before .before .before in
+    let c₃ = c₂ .before .before in
+    let c₄ = c₃ .before in
+    goes-on _ _ (c₄ .if1 .left) (sym (c₃ .validate .ensures) ∙ c₂ .enum-told .given .1) (c₁ .parse-valid .ensures)
 
 pub parse-text-spec : {M : Type 1} → statement M
 parse-text-spec =

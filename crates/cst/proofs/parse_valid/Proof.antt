@@ -93,8 +93,10 @@ same-length-2 c = search needs
 
 returns : tie.Need-returns
 returns c =
-    let a = c .before .before .before .before .before .before .before .before .before .before .before .before .before .before .before .before .args in
-    too-many (a .source .now) (a .kinds .now) (a .ends .now) (a .events .now) (a .messages .now) (a .starts .now) (a .stops .now) _ _ _ (c .before .before .before .before .before .before .tokenize .ensures) (omega (arith, c .if1 .taken, c .before .least .ensures, c .before .before .before .before .before .before .tokenize .kept))
+    let c₁ = c .before .before .before .before .before .before in
+    let c₂ = c₁ .before .before .before .before .before .before .before .before .before .before in
+    let a = c₂ .args in
+    too-many (a .source .now) (a .kinds .now) (a .ends .now) (a .events .now) (a .messages .now) (a .starts .now) (a .stops .now) _ _ _ (c₁ .tokenize .ensures) (omega (arith, c .if1 .taken, c .before .least .ensures, c₁ .tokenize .kept))
 
 slice-relend-prefix-parse-tokens : tie.Need-slice-relend-prefix-parse-tokens
 slice-relend-prefix-parse-tokens c = search needs
@@ -106,14 +108,20 @@ slice-reshare-prefix-parse-tokens : tie.Need-slice-reshare-prefix-parse-tokens
 slice-reshare-prefix-parse-tokens c = search needs
 
 slice-aggregate-parse-tokens-2 : tie.Need-slice-aggregate-parse-tokens-2
-slice-aggregate-parse-tokens-2 c = sym (length-take-le _ _ (omega (arith, c .before .before .if1 .left, c .before .before .before .least .ensures)))
+slice-aggregate-parse-tokens-2 c =
+    let c₁ = c .before .before .before in
+    sym (length-take-le _ _ (omega (arith, c .before .before .if1 .left, c₁ .least .ensures)))
 
 parse-tokens-requires : tie.Need-parse-tokens-requires
 parse-tokens-requires c κs =
-    let c₁ = c .before .before .before .before .before .before .before .before .before .before .before .before .before .before .before .before .before .before .before .before .before .before in
-    let a = c₁ .args in
-    let h : c .before .before .before .before .before .before .before .before .before .before .before .before .tokenize .result ≤ room (a .kinds .now) (a .ends .now) = omega (arith, c .before .before .before .before .before .before .if1 .left, c .before .before .before .before .before .before .before .least .ensures, c .before .before .before .before .before .before .before .before .before .before .before .before .tokenize .kept) in
-    (c₁ .pre .0, c₁ .pre .1, all-kinds (a .source .now) (a .kinds .now) (a .ends .now) (a .events .now) (a .messages .now) (a .starts .now) (a .stops .now) _ _ _ (c .before .before .before .before .before .before .before .before .before .before .before .before .tokenize .ensures) h, all-ends (a .source .now) (a .kinds .now) (a .ends .now) (a .events .now) (a .messages .now) (a .starts .now) (a .stops .now) _ _ _ (c .before .before .before .before .before .before .before .before .before .before .before .before .tokenize .ensures) h)
+    let c₁ = c .before .before .before .before .before .before in
+    let c₂ = c₁ .before in
+    let c₃ = c₂ .before .before .before .before .before in
+    let c₄ = c₃ .before .before .before .before .before .before .before .before .before .before in
+    let a = c₄ .args in
+    let pre = c₄ .pre in
+    let h : c₃ .tokenize .result ≤ room (a .kinds .now) (a .ends .now) = omega (arith, c₁ .if1 .left, c₂ .least .ensures, c₃ .tokenize .kept) in
+    (pre .0, pre .1, all-kinds (a .source .now) (a .kinds .now) (a .ends .now) (a .events .now) (a .messages .now) (a .starts .now) (a .stops .now) _ _ _ (c₃ .tokenize .ensures) h, all-ends (a .source .now) (a .kinds .now) (a .ends .now) (a .events .now) (a .messages .now) (a .starts .now) (a .stops .now) _ _ _ (c₃ .tokenize .ensures) h)
 
 same-length-3 : tie.Need-same-length-3
 same-length-3 c = search needs
@@ -135,8 +143,13 @@ same-length-8 c = search needs
 
 returns-2 : tie.Need-returns-2
 returns-2 c =
-    let a = c .before .before .before .before .before .before .before .before .before .before .before .before .before .before .before .before .before .before .before .before .before .before .before .before .before .before .before .before .before .before .before .before .before .args in
-    enough (a .source .now) (a .kinds .now) (a .ends .now) (a .events .now) (a .messages .now) (a .starts .now) (a .stops .now) _ _ _ (c .before .before .before .before .before .before .before .before .before .before .before .before .before .before .before .before .before .before .before .before .before .before .before .tokenize .ensures) (omega (arith, c .before .before .before .before .before .before .before .before .before .before .before .before .before .before .before .before .before .if1 .left, c .before .before .before .before .before .before .before .before .before .before .before .before .before .before .before .before .before .before .least .ensures, c .before .before .before .before .before .before .before .before .before .before .before .before .before .before .before .before .before .before .before .before .before .before .before .tokenize .kept)) _ _ (c .before .before .before .before .before .before .before .before .before .before .parse-tokens .ensures)
+    let c₁ = c .before .before .before .before .before .before .before .before .before .before in
+    let c₂ = c₁ .before .before .before .before .before .before .before in
+    let c₃ = c₂ .before in
+    let c₄ = c₃ .before .before .before .before .before in
+    let c₅ = c₄ .before .before .before .before .before .before .before .before .before .before in
+    let a = c₅ .args in
+    enough (a .source .now) (a .kinds .now) (a .ends .now) (a .events .now) (a .messages .now) (a .starts .now) (a .stops .now) _ _ _ (c₄ .tokenize .ensures) (omega (arith, c₂ .if1 .left, c₃ .least .ensures, c₄ .tokenize .kept)) _ _ (c₁ .parse-tokens .ensures)
 
 pub parse-valid-spec : {M : Type 1} → statement M
 parse-valid-spec =

@@ -13,8 +13,10 @@ use Rattle.cst.proofs.grow.grow.Tie as tie
 parse-requires : tie.Need-parse-requires
 parse-requires c κs =
     let c₁ = c .before .before .before .before .before .before .before .before .before .before .before in
-    let source = c₁ .args .source .now in
-    omega (arith, c₁ .pre .0, ap length (c₁ .pre .2), length-map (tokenize source) sym, few-tokens source)
+    let a = c₁ .args in
+    let pre = c₁ .pre in
+    let source = a .source .now in
+    omega (arith, pre .0, ap length (pre .2), length-map (tokenize source) sym, few-tokens source)
 
 unmark-requires : tie.Need-unmark-requires
 unmark-requires c κs = search needs
@@ -25,7 +27,9 @@ last-char-requires c κs = search needs
 places-requires : tie.Need-places-requires
 places-requires c κs =
     let c₁ = c .before .before .before .before .before .before .before .before .before .before .before .before .before .before .before .before .before .before .before .before .before .before .before .before .before in
-    (omega (arith, c₁ .pre .0, last-within (c₁ .args .source .now), c .before .before .last-char .ensures), omega (arith, c₁ .pre .5))
+    let a = c₁ .args in
+    let pre = c₁ .pre in
+    (omega (arith, pre .0, last-within (a .source .now), c .before .before .last-char .ensures), omega (arith, pre .5))
 
 same-length : tie.Need-same-length
 same-length c = search needs
@@ -44,8 +48,14 @@ same-length-5 c = search needs
 
 returns : tie.Need-returns
 returns c =
-    let c₁ = c .before .before .before .before .before .before .before .before .before .before .before .before .before .before .before .before .before .before .before .before .before .before .before .before .before .before .before .before .before .before in
-    grown (c₁ .args .source .now) _ _ _ _ _ _ _ _ _ _ _ _ _ _ (c₁ .pre .2) (c₁ .pre .3) (c .before .before .before .before .before .before .before .last-char .ensures) (c₁ .pre .4) (c₁ .pre .5) (c .before .before .before .before .before .before .before .before .before .before .before .before .before .before .before .before .before .before .parse .ensures) (c .before .before .before .before .before .before .before .before .before .before .unmark .ensures) (c .before .before .before .before .places .ensures)
+    let c₁ = c .before .before .before .before in
+    let c₂ = c₁ .before .before .before in
+    let c₃ = c₂ .before .before .before in
+    let c₄ = c₃ .before .before .before .before .before .before .before .before in
+    let c₅ = c₄ .before .before .before .before .before .before .before .before .before .before .before .before in
+    let a = c₅ .args in
+    let pre = c₅ .pre in
+    grown (a .source .now) _ _ _ _ _ _ _ _ _ _ _ _ _ _ (pre .2) (pre .3) (c₂ .last-char .ensures) (pre .4) (pre .5) (c₄ .parse .ensures) (c₃ .unmark .ensures) (c₁ .places .ensures)
 
 pub grow-spec : {M : Type 1} → statement M
 grow-spec =

@@ -55,31 +55,43 @@ slice-relend-prefix-grow : tie.Need-slice-relend-prefix-grow
 slice-relend-prefix-grow c = search needs
 
 slice-aggregate-grow : tie.Need-slice-aggregate-grow
-slice-aggregate-grow c = sym (length-take-le _ _ (omega (arith, c .before .before .before .before .least .ensures, c .before .before .before .least2 .ensures)))
+slice-aggregate-grow c =
+    let c₁ = c .before .before .before in
+    let c₂ = c₁ .before in
+    sym (length-take-le _ _ (omega (arith, c₂ .least .ensures, c₁ .least2 .ensures)))
 
 slice-relend-prefix-grow-2 : tie.Need-slice-relend-prefix-grow-2
 slice-relend-prefix-grow-2 c = search needs
 
 slice-aggregate-grow-2 : tie.Need-slice-aggregate-grow-2
-slice-aggregate-grow-2 c = sym (length-take-le _ _ (omega (arith, c .before .before .before .before .before .least .ensures, c .before .before .before .before .least2 .ensures)))
+slice-aggregate-grow-2 c =
+    let c₁ = c .before .before .before .before in
+    let c₂ = c₁ .before in
+    sym (length-take-le _ _ (omega (arith, c₂ .least .ensures, c₁ .least2 .ensures)))
 
 slice-relend-prefix-grow-3 : tie.Need-slice-relend-prefix-grow-3
 slice-relend-prefix-grow-3 c = search needs
 
 slice-aggregate-grow-3 : tie.Need-slice-aggregate-grow-3
-slice-aggregate-grow-3 c = sym (length-take-le _ _ (omega (arith, c .before .before .before .before .before .before .least .ensures, c .before .before .before .before .before .least2 .ensures)))
+slice-aggregate-grow-3 c =
+    let c₁ = c .before .before .before .before .before in
+    let c₂ = c₁ .before in
+    sym (length-take-le _ _ (omega (arith, c₂ .least .ensures, c₁ .least2 .ensures)))
 
 grow-requires : tie.Need-grow-requires
 grow-requires c κs =
-    let c₁ = c .before .before .before .before .before .before .before .before .before .before .before .before .before .before in
-    let a = c₁ .args in
-    let n = c .before .before .before .before .before .least2 .result in
-    let l = c .before .before .before .before .before .before .least .ensures in
-    let m = c .before .before .before .before .before .least2 .ensures in
+    let c₁ = c .before .before .before .before .before in
+    let c₂ = c₁ .before in
+    let c₃ = c₂ .before .before .before .before .before .before .before .before in
+    let a = c₃ .args in
+    let pre = c₃ .pre in
+    let n = c₁ .least2 .result in
+    let l = c₂ .least .ensures in
+    let m = c₁ .least2 .ensures in
     let dm = length-take-le n (a .messages .now) (omega arith) in
     let ds = length-take-le n (a .starts .now) (omega arith) in
     let de = length-take-le n (a .stops .now) (omega arith) in
-    (c₁ .pre .0, c₁ .pre .1, c₁ .pre .2, c₁ .pre .3, dm ∙ sym ds, ds ∙ sym de)
+    (pre .0, pre .1, pre .2, pre .3, dm ∙ sym ds, ds ∙ sym de)
 
 fitted-requires : tie.Need-fitted-requires
 fitted-requires c κs = search needs
@@ -101,10 +113,14 @@ same-length-5 c = search needs
 
 returns : tie.Need-returns
 returns c =
-    let c₁ = c .before .before .before .before .before .before .before .before .before .before .before .before .before .before .before .before .before .before .before .before .before .before .before .before .before .before in
-    let a = c₁ .args in
+    let c₁ = c .before .before .before .before .before .before .before .before .before .before .before in
+    let c₂ = c₁ .before .before .before .before .before .before in
+    let c₃ = c₂ .before in
+    let c₄ = c₃ .before .before .before .before .before .before .before .before in
+    let a = c₄ .args in
+    let pre = c₄ .pre in
     whole (a .source .now) (a .kinds .now) (a .ends .now) (a .events .now) (a .messages .now) (a .starts .now) (a .stops .now)
-    _ _ _ _ _ _ _ _ (c₁ .pre .2) (omega (arith, c .before .before .before .before .before .before .before .before .before .before .before .before .before .before .before .before .before .before .least .ensures, c .before .before .before .before .before .before .before .before .before .before .before .before .before .before .before .before .before .least2 .ensures)) (c .before .before .before .before .before .before .before .before .before .before .before .grow .ensures) (c .fitted .ensures)
+    _ _ _ _ _ _ _ _ (pre .2) (omega (arith, c₃ .least .ensures, c₂ .least2 .ensures)) (c₁ .grow .ensures) (c .fitted .ensures)
 
 pub parse-kept-spec : {M : Type 1} → statement M
 parse-kept-spec =

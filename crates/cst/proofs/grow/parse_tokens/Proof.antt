@@ -59,17 +59,23 @@ enum-told c = search needs
 
 parse-kept-requires : tie.Need-parse-kept-requires
 parse-kept-requires c κs =
-    let c₁ = c .before .before .before .before .before .before .before .before .before .before .before .before .before .before .before .before .before .before in
-    let a = c₁ .args in
-    (c₁ .pre .0, c₁ .pre .1, marks (a .source .now) (a .kinds .now) (a .ends .now) (a .events .now) (a .messages .now) (a .starts .now) (a .stops .now) _ (c₁ .pre .2) _ (c .before .before .before .before .before .before .before .before .before .mark .ensures) (c .before .before .before .before .before .enum-told .given .1), c₁ .pre .3)
+    let c₁ = c .before .before .before .before .before in
+    let c₂ = c₁ .before .before .before .before in
+    let c₃ = c₂ .before .before .before .before .before .before .before .before .before in
+    let a = c₃ .args in
+    let pre = c₃ .pre in
+    (pre .0, pre .1, marks (a .source .now) (a .kinds .now) (a .ends .now) (a .events .now) (a .messages .now) (a .starts .now) (a .stops .now) _ (pre .2) _ (c₂ .mark .ensures) (c₁ .enum-told .given .1), pre .3)
 
 same-length : tie.Need-same-length
 same-length c = search needs
 
 returns : tie.Need-returns
 returns c =
-    let c₁ = c .before .before .before .before .before .before .before .before .before .before .before .before .before .before in
-    refused _ _ _ _ _ _ _ _ (c₁ .pre .2) _ (c .before .before .before .before .before .mark .ensures) _ (c .before .refusal .given .1)
+    let c₁ = c .before .before .before .before .before in
+    let c₂ = c₁ .before .before .before .before .before .before .before .before .before in
+    let a = c₂ .args in
+    let pre = c₂ .pre in
+    refused _ _ _ _ _ _ _ _ (pre .2) _ (c₁ .mark .ensures) _ (c .before .refusal .given .1)
 
 same-length-2 : tie.Need-same-length-2
 same-length-2 c = search needs
@@ -88,8 +94,13 @@ same-length-6 c = search needs
 
 returns-2 : tie.Need-returns-2
 returns-2 c =
-    let c₁ = c .before .before .before .before .before .before .before .before .before .before .before .before .before .before .before .before .before .before .before .before .before .before .before .before .before .before .before .before .before in
-    goes-on _ _ _ _ _ _ _ _ (c₁ .pre .2) _ (c .before .before .before .before .before .before .before .before .before .before .before .before .before .before .before .before .before .before .before .before .mark .ensures) (c .before .before .before .before .before .before .before .before .before .before .before .before .before .before .before .before .enum-told .given .1) (c .before .before .before .before .before .before .before .before .before .before .parse-kept .ensures)
+    let c₁ = c .before .before .before .before .before .before .before .before .before .before in
+    let c₂ = c₁ .before .before .before .before .before .before in
+    let c₃ = c₂ .before .before .before .before in
+    let c₄ = c₃ .before .before .before .before .before .before .before .before .before in
+    let a = c₄ .args in
+    let pre = c₄ .pre in
+    goes-on _ _ _ _ _ _ _ _ (pre .2) _ (c₃ .mark .ensures) (c₂ .enum-told .given .1) (c₁ .parse-kept .ensures)
 
 pub parse-tokens-spec : {M : Type 1} → statement M
 parse-tokens-spec =
