@@ -4,8 +4,8 @@ use corpus::{random::Random, script::script, shapes::SHAPES};
 
 use crate::callgrind::Valgrind;
 
-/// About the length of the script that is repeated.
-const SCRIPT: usize = 8_000;
+/// The most bytes of the script that is repeated; it is made a little shorter.
+const SCRIPT: usize = 8_192;
 
 /// Counts for one program and two sizes.
 pub struct Measure<'a> {
@@ -40,8 +40,10 @@ pub fn families() -> impl Iterator<Item = (&'static str, Make)> {
 
 /// One script again and again, so that both sizes hold the same mixture.
 fn scripts(size: usize) -> Vec<u8> {
-    let one = script(&mut Random::new(7), size.min(SCRIPT));
-    one.repeat((size / one.len()).max(1)).into_bytes()
+    let most = size.min(SCRIPT);
+    let one = script(&mut Random::new(7), most * 7 / 8);
+    assert!(one.len() <= most, "a script of {} bytes", one.len());
+    one.repeat(size / most).into_bytes()
 }
 
 impl<'a> Measure<'a> {
