@@ -1,5 +1,5 @@
 # The front door. Each target is one command; `make test` is the gate.
-.PHONY: check test differ large speed store samples
+.PHONY: check test differ large growth speed store samples
 
 # Prove every crate and run the programs.
 check:
@@ -9,15 +9,22 @@ check:
 test:
 	bash .ci/run
 
-# The lexer against the compiled reference, and the same on N times the sampled cases.
+# The lexer and the readings against the compiled reference, and the same on N times the sampled cases.
 differ:
-	rt check tokens
+	rt check tokens readings
 	cd tests && cargo run --offline --release --bin differ lexer --program ../target/bin/tokens
+	cd tests && cargo run --offline --release --bin differ readings --program ../target/bin/readings
 
 N ?= 10
 large:
-	rt check tokens
+	rt check tokens readings
 	cd tests && cargo run --offline --release --bin differ lexer --program ../target/bin/tokens --large $(N)
+	cd tests && cargo run --offline --release --bin differ readings --program ../target/bin/readings --large $(N)
+
+# Instructions on sources of n and 2n bytes, 32 families (docs/PERFORMANCE.md). Needs valgrind.
+growth:
+	rt check readings
+	cd tests && cargo run --offline --release --bin growth -- --program ../target/bin/readings --markdown
 
 # Times of the proved lexer, a plain Rust lexer and the reference (docs/PERFORMANCE.md).
 speed:
@@ -27,6 +34,7 @@ speed:
 # Writes the stored cases and answers that `rt ci` replays.
 store:
 	cd tests && cargo run --offline --release --bin differ lexer --store ../crates/tokens 400
+	cd tests && cargo run --offline --release --bin differ readings --store ../crates/readings 600
 
 # Writes the reference's answers that the grammar's definitions are held to.
 samples:
