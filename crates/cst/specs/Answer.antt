@@ -18,8 +18,8 @@ use Rattle.items.specs.Entry.{limit}
 use Rattle.marks.specs.declared.Refusal.{Refusal}
 use Rattle.marks.specs.declared.Refusal.the-variants as refusal
 use Rattle.marks.specs.Marks.{first-refused}
-use Rattle.cst.specs.declared.Answer.{Answer}
-use Rattle.cst.specs.declared.Answer.the-variants.{TooLong, NotUtf8, TokenRoom, Refused, OutputRoom, Accepted}
+use Rattle.cst.specs.declared.answer.Answer.{Answer}
+use Rattle.cst.specs.declared.answer.Answer.the-variants.{TooLong, NotUtf8, TokenRoom, Refused, OutputRoom, Accepted}
 
 -- The six slices: kinds and ends of tokens, events, and messages, starts and stops of diagnostics.
 pub record Slices : Type 0 where
@@ -100,12 +100,3 @@ checked (At n) source s = outcome (NotUtf8 n) s
 -- The reading of any bytes into any slices.
 unfoldable pub parse-text : List ℕ → Slices → Outcome
 parse-text source s = cond (ltb 1048576 (length source)) (outcome TooLong s) (checked (validate source) source s)
-
--- document 01's four numbers of an answer
-abbrev pub numbers : Answer → List ℕ
-numbers TooLong = 1 ∷ 0 ∷ 0 ∷ 0 ∷ []
-numbers (NotUtf8 n) = 2 ∷ n ∷ 0 ∷ 0 ∷ []
-numbers (TokenRoom t) = 3 ∷ t ∷ 0 ∷ 0 ∷ []
-numbers (Refused n) = 4 ∷ n ∷ 0 ∷ 0 ∷ []
-numbers (OutputRoom t e d) = 5 ∷ t ∷ e ∷ d ∷ []
-numbers (Accepted t e d) = 0 ∷ t ∷ e ∷ d ∷ []

@@ -5,6 +5,7 @@ use mathlib.Core.Path.{_≡_, refl, sym, ap, _∙_}
 use mathlib.Core.List.{List, [], _∷_, _++_, map}
 use native.Mathlib.Omega.{arith}
 use lib.ListN.{length, take, drop, length-map}
+use lib.Seq.{take-all, take-at}
 use Rattle.utf8.specs.Width.{width}
 use Rattle.utf8.specs.Last.{last-from, last-char}
 use Rattle.lexer.specs.Over.{over, fit, nil-over, cons-over}
@@ -27,6 +28,11 @@ pub over-fit : (l vs : List ℕ) → over l 0 vs ≡ fit (length l) vs l
 over-fit [] vs = nil-over 0 vs
 over-fit (x ∷ l) [] = refl
 over-fit (x ∷ l) (v ∷ vs) = cons-over v l 0 vs ∙ ap (λ (k : List ℕ). v ∷ k) (over-fit l vs)
+
+-- numbers that all have room stand first
+pub fit-first : (r n : ℕ) (vs l : List ℕ) → length vs ≡ n → n ≤ r → take n (fit r vs l) ≡ vs
+fit-first r n vs l e h =
+    ap (λ (k : List ℕ). take n (k ++ drop (length k) l)) (take-all r vs (omega arith)) ∙ take-at vs (drop (length vs) l) n e
 
 -- the parser's writes are the lexer's
 onto-over : {A : Type 0} (f : A → ℕ) (l : List ℕ) (xs : List A) → onto f (length l) l xs ≡ over l 0 (map f xs)

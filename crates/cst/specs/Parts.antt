@@ -6,7 +6,7 @@ use lib.ListN.{length}
 use Rattle.lexer.specs.Over.{over}
 use Rattle.lexer.specs.Tokens.{token-kinds}
 use Rattle.cst.specs.declared.grow.Counts.{Counts}
-use Rattle.cst.specs.declared.Answer.{Answer}
+use Rattle.cst.specs.declared.answer.Answer.{Answer}
 use Rattle.cst.specs.Answer.{Outcome, events-of, places-of}
 
 -- `grow`: all events and diagnostics, each slice as far as it goes

@@ -1,5 +1,5 @@
 // From the tokens to events and diagnostics.
-use crate::Answer;
+use crate::answer::Answer;
 use marks::Refusal;
 ghost use mathlib.Core.Path.{_≡_};
 ghost use Prim.Native.Nat.{_≤_, min};
@@ -11,7 +11,7 @@ ghost use Rattle.lexer.specs.Lexer.{tokenize};
 ghost use Rattle.lexer.specs.Tokens.{token-kinds, token-ends};
 ghost use Rattle.grammar.specs.Source.{symbols};
 ghost use Rattle.marks.specs.Marks.{first-refused};
-ghost use Rattle.cst.specs.declared.Answer.the-variants.{OutputRoom, Accepted};
+ghost use Rattle.cst.specs.declared.answer.Answer.the-variants.{OutputRoom, Accepted};
 ghost use Rattle.cst.specs.Answer.{slices, grown, kept};
 ghost use Rattle.cst.specs.Parts.{Grown, Left};
 

@@ -1,22 +1,17 @@
 // The reading of a source into lent slices: UTF-8, lexer, words, grammar, places.
+use answer::numbers;
 use utf8::Utf8;
 ghost use mathlib.Core.Path.{_≡_};
 ghost use Prim.Native.Nat.{_≤_};
 ghost use lib.ListN.{length};
 ghost use Rattle.utf8.specs.WellFormed.{WellFormed};
 ghost use Rattle.cst.specs.Answer.{slices, outcome, lexed, parse-text};
+ghost use Rattle.cst.specs.Call.{Called};
 
+pub mod answer;
 mod grow;
 
-// Document 01's answers with their values; `numbers` of specs/Answer gives the numbers.
-pub enum Answer {
-    TooLong,
-    NotUtf8(usize),
-    TokenRoom(usize),
-    Refused(usize),
-    OutputRoom(usize, usize, usize),
-    Accepted(usize, usize, usize),
-}
+pub use answer::Answer;
 
 // The most bytes that a source may have.
 const LIMIT: usize = 1048576;
@@ -70,4 +65,29 @@ pub fn parse_text(
         Utf8::At(n) => Answer::NotUtf8(n),
         Utf8::Valid => parse_valid(source, kinds, ends, events, messages, starts, stops),
     }
+}
+
+// The unit's call: the status, and the other three numbers in the first words of `counts`.
+#[no_mangle]
+pub extern "C" fn masm_parse_text(
+    source: &[u8],
+    kinds: &mut [u16],
+    ends: &mut [u32],
+    events: &mut [u16],
+    messages: &mut [u16],
+    starts: &mut [u32],
+    stops: &mut [u32],
+    counts: &mut [u64],
+) -> u64
+    ensures { λ r. ⌜ Called (now (source .entry)) (slices (now (kinds .entry)) (now (ends .entry)) (now (events .entry)) (now (messages .entry)) (now (starts .entry)) (now (stops .entry))) (now (counts .entry)) r (slices (now (kinds .exit)) (now (ends .exit)) (now (events .exit)) (now (messages .exit)) (now (starts .exit)) (now (stops .exit))) (now (counts .exit)) ⌝ }
+{
+    if counts.len() < 3 {
+        return 6;
+    }
+    let answer = parse_text(source, kinds, ends, events, messages, starts, stops);
+    let n = numbers(answer);
+    counts[0] = n.first;
+    counts[1] = n.second;
+    counts[2] = n.third;
+    n.status
 }

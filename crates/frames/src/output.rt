@@ -31,6 +31,19 @@ pub fn put_byte(out: &mut [u8], used: usize, b: u8) -> usize
     at + 1
 }
 
+pub fn put_text(out: &mut [u8], used: usize, text: &[u8]) -> usize
+    requires { ⌜ Ready used (now out) ⌝ }
+    ensures { λ r. ⌜ Ready r (now (out .exit)) ⌝ }
+{
+    let mut at = used;
+    let mut i = 0;
+    while i < text.len() {
+        at = put_byte(out, at, text[i]);
+        i += 1;
+    }
+    at
+}
+
 // How many digits a number has. No number has more than twenty.
 fn places(n: usize) -> usize
     ensures { λ r. ⌜ r ≤ 20 ⌝ }
@@ -60,7 +73,7 @@ fn put_digits(out: &mut [u8], at: usize, k: usize, n: usize)
     }
 }
 
-fn put_number(out: &mut [u8], used: usize, n: usize) -> usize
+pub fn put_number(out: &mut [u8], used: usize, n: usize) -> usize
     requires { ⌜ Ready used (now out) ⌝ }
     ensures { λ r. ⌜ Ready r (now (out .exit)) ⌝ }
 {

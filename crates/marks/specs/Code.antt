@@ -27,7 +27,7 @@ number text = numberIn 1 (words ++ refused-texts) text
 unfoldable pub number-of : ℕ → List ℕ → ℕ
 number-of kind text = cond (eqb Ident kind) (number text) 0
 
-equal : (a b : List ℕ) → same a b ≡ true → a ≡ b
+pub equal : (a b : List ℕ) → same a b ≡ true → a ≡ b
 unfolding same
 equal [] [] e = refl
 equal [] (y ∷ b) e = absurd (false≢true e)

@@ -5,28 +5,23 @@ use mathlib.Core.List.{List, _++_}
 use native.Mathlib.Omega.{arith}
 use borrow.Author.Tests.{lt-ltb, le-ltb}
 use lib.ListN.{length, take, drop, length-map, take-append-drop}
-use lib.Seq.{length-take-le, take-all, take-at}
+use lib.Seq.{length-take-le}
 use Rattle.lexer.specs.Lexer.{tokenize}
-use Rattle.lexer.specs.Over.{fit}
 use Rattle.lexer.specs.Tokens.{kindOf, room, token-kinds, token-ends, Tokenized}
 use Rattle.lexer.specs.Laws.{length-ends}
 use Rattle.marks.specs.declared.Refusal.{Refusal}
 use Rattle.marks.specs.declared.Refusal.the-variants.{Nothing, At}
 use Rattle.marks.specs.Marks.{first-refused}
-use Rattle.cst.specs.declared.Answer.{Answer}
-use Rattle.cst.specs.declared.Answer.the-variants.{TokenRoom}
+use Rattle.cst.specs.declared.answer.Answer.{Answer}
+use Rattle.cst.specs.declared.answer.Answer.the-variants.{TokenRoom}
 use Rattle.cst.specs.Answer.{slices, outcome, grown, kept, lexed}
 use Rattle.cst.specs.Parts.{Left}
+use Rattle.cst.specs.Laws.{fit-first}
 use borrow.Author.Needs.{needs}
 use Rattle.cst.proofs.parse_valid.Statement.{statement}
 use Rattle.cst.proofs.parse_valid.Tie as tie
 
--- all of vs had room: they stand first
-first : (r t : ℕ) (vs l l′ : List ℕ) → l′ ≡ fit r vs l → length vs ≡ t → t ≤ r → take t l′ ≡ vs
-first r t vs l l′ e n h =
-    ap (take t) e ∙ ap (λ (k : List ℕ). take t (k ++ drop (length k) l)) (take-all r vs (omega arith)) ∙ take-at vs (drop (length vs) l) t n
-
--- and written once more they change nothing
+-- what stands first, written once more, changes nothing
 again : (t : ℕ) (vs l₁ l₂ : List ℕ) → take t l₁ ≡ vs → l₂ ≡ vs → l₂ ++ drop t l₁ ≡ l₁
 again t vs l₁ l₂ e f = ap (λ (k : List ℕ). k ++ drop t l₁) (f ∙ sym e) ∙ take-append-drop t l₁
 
@@ -37,10 +32,10 @@ module _ (source kinds ends ev dm ds de : List ℕ) (t : ℕ) (kinds₁ ends₁ 
 
   module _ (h : t ≤ room kinds ends) where
     all-kinds : take t kinds₁ ≡ token-kinds source
-    all-kinds = first (room kinds ends) t (token-kinds source) kinds kinds₁ (lex .kinds-are) (length-map (tokenize source) kindOf ∙ sym (lex .count-is)) h
+    all-kinds = ap (take t) (lex .kinds-are) ∙ fit-first (room kinds ends) t (token-kinds source) kinds (length-map (tokenize source) kindOf ∙ sym (lex .count-is)) h
 
     all-ends : take t ends₁ ≡ token-ends source
-    all-ends = first (room kinds ends) t (token-ends source) ends ends₁ (lex .ends-are) (length-ends 0 (tokenize source) ∙ sym (lex .count-is)) h
+    all-ends = ap (take t) (lex .ends-are) ∙ fit-first (room kinds ends) t (token-ends source) ends (length-ends 0 (tokenize source) ∙ sym (lex .count-is)) h
 
     by-refusal : (q : Refusal) (k e : List ℕ) {r : Answer} {kinds₂ ev′ dm′ ds′ de′ : List ℕ}
         → Left source (kept q source (slices k e ev dm ds de)) r kinds₂ ev′ dm′ ds′ de′

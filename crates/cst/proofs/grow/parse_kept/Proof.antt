@@ -11,8 +11,8 @@ use Rattle.lexer.specs.Lexer.{tokenize}
 use Rattle.lexer.specs.Over.{over, fit, in-room, length-over}
 use Rattle.grammar.specs.Source.{sym as symOf, symbols}
 use Rattle.cst.specs.declared.grow.Counts.{Counts}
-use Rattle.cst.specs.declared.Answer.{Answer}
-use Rattle.cst.specs.declared.Answer.the-variants.{OutputRoom, Accepted}
+use Rattle.cst.specs.declared.answer.Answer.{Answer}
+use Rattle.cst.specs.declared.answer.Answer.the-variants.{OutputRoom, Accepted}
 use Rattle.cst.specs.Answer.{slices, diagnostic-room, grown, events-of, places-of}
 use Rattle.cst.specs.Parts.{Grown, Left}
 use Rattle.cst.specs.Laws.{over-fit}

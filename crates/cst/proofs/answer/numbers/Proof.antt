@@ -1,0 +1,83 @@
+-- `cst::answer::numbers` meets its contract, by the answer. Assumes nothing.
+use mathlib.Core.Path.{sym, ap, _∙_}
+use Rattle.cst.specs.Numbers.{numbers}
+use borrow.Author.Needs.{needs}
+use Rattle.cst.proofs.answer.numbers.Statement.{statement}
+use Rattle.cst.proofs.answer.numbers.Tie as tie
+
+enum-told : tie.Need-enum-told
+enum-told c = search needs
+
+with-requires : tie.Need-with-requires
+with-requires c κs = search needs
+
+enum-known-answer : tie.Need-enum-known-answer
+enum-known-answer c = search needs
+
+with-requires-2 : tie.Need-with-requires-2
+with-requires-2 c κs = search needs
+
+enum-known-answer-2 : tie.Need-enum-known-answer-2
+enum-known-answer-2 c = search needs
+
+with-requires-3 : tie.Need-with-requires-3
+with-requires-3 c κs = search needs
+
+enum-known-answer-3 : tie.Need-enum-known-answer-3
+enum-known-answer-3 c = search needs
+
+with-requires-4 : tie.Need-with-requires-4
+with-requires-4 c κs = search needs
+
+enum-known-answer-4 : tie.Need-enum-known-answer-4
+enum-known-answer-4 c = search needs
+
+with-requires-5 : tie.Need-with-requires-5
+with-requires-5 c κs = search needs
+
+enum-known-answer-5 : tie.Need-enum-known-answer-5
+enum-known-answer-5 c = search needs
+
+with-requires-6 : tie.Need-with-requires-6
+with-requires-6 c κs = search needs
+
+returns : tie.Need-returns
+returns c = c .with .ensures ∙ ap numbers (sym (c .before .enum-told .given .1))
+
+returns-2 : tie.Need-returns-2
+returns-2 c = c .with2 .ensures ∙ ap numbers (sym (c .before .before .answer .given .1))
+
+returns-3 : tie.Need-returns-3
+returns-3 c = c .with3 .ensures ∙ ap numbers (sym (c .before .before .answer2 .given .1))
+
+returns-4 : tie.Need-returns-4
+returns-4 c = c .with4 .ensures ∙ ap numbers (sym (c .before .before .answer3 .given .1))
+
+returns-5 : tie.Need-returns-5
+returns-5 c = c .with5 .ensures ∙ ap numbers (sym (c .before .before .answer4 .given .1))
+
+returns-6 : tie.Need-returns-6
+returns-6 c = c .with6 .ensures ∙ ap numbers (sym (c .before .before .answer5 .given .1))
+
+pub numbers-spec : {M : Type 1} → statement M
+numbers-spec =
+    tie.close
+    (tie.spec
+    enum-told
+    with-requires
+    enum-known-answer
+    with-requires-2
+    enum-known-answer-2
+    with-requires-3
+    enum-known-answer-3
+    with-requires-4
+    enum-known-answer-4
+    with-requires-5
+    enum-known-answer-5
+    with-requires-6
+    returns
+    returns-2
+    returns-3
+    returns-4
+    returns-5
+    returns-6)

@@ -1,0 +1,105 @@
+-- `cst::masm_parse_text` meets its contract: short counts change nothing, else the numbers of the answer stand in them. Assumes nothing.
+use Prim.Native.Nat.{ℕ, _≤_, _<_}
+use mathlib.Core.Path.{_≡_, refl, sym, ap, _∙_}
+use mathlib.Core.List.{List, [], _∷_}
+use native.Mathlib.Omega.{arith}
+use borrow.Author.Tests.{lt-ltb, le-ltb}
+use lib.ListN.{length, set, drop, length-set}
+use Rattle.cst.specs.declared.answer.Answer.{Answer}
+use Rattle.cst.specs.declared.answer.Row.{Row}
+use Rattle.cst.specs.Numbers.{numbers}
+use Rattle.cst.specs.Answer.{Slices, Outcome, outcome, parse-text}
+use Rattle.cst.specs.Call.{call, Called}
+use borrow.Author.Needs.{needs}
+use Rattle.cst.proofs.masm_parse_text.Statement.{statement}
+use Rattle.cst.proofs.masm_parse_text.Tie as tie
+
+three : (l : List ℕ) (x y z : ℕ) → 3 ≤ length l → set (set (set l 0 x) 1 y) 2 z ≡ x ∷ y ∷ z ∷ drop 3 l
+three [] x y z h = absurd (omega arith)
+three (a ∷ []) x y z h = absurd (omega arith)
+three (a ∷ b ∷ []) x y z h = absurd (omega arith)
+three (a ∷ b ∷ c ∷ l) x y z h = refl
+
+module _ (source : List ℕ) (s : Slices) (counts : List ℕ) where
+  too-short : length counts < 3 → Called source s counts 6 s counts
+  unfolding call
+  too-short h =
+      let e = lt-ltb (length counts) 3 h in
+      record { status-is = rw e; slices-are = rw e; counts-are = rw e }
+
+  answered : (a : Answer) (s′ : Slices) (n : Row) → 3 ≤ length counts → outcome a s′ ≡ parse-text source s → n ≡ numbers a
+      → Called source s counts (n .status) s′ (set (set (set counts 0 (n .first)) 1 (n .second)) 2 (n .third))
+  unfolding call
+  answered a s′ n h o e =
+      let k = le-ltb (length counts) 3 h in
+      record {
+        status-is = ap (λ (x : Row). x .status) e ∙ rw (k, sym o) refl;
+        slices-are = rw (k, sym o) refl;
+        counts-are = three counts (n .first) (n .second) (n .third) h ∙ rw (k, sym o, e) refl;
+      }
+
+returns : tie.Need-returns
+returns c = too-short _ _ _ (c .if1 .taken)
+
+parse-text-requires : tie.Need-parse-text-requires
+parse-text-requires c κs = search needs
+
+numbers-requires : tie.Need-numbers-requires
+numbers-requires c κs = search needs
+
+slice-write-counts : tie.Need-slice-write-counts
+slice-write-counts c = search needs
+
+slice-write-counts-2 : tie.Need-slice-write-counts-2
+slice-write-counts-2 c =
+    let c₁ = c .before .before .before .before .before .before .before .before .before .before .before .before .before .before .before .before .before .before .before .before in
+    simp length-set (omega (arith, c₁ .if1 .left))
+
+slice-write-counts-3 : tie.Need-slice-write-counts-3
+slice-write-counts-3 c = search needs
+
+same-length : tie.Need-same-length
+same-length c = search needs
+
+same-length-2 : tie.Need-same-length-2
+same-length-2 c = search needs
+
+same-length-3 : tie.Need-same-length-3
+same-length-3 c = search needs
+
+same-length-4 : tie.Need-same-length-4
+same-length-4 c = search needs
+
+same-length-5 : tie.Need-same-length-5
+same-length-5 c = search needs
+
+same-length-6 : tie.Need-same-length-6
+same-length-6 c = search needs
+
+same-length-7 : tie.Need-same-length-7
+same-length-7 c = search needs
+
+returns-2 : tie.Need-returns-2
+returns-2 c =
+    let c₁ = c .before .before .before .before .before .before .before .before .before .before .before .before .before in
+    let c₂ = c₁ .before .before .before .before .before .before .before in
+    answered _ _ _ _ _ _ (c₂ .if1 .left) (c₁ .parse-text .ensures) (c .numbers .ensures)
+
+pub masm-parse-text-spec : {M : Type 1} → statement M
+masm-parse-text-spec =
+    tie.close
+    (tie.spec
+    returns
+    parse-text-requires
+    numbers-requires
+    slice-write-counts
+    slice-write-counts-2
+    slice-write-counts-3
+    same-length
+    same-length-2
+    same-length-3
+    same-length-4
+    same-length-5
+    same-length-6
+    same-length-7
+    returns-2)

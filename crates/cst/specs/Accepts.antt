@@ -1,0 +1,175 @@
+-- When the call returns 0, and what it then gives.
+-- Assumes nothing.
+use Prim.Native.Nat.{ℕ, zero, suc, _+_, _≤_, _<_}
+use mathlib.Core.Path.{_≡_, refl, sym, ap, _∙_}
+use mathlib.Core.Bool.{Bool, true, false, cond, _||_}
+use mathlib.Core.List.{List, [], _∷_, _++_, map}
+use native.Mathlib.Omega.{arith}
+use borrow.Author.Tests.{ltb-false, le-ltb}
+use lib.Dec.{ltb}
+use lib.ListN.{length, drop, length-map}
+use Rattle.utf8.specs.declared.Utf8.{Utf8}
+use Rattle.utf8.specs.declared.Utf8.the-variants.{Valid, At}
+use Rattle.utf8.specs.Validate.{validate}
+use Rattle.lexer.specs.Lexer.{tokenize}
+use Rattle.lexer.specs.Tokens.{kindOf, token-kinds, token-ends}
+use Rattle.lexer.specs.Laws.{length-ends}
+use Rattle.marks.specs.declared.Refusal.{Refusal}
+use Rattle.marks.specs.declared.Refusal.the-variants as refusal
+use Rattle.marks.specs.Marks.{first-refused}
+use Rattle.cst.specs.declared.answer.Answer.{Answer}
+use Rattle.cst.specs.declared.answer.Answer.the-variants.{OutputRoom}
+use Rattle.cst.specs.declared.answer.Answer.the-variants as answer
+use Rattle.cst.specs.Answer.{Slices, token-room, diagnostic-room, events-of, places-of, with-all, short, grown, kept, lexed, checked, parse-text}
+use Rattle.cst.specs.Numbers.{numbers}
+use Rattle.cst.specs.Call.{Reply, reply, answered, call, Called}
+use Rattle.cst.specs.Laws.{fit-first}
+use Rattle.cst.specs.Given.{T, E, D, Given, given}
+
+-- No row above the last holds.
+pub record Accepted (source : List ℕ) (s : Slices) (counts : List ℕ) : Type 0 where
+  pub words : 3 ≤ length counts
+  pub small : length source ≤ 1048576
+  pub utf8 : validate source ≡ Valid
+  pub tokens : length (tokenize source) ≤ token-room s
+  pub kept : first-refused 0 (tokenize source) ≡ refusal.Nothing
+  pub events : length (events-of source) ≤ length (s .events)
+  pub places : length (places-of source) ≤ diagnostic-room s
+
+abbrev status-of : Answer → ℕ
+status-of a = numbers a .status
+
+module _ (source : List ℕ) (s : Slices) where
+  abbrev t : ℕ
+  t = length (tokenize source)
+
+  abbrev e : ℕ
+  e = length (events-of source)
+
+  abbrev d : ℕ
+  d = length (places-of source)
+
+  -- one test after another
+  fitted : (u v : Bool) → status-of (cond (u || v) OutputRoom answer.Accepted t e d) ≡ 0 → (u ≡ false) × (v ≡ false)
+  fitted true v h = absurd (omega arith)
+  fitted false true h = absurd (omega arith)
+  fitted false false h = (refl, refl)
+
+  not-refused : (q : Refusal) → status-of (kept q source s .answer) ≡ 0 → (q ≡ refusal.Nothing) × (status-of (grown source s .answer) ≡ 0)
+  unfolding kept
+  not-refused refusal.Nothing h = (refl, h)
+  not-refused (refusal.At n) h = absurd (omega arith)
+
+  is-valid : (q : Utf8) → status-of (checked q source s .answer) ≡ 0 → (q ≡ Valid) × (status-of (lexed source s .answer) ≡ 0)
+  unfolding checked
+  is-valid Valid h = (refl, h)
+  is-valid (At n) h = absurd (omega arith)
+
+  by-tokens : status-of (lexed source s .answer) ≡ 0 → (t ≤ token-room s) × (status-of (kept (first-refused 0 (tokenize source)) source s .answer) ≡ 0)
+  unfolding lexed
+  by-tokens = by-test (ltb (token-room s) t) refl
+    where
+      by-test : (u : Bool) → ltb (token-room s) t ≡ u → status-of (lexed source s .answer) ≡ 0
+          → (t ≤ token-room s) × (status-of (kept (first-refused 0 (tokenize source)) source s .answer) ≡ 0)
+      by-test true k h = absurd (omega (arith, rw k at h))
+      by-test false k h = (ltb-false (token-room s) t k, rw k at h)
+
+  by-length : status-of (parse-text source s .answer) ≡ 0 → (length source ≤ 1048576) × (status-of (checked (validate source) source s .answer) ≡ 0)
+  unfolding parse-text
+  by-length = by-test (ltb 1048576 (length source)) refl
+    where
+      by-test : (u : Bool) → ltb 1048576 (length source) ≡ u → status-of (parse-text source s .answer) ≡ 0
+          → (length source ≤ 1048576) × (status-of (checked (validate source) source s .answer) ≡ 0)
+      by-test true k h = absurd (omega (arith, rw k at h))
+      by-test false k h = (ltb-false 1048576 (length source) k, rw k at h)
+
+  by-words : (counts : List ℕ) → call source s counts .status ≡ 0 → (3 ≤ length counts) × (status-of (parse-text source s .answer) ≡ 0)
+  unfolding call
+  by-words counts = by-test (ltb (length counts) 3) refl
+    where
+      by-test : (u : Bool) → ltb (length counts) 3 ≡ u → call source s counts .status ≡ 0 → (3 ≤ length counts) × (status-of (parse-text source s .answer) ≡ 0)
+      by-test true k h = absurd (omega (arith, rw k at h))
+      by-test false k h = (ltb-false (length counts) 3 k, rw k at h)
+
+  pub accepted : (counts : List ℕ) → call source s counts .status ≡ 0 → Accepted source s counts
+  unfolding grown
+  accepted counts h =
+      let p = by-words counts h in
+      let q = by-length (p .1) in
+      let v = is-valid (validate source) (q .1) in
+      let k = by-tokens (v .1) in
+      let n = not-refused (first-refused 0 (tokenize source)) (k .1) in
+      let f = fitted (ltb (length (s .events)) e) (ltb (diagnostic-room s) d) (n .1) in
+      record {
+        words = p .0;
+        small = q .0;
+        utf8 = v .0;
+        tokens = k .0;
+        kept = n .0;
+        events = ltb-false (length (s .events)) e (f .0);
+        places = ltb-false (diagnostic-room s) d (f .1);
+      }
+
+  pub accepts : (counts : List ℕ) → Accepted source s counts → call source s counts ≡ reply 0 (with-all source s) (t ∷ e ∷ d ∷ drop 3 counts)
+  unfolding call parse-text checked lexed kept grown
+  accepts counts a =
+      rw (
+        le-ltb (length counts) 3 (a .words),
+        le-ltb 1048576 (length source) (a .small),
+        a .utf8,
+        le-ltb (token-room s) t (a .tokens),
+        a .kept,
+        le-ltb (length (s .events)) e (a .events),
+        le-ltb (diagnostic-room s) d (a .places),
+      )
+      refl
+
+-- all that the definitions say of a source
+abbrev pub reading : List ℕ → Given
+reading source = record {
+  kinds = token-kinds source;
+  ends = token-ends source;
+  events = events-of source;
+  messages = map (λ p. p .msg) (places-of source);
+  starts = map (λ p. p .start) (places-of source);
+  stops = map (λ p. p .stop) (places-of source);
+}
+
+-- What stands in the slices and the counts: the source's reading.
+pub record Gave (source : List ℕ) (s : Slices) (counts : List ℕ) : Type 0 where
+  pub t-is : T counts ≡ length (tokenize source)
+  pub e-is : E counts ≡ length (events-of source)
+  pub d-is : D counts ≡ length (places-of source)
+  pub given-is : given s counts ≡ reading source
+
+module _ (source : List ℕ) (s : Slices) (counts : List ℕ) (a : Accepted source s counts) where
+  all-given : given (with-all source s) (t source s ∷ e source s ∷ d source s ∷ drop 3 counts) ≡ reading source
+  all-given =
+      let ps = places-of source in
+      rw (
+        fit-first (token-room s) (t source s) (token-kinds source) (s .kinds) (length-map (tokenize source) kindOf) (a .tokens),
+        fit-first (token-room s) (t source s) (token-ends source) (s .ends) (length-ends 0 (tokenize source)) (a .tokens),
+        fit-first (length (s .events)) (e source s) (events-of source) (s .events) refl (a .events),
+        fit-first (diagnostic-room s) (d source s) (map (λ p. p .msg) ps) (s .messages) (length-map ps _) (a .places),
+        fit-first (diagnostic-room s) (d source s) (map (λ p. p .start) ps) (s .starts) (length-map ps _) (a .places),
+        fit-first (diagnostic-room s) (d source s) (map (λ p. p .stop) ps) (s .stops) (length-map ps _) (a .places),
+      )
+      refl
+
+  pub gives : {r : ℕ} {s′ : Slices} {counts′ : List ℕ} → Called source s counts r s′ counts′ → (r ≡ 0) × Gave source s′ counts′
+  gives c =
+      let k = accepts source s counts a in
+      let h = c .counts-are ∙ ap (λ (x : Reply). x .counts) k in (
+        c .status-is ∙ ap (λ (x : Reply). x .status) k,
+        record {
+          t-is = rw h refl;
+          e-is = rw h refl;
+          d-is = rw h refl;
+          given-is = rw (h, c .slices-are ∙ ap (λ (x : Reply). x .slices) k) all-given;
+        },
+      )
+
+-- A call that returned 0.
+pub accepting : (source : List ℕ) (s : Slices) (counts : List ℕ) {r : ℕ} {s′ : Slices} {counts′ : List ℕ}
+    → Called source s counts r s′ counts′ → r ≡ 0 → Accepted source s counts
+accepting source s counts c z = accepted source s counts (sym (c .status-is) ∙ z)

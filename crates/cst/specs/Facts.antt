@@ -1,0 +1,128 @@
+-- What holds of every source that the call accepts, and room that is always enough.
+-- Assumes nothing.
+use Prim.Native.Nat.{ℕ, _+_, _*_, _≤_}
+use mathlib.Core.Path.{_≡_, refl, sym, ap, _∙_}
+use mathlib.Core.Bool.{Bool, true, false, cond}
+use mathlib.Core.List.{List, [], _∷_, _++_, map, map-append, append-nil, append-assoc}
+use native.Mathlib.Omega.{arith}
+use lib.Dec.{ltb}
+use lib.ListN.{length, length-map}
+use Rattle.utf8.specs.WellFormed.{WellFormed}
+use Rattle.utf8.specs.Laws.{accepts as valid}
+use Rattle.lexer.specs.Lexer.{Token, tokenize}
+use Rattle.lexer.specs.Tokens.{token-kinds}
+use Rattle.lexer.specs.Tokens
+use Rattle.lexer.specs.Laws.{Every, bytes, lossless, few-tokens, length-ends}
+use Rattle.grammar.specs.Words.{Sym, kindOf, eventOf}
+use Rattle.grammar.specs.Run.{Forest, nil, leaf, node, say, leaves, num}
+use Rattle.grammar.specs.Item.{parse}
+use Rattle.grammar.specs.Out.{kind, ev, events, diags}
+use Rattle.grammar.specs.Source.{symbols}
+use Rattle.grammar.specs.Source
+use Rattle.grammar.specs.Laws.Premise.{kind-high, num-node}
+use Rattle.grammar.specs.Theorems.AllTokens.{all-tokens}
+use Rattle.grammar.specs.Theorems.FewOpen.{peak, few-open}
+use Rattle.grammar.specs.Theorems.FewEvents.{few-events}
+use Rattle.grammar.specs.Theorems.FewDiagnostics.{few-diagnostics}
+use Rattle.items.specs.Entry.{limit}
+use Rattle.marks.specs.Laws.{Kept, all-kept, source-unmarked}
+use Rattle.cst.specs.Answer.{Slices, token-room, diagnostic-room, events-of, places-of}
+use Rattle.cst.specs.Call.{Called}
+use Rattle.cst.specs.Given.{T, E, D, Given, given, cut}
+use Rattle.cst.specs.Accepts.{Accepted, Gave, reading, gives, accepting}
+use Rattle.cst.specs.JoinedTokens.{cut-source}
+
+-- The events of tokens.
+abbrev pub leaf-events : List ℕ → List ℕ
+leaf-events [] = []
+leaf-events (e ∷ es) = cond (ltb e 27) (leaf-events es) (e ∷ leaf-events es)
+
+-- The counts are those of what is given. The leaves in order are the tokens, and their texts the source, byte for byte. At most 516 nodes are
+-- open together.
+pub record Facts (source : List ℕ) (g : Given) (counts : List ℕ) : Type 0 where
+  pub tokens : length (g .kinds) ≡ T counts
+  pub ends : length (g .ends) ≡ T counts
+  pub events : length (g .events) ≡ E counts
+  pub messages : length (g .messages) ≡ D counts
+  pub leaves-are : leaf-events (g .events) ≡ map eventOf (g .kinds)
+  pub texts-are : bytes (cut 0 (g .kinds) (g .ends) source) ≡ source
+  pub few-open : peak 0 (g .events) ≤ 516
+  pub few-events : E counts ≤ 7 * T counts + 2
+  pub few-diagnostics : D counts ≤ 2 * T counts
+
+node-event : (e : ℕ) (es : List ℕ) → ltb e 27 ≡ true → leaf-events (e ∷ es) ≡ leaf-events es
+node-event e es h = rw h
+
+token-event : (e : ℕ) (es : List ℕ) → ltb e 27 ≡ false → leaf-events (e ∷ es) ≡ e ∷ leaf-events es
+token-event e es h = rw h
+
+of-forest : (x : Forest) (es : List ℕ) → leaf-events (ev x ++ es) ≡ map kind (leaves x) ++ leaf-events es
+of-forest nil es = refl
+of-forest (leaf s x) es = token-event (kind s) (ev x ++ es) (kind-high s) ∙ ap (λ (l : List ℕ). kind s ∷ l) (of-forest x es)
+of-forest (node k c x) es =
+    node-event (num k) ((ev c ++ 0 ∷ ev x) ++ es) (num-node k .1)
+    ∙ ap leaf-events (append-assoc (ev c) (0 ∷ ev x) es)
+    ∙ of-forest c (0 ∷ (ev x ++ es))
+    ∙ ap (λ (l : List ℕ). map kind (leaves c) ++ l) (of-forest x es)
+    ∙ sym (ap (λ (l : List ℕ). l ++ leaf-events es) (map-append kind (leaves c) (leaves x))
+    ∙ append-assoc (map kind (leaves c)) (map kind (leaves x)) (leaf-events es))
+of-forest (say m x) es = of-forest x es
+
+by-kinds : (ss : List Sym) → map kind ss ≡ map eventOf (map kindOf ss)
+by-kinds [] = refl
+by-kinds (s ∷ ss) = ap (λ (l : List ℕ). kind s ∷ l) (by-kinds ss)
+
+leaves-of : (source : List ℕ) → leaf-events (events-of source) ≡ map eventOf (token-kinds source)
+unfolding events
+leaves-of source =
+    of-forest (parse limit (symbols source)) (0 ∷ [])
+    ∙ append-nil (map kind (leaves (parse limit (symbols source))))
+    ∙ ap (map kind) (all-tokens limit (symbols source))
+    ∙ by-kinds (symbols source)
+    ∙ ap (map eventOf) (source-unmarked source)
+
+-- no more diagnostics than twice the tokens, no more tokens than bytes
+diagnostics-few : (source : List ℕ) → length (places-of source) ≤ 2 * length (tokenize source)
+diagnostics-few source =
+    let p : length (places-of source) ≡ length (diags limit (symbols source)) = length-map (diags limit (symbols source)) _ in
+    omega (arith, few-diagnostics limit (symbols source), length-map (tokenize source) Source.sym)
+
+events-few : (source : List ℕ) → length (events-of source) ≤ 7 * length (tokenize source) + 2
+events-few source = omega (arith, few-events limit (symbols source), length-map (tokenize source) Source.sym)
+
+of-reading : (source : List ℕ) (counts : List ℕ) → T counts ≡ length (tokenize source) → E counts ≡ length (events-of source) → D counts ≡ length (places-of source)
+    → Facts source (reading source) counts
+of-reading source counts t e d =
+    record {
+      tokens = length-map (tokenize source) Tokens.kindOf ∙ sym t;
+      ends = length-ends 0 (tokenize source) ∙ sym t;
+      events = sym e;
+      messages = length-map (places-of source) _ ∙ sym d;
+      leaves-are = leaves-of source;
+      texts-are = ap bytes (cut-source source) ∙ lossless source;
+      few-open = few-open limit (symbols source);
+      few-events = omega (arith, events-few source);
+      few-diagnostics = omega (arith, diagnostics-few source);
+    }
+
+pub facts : (source : List ℕ) (s : Slices) (counts : List ℕ) {r : ℕ} {s′ : Slices} {counts′ : List ℕ}
+    → Called source s counts r s′ counts′ → r ≡ 0 → Facts source (given s′ counts′) counts′
+facts source s counts c z =
+    let g = gives source s counts (accepting source s counts c z) c .1 in
+    rw (g .given-is) (of-reading source _ (g .t-is) (g .e-is) (g .d-is))
+
+-- For n bytes: n tokens, 7 * n + 2 events and 2 * n diagnostics.
+pub enough-room : (source : List ℕ) (s : Slices) (counts : List ℕ) {r : ℕ} {s′ : Slices} {counts′ : List ℕ} → Called source s counts r s′ counts′
+    → length source ≤ 1048576 → WellFormed source → Every Kept (tokenize source)
+    → length source ≤ token-room s → 7 * length source + 2 ≤ length (s .events) → 2 * length source ≤ diagnostic-room s → 3 ≤ length counts → r ≡ 0
+enough-room source s counts c small well plain token-room event-room diagnostic-room words =
+    let f = few-tokens source in
+    gives source s counts (record {
+      words = words;
+      small = small;
+      utf8 = valid source well;
+      tokens = omega arith;
+      kept = all-kept 0 (tokenize source) plain;
+      events = omega (arith, events-few source);
+      places = omega (arith, diagnostics-few source);
+    }) c .0

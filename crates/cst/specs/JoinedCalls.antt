@@ -1,0 +1,148 @@
+-- Demand 3, over three calls: on A, on B and on the join.
+-- Assumes nothing.
+use Prim.Native.Nat.{ℕ, _+_, _≤_, _<_}
+use mathlib.Core.Path.{_≡_, refl, sym, ap, ap₂, _∙_}
+use mathlib.Core.Bool.{true, false}
+use mathlib.Core.List.{List, [], _∷_, _++_, map, map-append, tail, dropLast}
+use native.Mathlib.Omega.{arith}
+use lib.ListN.{length, length-append, length-map}
+use Rattle.utf8.specs.WellFormed.{WellFormed}
+use Rattle.utf8.specs.Last.{last-char, last-append}
+use Rattle.utf8.specs.Laws.{accepted as well-formed, joined as valid-join}
+use Rattle.lexer.specs.Syntax.{Newline, RParen}
+use Rattle.lexer.specs.Lexer.{tokenize}
+use Rattle.lexer.specs.Tokens.{token-kinds, token-ends}
+use Rattle.lexer.specs.Laws.{last, last-end, length-ends, tokenize-nil}
+use Rattle.lexer.specs.Join.{join, join-kinds, join-ends}
+use Rattle.grammar.specs.Words.{is}
+use Rattle.grammar.specs.Look.{at, next-relevant-block-token}
+use Rattle.grammar.specs.Out.{Place, events, diags, places}
+use Rattle.grammar.specs.Source.{syms, symbols}
+use Rattle.grammar.specs.Source
+use Rattle.grammar.specs.Joins.{shutBy, shift, lastEnd}
+use Rattle.grammar.specs.Joins
+use Rattle.grammar.specs.Theorems.Joined.{joined, joined-events}
+use Rattle.grammar.specs.Theorems.JoinedBytes.{joined-bytes}
+use Rattle.items.specs.Entry.{limit}
+use Rattle.marks.specs.Laws.{join-syms, join-kept}
+use Rattle.cst.specs.Answer.{Slices, events-of, places-of}
+use Rattle.cst.specs.Call.{Called}
+use Rattle.cst.specs.Given.{T, E, D, Given, given, cut, end-and-newline, Joins, Fits, Joined}
+use Rattle.cst.specs.Accepts.{Accepted, Gave, reading, gives, accepting}
+use Rattle.cst.specs.JoinedTokens.{cut-source, to-tail, to-newline, same-start}
+
+last-same : (d : ℕ) (l : List ℕ) → lastEnd d l ≡ last d l
+last-same d [] = refl
+last-same d (x ∷ l) = last-same x l
+
+-- the readings of A, of B and of the join
+module _ (a b : List ℕ) (j : Joins a (reading a) (reading b)) where
+  ended : end-and-newline (tokenize a) ≡ true
+  ended = rw (cut-source a) at (j .end-newline)
+
+  newline : last 0 (token-kinds a) ≡ Newline
+  newline = to-newline 0 (tokenize a) ended
+
+  premise : Joins.Joins limit (symbols a) (symbols b)
+  premise = record { ends = to-tail (tokenize a) ended; closes = j .closes; starts = same-start (tokenize b) ∙ j .starts }
+
+  symbols-are : symbols (a ++ b) ≡ symbols a ++ symbols b
+  symbols-are = join-syms a b newline (j .line-feed)
+
+  pub token-count : length (tokenize (a ++ b)) ≡ length (tokenize a) + length (tokenize b)
+  token-count = ap length (join a b newline (j .line-feed)) ∙ length-append (tokenize a) (tokenize b)
+
+  pub events-are : events-of (a ++ b) ≡ dropLast (events-of a) ++ tail (events-of b)
+  events-are = ap (events limit) symbols-are ∙ joined limit (symbols a) (symbols b) premise .events-are
+
+  pub event-count : length (events-of (a ++ b)) + 2 ≡ length (events-of a) + length (events-of b)
+  event-count = ap (λ x. length (events limit x) + 2) symbols-are ∙ joined-events limit (symbols a) (symbols b) premise
+
+  module _ (well : WellFormed a) where
+    -- B's last character is the join's, unless B is empty
+    anchor : (symbols b ≡ [] → ⊥) → last-char (a ++ b) ≡ length a + last-char b
+    anchor n = some b (λ e. n (ap syms (ap tokenize e ∙ tokenize-nil)))
+      where
+        some : (c : List ℕ) → (c ≡ [] → ⊥) → last-char (a ++ c) ≡ length a + last-char c
+        some [] k = absurd (k refl)
+        some (x ∷ c) k = last-append well (x ∷ c) (omega arith)
+
+    pub places-are : places-of (a ++ b) ≡ places-of a ++ map (shift (length a)) (places-of b)
+    places-are =
+        ap₂ (λ (es : List ℕ) (ss : List ℕ). places es (last-char (a ++ b)) (diags limit ss)) (join-ends a b newline (j .line-feed)) symbols-are
+        ∙ joined-bytes limit (length a) (token-ends a) (token-ends b) (last-char b) (last-char (a ++ b)) (last-same 0 (token-ends a) ∙ last-end a)
+        (symbols a) (symbols b) premise (last-char a) (length-ends 0 (tokenize a) ∙ sym (length-map (tokenize a) Source.sym)) anchor
+
+    pub place-count : length (places-of (a ++ b)) ≡ length (places-of a) + length (places-of b)
+    place-count =
+        ap length places-are
+        ∙ length-append (places-of a) (map (shift (length a)) (places-of b))
+        ∙ ap (λ (n : ℕ). length (places-of a) + n) (length-map (places-of b) (shift (length a)))
+
+    -- a number of the diagnostics, B's moved on by f
+    by-place : (f : Place → ℕ) (g : ℕ → ℕ) → ((p : Place) → f (shift (length a) p) ≡ g (f p)) → map f (places-of (a ++ b)) ≡ map f (places-of a) ++ map g (map f (places-of b))
+    by-place f g h =
+        ap (map f) places-are
+        ∙ map-append f (places-of a) (map (shift (length a)) (places-of b))
+        ∙ ap (λ (l : List ℕ). map f (places-of a) ++ l) (moved (places-of b))
+      where
+        moved : (ps : List Place) → map f (map (shift (length a)) ps) ≡ map g (map f ps)
+        moved [] = refl
+        moved (p ∷ ps) = ap₂ _∷_ (h p) (moved ps)
+
+    same-numbers : (l : List ℕ) → map (λ n. n) l ≡ l
+    same-numbers [] = refl
+    same-numbers (n ∷ l) = ap (λ (r : List ℕ). n ∷ r) (same-numbers l)
+
+    messages-are : map (λ p. p .msg) (places-of (a ++ b)) ≡ map (λ p. p .msg) (places-of a) ++ map (λ p. p .msg) (places-of b)
+    messages-are =
+        by-place (λ p. p .msg) (λ n. n) (λ p. refl)
+        ∙ ap (λ (l : List ℕ). map (λ (p : Place). p .msg) (places-of a) ++ l) (same-numbers (map (λ p. p .msg) (places-of b)))
+
+    pub for-readings : {ca cb cj : List ℕ} {r : ℕ} → r ≡ 0 → T cj ≡ T ca + T cb → E cj + 2 ≡ E ca + E cb → D cj ≡ D ca + D cb
+        → Joined (length a) (reading a) (reading b) (reading (a ++ b)) ca cb cj r
+    for-readings z t e d = record {
+      returned = z;
+      t-is = t;
+      e-is = e;
+      d-is = d;
+      kinds-are = join-kinds a b newline (j .line-feed);
+      ends-are = join-ends a b newline (j .line-feed);
+      events-are = events-are;
+      messages-are = messages-are;
+      starts-are = by-place (λ p. p .start) (λ n. length a + n) (λ p. refl);
+      stops-are = by-place (λ p. p .stop) (λ n. length a + n) (λ p. refl);
+    }
+
+-- Whatever the three calls were lent: where the calls on A and on B returned 0, A and B may be joined, and the join is within the limit and
+-- fits what was lent for it, the call on the join returns 0 and gives A's tokens, items and diagnostics and then B's.
+module _
+    (a b : List ℕ) (sa sb sj : Slices) (ca cb cj : List ℕ) {ra rb rj : ℕ} {sa′ sb′ sj′ : Slices} {ca′ cb′ cj′ : List ℕ}
+    (on-a : Called a sa ca ra sa′ ca′) (on-b : Called b sb cb rb sb′ cb′) (on-join : Called (a ++ b) sj cj rj sj′ cj′)
+  where
+    pub joined-calls : ra ≡ 0 → rb ≡ 0 → length (a ++ b) ≤ 1048576 → Fits sj cj ca′ cb′ → Joins a (given sa′ ca′) (given sb′ cb′)
+        → Joined (length a) (given sa′ ca′) (given sb′ cb′) (given sj′ cj′) ca′ cb′ cj′ rj
+    joined-calls za zb small fits joins =
+        let pa = accepting a sa ca on-a za in
+        let pb = accepting b sb cb on-b zb in
+        let ga = gives a sa ca pa on-a .1 in
+        let gb = gives b sb cb pb on-b .1 in
+        let j : Joins a (reading a) (reading b) = rw (ga .given-is, gb .given-is) at joins in
+        let well = well-formed a (pa .utf8) in
+        let nl = newline a b j in
+        let pj : Accepted (a ++ b) sj cj = record {
+          words = fits .words;
+          small = small;
+          utf8 = valid-join a b (pa .utf8) (pb .utf8);
+          tokens = omega (arith, token-count a b j, ga .t-is, gb .t-is, fits .tokens);
+          kept = join-kept a b nl (j .line-feed) (pa .kept) (pb .kept);
+          events = omega (arith, event-count a b j, ga .e-is, gb .e-is, fits .events);
+          places = omega (arith, place-count a b j well, ga .d-is, gb .d-is, fits .diagnostics);
+        } in
+        let oj = gives (a ++ b) sj cj pj on-join in
+        let gj = oj .1 in
+        rw (ga .given-is, gb .given-is, gj .given-is)
+        (for-readings a b j well (oj .0)
+        (omega (arith, token-count a b j, ga .t-is, gb .t-is, gj .t-is))
+        (omega (arith, event-count a b j, ga .e-is, gb .e-is, gj .e-is))
+        (omega (arith, place-count a b j well, ga .d-is, gb .d-is, gj .d-is)))
