@@ -8,26 +8,28 @@ use lib.ListN.{length}
 use Rattle.lexer.specs.Syntax
 use Rattle.grammar.specs.Words.{Sym, File, from, is, DO, ELSE, END, IF, REPEAT, WHILE}
 use Rattle.grammar.specs.Look.{oneOf, at, eof, current, regular-trivia, at-bare-while, control-flow, starts-instruction, at-terminator, at-stray-else, at-regular-trivia, is-top-level-starter, at-top-level-form-starter-in-block}
-use Rattle.grammar.specs.Run.{P, Block, pure, peek, inNode, pick, _>>=_, _>>_, if_then_else_}
+use Rattle.grammar.specs.Run.{P, Block, pure, peek, inNode, pick, take, _>>=_, _>>_, if_then_else_}
 use Rattle.grammar.specs.State.{run}
+use Rattle.grammar.specs.declared.message.Message.{Message}
 use Rattle.grammar.specs.declared.block.BlockOwner.{BlockOwner}
 use Rattle.grammar.specs.declared.block.Terminators.{Terminators}
 use Rattle.grammar.specs.declared.block.BlockParseOutcome.{BlockParseOutcome}
 use Rattle.grammar.specs.Block.{block-in, parse-block, parse-control-flow, found-terminator, reached-eof, closing, ended, do-condition}
-use Rattle.grammar.specs.Bump.{nop}
-use Rattle.grammar.specs.Laws.Here.{is-not, none, oneOf-not}
+use Rattle.grammar.specs.Bump.{nop, expect-kind}
+use Rattle.grammar.specs.Laws.Here.{is-not, none, oneOf-not, expect-here}
 use Rattle.grammar.specs.Laws.Live.{some, eats-take}
 use Rattle.grammar.specs.Laws.LiveLine.{eats-error-token, eats-instruction}
 use Rattle.grammar.specs.Laws.LiveBlock.{bare-while, repeat-left}
 use Rattle.grammar.specs.Laws.Stops.{stops-block}
-use Rattle.parser.specs.Rep.{World, Wrote, Went, WentTo, Paid}
-use Rattle.parser.proofs.Kit.{like-to, yes-to, no-to, done-to, bind-to}
+use Rattle.parser.specs.Rep.{World, world, Wrote, Went, WentTo, Paid}
+use Rattle.parser.proofs.Kit.{Leads, answers, like, like-to, yes-to, no-to, done-to, bind-to}
 use Rattle.parser.proofs.Laws.{at-current}
 use Rattle.blocks.specs.declared.arm.Taken.{Taken}
 use Rattle.blocks.specs.declared.arm.Closing.{Closing}
 use Rattle.blocks.specs.declared.arm.Arm.{Arm}
+use Rattle.blocks.specs.declared.rounds.Stopped.{Stopped}
 use Rattle.blocks.specs.Arms.{arm-of, inner-arm, by-arm, block-by, silent, taking, ending}
-use Rattle.blocks.specs.Shapes.{keyword-line, else-line, else-part, behind, Opened, ItemAt, Ended, Finished}
+use Rattle.blocks.specs.Shapes.{keyword-line, else-line, else-part, behind, Opened, ItemAt, Ended, Finished, AtForm, Rounded}
 
 -- ---- tests of the token here
 -- a test of its number
@@ -72,6 +74,24 @@ trivia-no-end Terminators.While (s ∷ r) e = rw (is-not regular-trivia WHILE s 
 pub plain-starter : (r : List Sym) → at (is Syntax.DocComment) r ≡ false → at-top-level-form-starter-in-block r ≡ is-top-level-starter r
 unfolding at-top-level-form-starter-in-block
 plain-starter r e = rw (at-top-level-form-starter-in-block, e)
+
+-- at its kind, expect_kind takes the token
+expect-take : (k : Sym) (m : Message) → regular-trivia k ≡ false → (r : List Sym) → at (is k) r ≡ true → expect-kind k m r ≡ take r
+unfolding at take
+expect-take k m t [] e = absurd (false≢true e)
+expect-take k m t (s ∷ r) e = expect-here k m t s r e
+
+take-says : (k : Sym) (r : List Sym) → at (is k) r ≡ true → take r .val ≡ true
+unfolding at take
+take-says k [] e = absurd (false≢true e)
+take-says k (s ∷ r) e = refl
+
+module _ {F : File} {w w′ : World} (k : Sym) (m : Message) (t : regular-trivia k ≡ false) (e : at (is k) (from F (w .c .pos)) ≡ true) where
+  pub expected : Went F take w w′ → WentTo F (expect-kind k m) w w′ true
+  expected h = record { went = like take (expect-take k m t _ e) h; val = ap (λ x. x .val) (expect-take k m t _ e) ∙ take-says k _ e }
+
+  pub take-expected : Went F (expect-kind k m) w w′ → Went F take w w′
+  take-expected = like (expect-kind k m) (sym (expect-take k m t _ e))
 
 -- ---- arms
 -- what the tests before an arm have shown
@@ -169,6 +189,13 @@ closed {owner} {w} {u} {o} q h p n e d j = record {
 pub no-item : {F : File} {p : ℕ} → ItemAt F p false
 no-item = record { starts = λ h. absurd (false≢true h) }
 
+pub said-no-item : {F : File} {p : ℕ} {i : Bool} → i ≡ false → ItemAt F p i
+said-no-item e = record { starts = λ h. absurd (false≢true (sym e ∙ h)) }
+
+-- an outcome that the code has made
+pub gives : {F : File} {w : World} {a b : BlockParseOutcome} → b ≡ a → WentTo F (pure a) w w b
+gives {a} e = answers (done-to a) (sym e)
+
 -- ---- parse_if behind its first block, and parse_do_while behind its body
 module _ {F : File} {w u : World} (d : ℕ) {x b : Bool} where
   pub no-else : (o : BlockParseOutcome) → x ≡ (not (reached-eof o) && at (is ELSE) (from F (w .c .pos))) → x ≡ false
@@ -210,3 +237,39 @@ at-while {F} {w} {w′} {o} d h e =
 -- the last of the four forms
 pub repeat-here : (r : List Sym) → at control-flow r ≡ true → at (is IF) r ≡ false → at (is DO) r ≡ false → at (is WHILE) r ≡ false → at (is REPEAT) r ≡ true
 repeat-here r a b c d = repeat-left r (rw (a, b, c, d))
+
+-- ---- the rounds of a block
+module _ {F : File} {owner : BlockOwner} {terminators : Terminators} {depth : ℕ} {m w v w′ : World} {word word′ : Sym} {outcome : BlockParseOutcome} {item control : Bool} where
+  -- the rounds behind a form, which goes from w to v, are rounds from before it on
+  pub from-form : AtForm F owner terminators depth m w word → ((u : World) (r : BlockParseOutcome) → WentTo F (block-in 256 owner terminators depth) v u r → WentTo F (block-in 256 owner terminators depth) w u r)
+      → Paid 7 0 0 F (w .c) (v .c) → Rounded F owner terminators depth v w′ outcome item control word′ → Rounded F owner terminators depth m w′ outcome item control word′
+  from-form a f p r = record {
+    form = λ e. let b = r .form e in record { on = λ u x h. a .on u x (f u x (b .on u x h)); arm = b .arm; first = b .first; below = b .below; paid = omega (arith, a .paid, p, b .paid) };
+    over = λ e. let b = r .over e in record { mid = b .mid; went = a .on _ _ (f _ _ (b .went)); wrote = b .wrote; paid = omega (arith, a .paid, p, b .paid); here = b .here };
+  }
+
+-- the same behind rounds that took tokens
+pub from-here : {F : File} {owner : BlockOwner} {terminators : Terminators} {depth : ℕ} {m w w′ : World} {word : Sym} {outcome : BlockParseOutcome} {item control : Bool}
+    → Leads F (block-in 256 owner terminators depth) m (block-in 256 owner terminators depth) w → Paid 7 0 0 F (m .c) (w .c)
+    → Rounded F owner terminators depth w w′ outcome item control word → Rounded F owner terminators depth m w′ outcome item control word
+from-here l p r = record {
+  form = λ e. let b = r .form e in record { on = λ u x h. l .on u x (b .on u x h); arm = b .arm; first = b .first; below = b .below; paid = omega (arith, p, b .paid) };
+  over = λ e. let b = r .over e in record { mid = b .mid; went = l .on _ _ (b .went); wrote = b .wrote; paid = omega (arith, p, b .paid); here = b .here };
+}
+
+-- rounds go ahead
+pub ahead : {F : File} {owner : BlockOwner} {terminators : Terminators} {depth : ℕ} {w w′ : World} {outcome : BlockParseOutcome} {item control : Bool} {word : Sym}
+    → Rounded F owner terminators depth w w′ outcome item control word → (w .c .pos ≤ w′ .c .pos) × (w′ .c .pos ≤ length F)
+ahead {F} {w} {w′} {control} r = go control refl
+  where
+    go : (b : Bool) → control ≡ b → (w .c .pos ≤ w′ .c .pos) × (w′ .c .pos ≤ length F)
+    go true e = (r .form e .paid .ahead, r .form e .paid .within)
+    go false e = (r .over e .paid .ahead, r .over e .paid .within)
+
+-- what parse_block's loop holds: rounds up to where it began are rounds up to where it is, and the slices keep their lengths
+pub record Going (F : File) (owner : BlockOwner) (terminators : Terminators) (depth : ℕ) (e₀ m₀ p₀ : List ℕ) (s₀ : Stopped) (e m p : List ℕ) (s : Stopped) : Type 0 where
+  pub on : (w : World) → Rounded F owner terminators depth w (world e₀ m₀ p₀ (s₀ .c)) (s₀ .outcome) (s₀ .item) (s₀ .control) (s₀ .word)
+      → Rounded F owner terminators depth w (world e m p (s .c)) (s .outcome) (s .item) (s .control) (s .word)
+  pub ev : length e ≡ length e₀
+  pub dm : length m ≡ length m₀
+  pub ds : length p ≡ length p₀

@@ -1,41 +1,42 @@
 // Blocks and the four control forms call each other in a cycle; each call has fewer tokens left, or as many in a later function.
-use crate::arm::Arm;
-use crate::arm::arm_here;
+// The compiler makes one frame of them. To keep it small, a call into the cycle stands in a function of its own: its arguments then share their places.
 use crate::close::BlockEnd;
 use crate::close::Form;
-use crate::close::close;
+use crate::close::ended_file;
 use crate::close::finish;
 use crate::close::found_terminator;
 use crate::close::goes_to_else;
 use crate::header::do_header;
 use crate::header::else_line;
-use crate::header::header;
-use crate::header::keyword_line;
-use crate::reject::reject_excessive_control_flow_nesting;
-use crate::step::take;
+use crate::header::if_header;
+use crate::header::repeat_header;
+use crate::header::while_header;
+use crate::header::while_line;
+use crate::rounds::first_rounds;
+use crate::rounds::next_rounds;
 use grammar::block::BlockOwner;
-use grammar::block::BlockParseOutcome;
 use grammar::block::Terminators;
 use parser::cursor::Cursor;
-use parser::cursor::put;
 use parser::kinds::DO;
 use parser::kinds::IF;
-use parser::kinds::REPEAT;
 use parser::kinds::WHILE;
-use parser::look::Remembered;
-use parser::look::current;
 ghost use mathlib.Core.Path.{_≡_};
 ghost use mathlib.Core.Bool.{true};
 ghost use Prim.Native.Nat.{_≤_, _<_};
 ghost use lib.ListN.{drop};
 ghost use Rattle.grammar.specs.Words.{is, DO as doWord, IF as ifWord, REPEAT as repeatWord, WHILE as whileWord};
-ghost use Rattle.grammar.specs.Look.{at, control-flow};
+ghost use Rattle.grammar.specs.Look.{at, current, control-flow};
 ghost use Rattle.grammar.specs.Block.{parse-block, parse-if, parse-while, parse-do-while, parse-repeat, parse-control-flow};
 ghost use Rattle.parser.specs.Rep.{world, Ready, RanTo};
-ghost use Rattle.blocks.specs.Shapes.{ItemAt};
+ghost use Rattle.blocks.specs.Shapes.{ItemAt, Then, Body, Last};
 
-// The limit on control-flow nodes in one another: MAX_CONTROL_FLOW_NESTING.
-const LIMIT: usize = 256;
+// A form's first block: whether another follows, and if not, the form's end.
+struct Half {
+    c: Cursor,
+    more: bool,
+    eof: bool,
+    item: bool,
+}
 
 pub fn parse_block(
     kinds: &[u16],
@@ -50,66 +51,38 @@ pub fn parse_block(
     requires { ⌜ (Ready 8 (now kinds) c0) × (depth ≤ 256) ⌝ }
     ensures { λ r. ⌜ (RanTo 7 4 1 (now (kinds .entry)) (parse-block 256 owner terminators depth) (world (now (ev .entry)) (now (dm .entry)) (now (ds .entry)) c0) (world (now (ev .exit)) (now (dm .exit)) (now (ds .exit)) (r .c)) (r .outcome)) × ItemAt (now (kinds .entry)) (r .c .pos) (r .item) ⌝ }
 {
-    let mut c = put(ev, c0, 18);
-    let mut known = Remembered {
-        next: 0,
-        starts: false,
-    };
-    let mut item = false;
-    loop {
-        let seen = arm_here(kinds, c.pos, terminators, known, item);
-        let a = seen.arm;
-        known = seen.known;
-        match a {
-            Arm::Takes(t) => {
-                c = take(kinds, ev, dm, ds, c, t);
-                item = false;
-                continue;
-            }
-            Arm::Closes(k) => {
-                return close(ev, dm, ds, c, owner, k);
-            }
-            Arm::Control => {
-                if LIMIT <= depth {
-                    let d = reject_excessive_control_flow_nesting(kinds, ev, dm, ds, c);
-                    let e = put(ev, d, 0);
-                    return BlockEnd {
-                        c: e,
-                        outcome: BlockParseOutcome::ReachedEof,
-                        item: false,
-                    };
-                }
-                let f = parse_control_flow(kinds, ev, dm, ds, c, depth + 1);
-                let fc = f.c;
-                if f.eof {
-                    let e = put(ev, fc, 0);
-                    return BlockEnd {
-                        c: e,
-                        outcome: BlockParseOutcome::ReachedEof,
-                        item: false,
-                    };
-                }
-                c = fc;
-                item = f.item;
-                continue;
-            }
+    let mut s = first_rounds(kinds, ev, dm, ds, c0, owner, terminators, depth);
+    while s.control {
+        let c = s.c;
+        let f = parse_control_flow(kinds, ev, dm, ds, c, s.word, depth + 1);
+        let fc = f.c;
+        if f.eof {
+            return ended_file(ev, fc);
         }
+        s = next_rounds(kinds, ev, dm, ds, fc, owner, terminators, depth, f.item);
+    }
+    let c = s.c;
+    let outcome = s.outcome;
+    BlockEnd {
+        c: c,
+        outcome: outcome,
+        item: s.item,
     }
 }
 
-// The form that starts here.
+// The form that starts here; k is its keyword.
 fn parse_control_flow(
     kinds: &[u16],
     ev: &mut [u16],
     dm: &mut [u16],
     ds: &mut [u32],
     c0: Cursor,
+    k: u16,
     depth: usize,
 ) -> Form
-    requires { ⌜ (Ready 7 (now kinds) c0) × (at control-flow (drop (c0 .pos) (now kinds)) ≡ true) × (depth ≤ 256) ⌝ }
+    requires { ⌜ (Ready 7 (now kinds) c0) × (k ≡ current (drop (c0 .pos) (now kinds))) × (at control-flow (drop (c0 .pos) (now kinds)) ≡ true) × (depth ≤ 256) ⌝ }
     ensures { λ r. ⌜ (RanTo 7 0 0 (now (kinds .entry)) (parse-control-flow (parse-block 256) depth) (world (now (ev .entry)) (now (dm .entry)) (now (ds .entry)) c0) (world (now (ev .exit)) (now (dm .exit)) (now (ds .exit)) (r .c)) (r .eof)) × (ItemAt (now (kinds .entry)) (r .c .pos) (r .item)) × (c0 .pos < r .c .pos) ⌝ }
 {
-    let k = current(kinds, c0.pos);
     if k == IF {
         return parse_if(kinds, ev, dm, ds, c0, depth);
     }
@@ -120,6 +93,126 @@ fn parse_control_flow(
         return parse_while(kinds, ev, dm, ds, c0, depth);
     }
     parse_repeat(kinds, ev, dm, ds, c0, depth)
+}
+
+// A block inside a form. All calls of the forms go through here, so that a frame has room for the arguments of one.
+fn inner_block(
+    kinds: &[u16],
+    ev: &mut [u16],
+    dm: &mut [u16],
+    ds: &mut [u32],
+    c0: Cursor,
+    owner: BlockOwner,
+    terminators: Terminators,
+    depth: usize,
+) -> BlockEnd
+    requires { ⌜ (Ready 8 (now kinds) c0) × (depth ≤ 256) ⌝ }
+    ensures { λ r. ⌜ (RanTo 7 4 1 (now (kinds .entry)) (parse-block 256 owner terminators depth) (world (now (ev .entry)) (now (dm .entry)) (now (ds .entry)) c0) (world (now (ev .exit)) (now (dm .exit)) (now (ds .exit)) (r .c)) (r .outcome)) × ItemAt (now (kinds .entry)) (r .c .pos) (r .item) ⌝ }
+{
+    parse_block(kinds, ev, dm, ds, c0, owner, terminators, depth)
+}
+
+// A form's last block, and the form's end.
+fn last_block(
+    kinds: &[u16],
+    ev: &mut [u16],
+    dm: &mut [u16],
+    ds: &mut [u32],
+    c0: Cursor,
+    owner: BlockOwner,
+    depth: usize,
+) -> Form
+    requires { ⌜ (Ready 8 (now kinds) c0) × (depth ≤ 256) ⌝ }
+    ensures { λ r. ⌜ Last (now (kinds .entry)) owner depth (world (now (ev .entry)) (now (dm .entry)) (now (ds .entry)) c0) (world (now (ev .exit)) (now (dm .exit)) (now (ds .exit)) (r .c)) (r .eof) (r .item) ⌝ }
+{
+    let b = inner_block(kinds, ev, dm, ds, c0, owner, Terminators::End, depth);
+    finish(kinds, ev, dm, ds, b, owner)
+}
+
+// The first block of an `if`, and then the line of its `else` or the form's end.
+fn then_block(
+    kinds: &[u16],
+    ev: &mut [u16],
+    dm: &mut [u16],
+    ds: &mut [u32],
+    c0: Cursor,
+    depth: usize,
+) -> Half
+    requires { ⌜ (Ready 8 (now kinds) c0) × (depth ≤ 256) ⌝ }
+    ensures { λ r. ⌜ Then (now (kinds .entry)) depth (world (now (ev .entry)) (now (dm .entry)) (now (ds .entry)) c0) (world (now (ev .exit)) (now (dm .exit)) (now (ds .exit)) (r .c)) (r .more) (r .eof) (r .item) ⌝ }
+{
+    let b = inner_block(
+        kinds,
+        ev,
+        dm,
+        ds,
+        c0,
+        BlockOwner::If,
+        Terminators::ElseEnd,
+        depth,
+    );
+    let c = b.c;
+    let outcome = b.outcome;
+    if goes_to_else(kinds, c.pos, outcome) {
+        let e = else_line(kinds, ev, dm, ds, c);
+        return Half {
+            c: e,
+            more: true,
+            eof: false,
+            item: false,
+        };
+    }
+    let f = finish(kinds, ev, dm, ds, b, BlockOwner::If);
+    let fc = f.c;
+    Half {
+        c: fc,
+        more: false,
+        eof: f.eof,
+        item: f.item,
+    }
+}
+
+// The body of a `do`, and then the line of its `while` or the form's end.
+fn body_block(
+    kinds: &[u16],
+    ev: &mut [u16],
+    dm: &mut [u16],
+    ds: &mut [u32],
+    c0: Cursor,
+    depth: usize,
+) -> Half
+    requires { ⌜ (Ready 8 (now kinds) c0) × (depth ≤ 256) ⌝ }
+    ensures { λ r. ⌜ Body (now (kinds .entry)) depth (world (now (ev .entry)) (now (dm .entry)) (now (ds .entry)) c0) (world (now (ev .exit)) (now (dm .exit)) (now (ds .exit)) (r .c)) (r .more) (r .eof) (r .item) ⌝ }
+{
+    let b = inner_block(
+        kinds,
+        ev,
+        dm,
+        ds,
+        c0,
+        BlockOwner::DoWhileBody,
+        Terminators::While,
+        depth,
+    );
+    let c = b.c;
+    let outcome = b.outcome;
+    if found_terminator(outcome) {
+        let e = while_line(kinds, ev, dm, ds, c);
+        return Half {
+            c: e,
+            more: true,
+            eof: false,
+            item: false,
+        };
+    }
+    let f = finish(kinds, ev, dm, ds, b, BlockOwner::DoWhile);
+    let fc = f.c;
+    Half {
+        c: fc,
+        more: false,
+        eof: f.eof,
+        item: f.item,
+    }
 }
 
 fn parse_if(
@@ -133,34 +226,17 @@ fn parse_if(
     requires { ⌜ (Ready 7 (now kinds) c0) × (at (is ifWord) (drop (c0 .pos) (now kinds)) ≡ true) × (depth ≤ 256) ⌝ }
     ensures { λ r. ⌜ (RanTo 7 0 0 (now (kinds .entry)) (parse-if (parse-block 256) depth) (world (now (ev .entry)) (now (dm .entry)) (now (ds .entry)) c0) (world (now (ev .exit)) (now (dm .exit)) (now (ds .exit)) (r .c)) (r .eof)) × (ItemAt (now (kinds .entry)) (r .c .pos) (r .item)) × (c0 .pos < r .c .pos) ⌝ }
 {
-    let h = header(kinds, ev, dm, ds, c0, 19, IF);
-    let then = parse_block(
-        kinds,
-        ev,
-        dm,
-        ds,
-        h,
-        BlockOwner::If,
-        Terminators::ElseEnd,
-        depth,
-    );
-    let tc = then.c;
-    let outcome = then.outcome;
-    if !goes_to_else(kinds, tc.pos, outcome) {
-        return finish(kinds, ev, dm, ds, then, BlockOwner::If);
+    let h = if_header(kinds, ev, dm, ds, c0);
+    let b = then_block(kinds, ev, dm, ds, h, depth);
+    let c = b.c;
+    if !b.more {
+        return Form {
+            c: c,
+            eof: b.eof,
+            item: b.item,
+        };
     }
-    let e = else_line(kinds, ev, dm, ds, tc);
-    let o = parse_block(
-        kinds,
-        ev,
-        dm,
-        ds,
-        e,
-        BlockOwner::If,
-        Terminators::End,
-        depth,
-    );
-    finish(kinds, ev, dm, ds, o, BlockOwner::If)
+    last_block(kinds, ev, dm, ds, c, BlockOwner::If, depth)
 }
 
 fn parse_while(
@@ -174,18 +250,8 @@ fn parse_while(
     requires { ⌜ (Ready 7 (now kinds) c0) × (at (is whileWord) (drop (c0 .pos) (now kinds)) ≡ true) × (depth ≤ 256) ⌝ }
     ensures { λ r. ⌜ (RanTo 7 0 0 (now (kinds .entry)) (parse-while (parse-block 256) depth) (world (now (ev .entry)) (now (dm .entry)) (now (ds .entry)) c0) (world (now (ev .exit)) (now (dm .exit)) (now (ds .exit)) (r .c)) (r .eof)) × (ItemAt (now (kinds .entry)) (r .c .pos) (r .item)) × (c0 .pos < r .c .pos) ⌝ }
 {
-    let h = header(kinds, ev, dm, ds, c0, 20, WHILE);
-    let o = parse_block(
-        kinds,
-        ev,
-        dm,
-        ds,
-        h,
-        BlockOwner::While,
-        Terminators::End,
-        depth,
-    );
-    finish(kinds, ev, dm, ds, o, BlockOwner::While)
+    let h = while_header(kinds, ev, dm, ds, c0);
+    last_block(kinds, ev, dm, ds, h, BlockOwner::While, depth)
 }
 
 fn parse_do_while(
@@ -200,33 +266,16 @@ fn parse_do_while(
     ensures { λ r. ⌜ (RanTo 7 0 0 (now (kinds .entry)) (parse-do-while (parse-block 256) depth) (world (now (ev .entry)) (now (dm .entry)) (now (ds .entry)) c0) (world (now (ev .exit)) (now (dm .exit)) (now (ds .exit)) (r .c)) (r .eof)) × (ItemAt (now (kinds .entry)) (r .c .pos) (r .item)) × (c0 .pos < r .c .pos) ⌝ }
 {
     let h = do_header(kinds, ev, dm, ds, c0);
-    let body = parse_block(
-        kinds,
-        ev,
-        dm,
-        ds,
-        h,
-        BlockOwner::DoWhileBody,
-        Terminators::While,
-        depth,
-    );
-    let bc = body.c;
-    let outcome = body.outcome;
-    if !found_terminator(outcome) {
-        return finish(kinds, ev, dm, ds, body, BlockOwner::DoWhile);
+    let b = body_block(kinds, ev, dm, ds, h, depth);
+    let c = b.c;
+    if !b.more {
+        return Form {
+            c: c,
+            eof: b.eof,
+            item: b.item,
+        };
     }
-    let w = keyword_line(kinds, ev, dm, ds, bc, WHILE);
-    let o = parse_block(
-        kinds,
-        ev,
-        dm,
-        ds,
-        w,
-        BlockOwner::DoWhile,
-        Terminators::End,
-        depth,
-    );
-    finish(kinds, ev, dm, ds, o, BlockOwner::DoWhile)
+    last_block(kinds, ev, dm, ds, c, BlockOwner::DoWhile, depth)
 }
 
 fn parse_repeat(
@@ -240,16 +289,6 @@ fn parse_repeat(
     requires { ⌜ (Ready 7 (now kinds) c0) × (at (is repeatWord) (drop (c0 .pos) (now kinds)) ≡ true) × (depth ≤ 256) ⌝ }
     ensures { λ r. ⌜ (RanTo 7 0 0 (now (kinds .entry)) (parse-repeat (parse-block 256) depth) (world (now (ev .entry)) (now (dm .entry)) (now (ds .entry)) c0) (world (now (ev .exit)) (now (dm .exit)) (now (ds .exit)) (r .c)) (r .eof)) × (ItemAt (now (kinds .entry)) (r .c .pos) (r .item)) × (c0 .pos < r .c .pos) ⌝ }
 {
-    let h = header(kinds, ev, dm, ds, c0, 22, REPEAT);
-    let o = parse_block(
-        kinds,
-        ev,
-        dm,
-        ds,
-        h,
-        BlockOwner::Repeat,
-        Terminators::End,
-        depth,
-    );
-    finish(kinds, ev, dm, ds, o, BlockOwner::Repeat)
+    let h = repeat_header(kinds, ev, dm, ds, c0);
+    last_block(kinds, ev, dm, ds, h, BlockOwner::Repeat, depth)
 }

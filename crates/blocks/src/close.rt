@@ -1,10 +1,10 @@
 // How a block ends, and a form after its last block.
 use crate::arm::Closing;
+use crate::expect::expect;
 use grammar::block::BlockOwner;
 use grammar::block::BlockParseOutcome;
 use grammar::block::BlockRecoveryBoundary;
 use grammar::message::Message;
-use parser::bump::expect_kind;
 use parser::cursor::Cursor;
 use parser::cursor::error_here;
 use parser::cursor::put;
@@ -12,13 +12,14 @@ use parser::kinds::ELSE;
 use parser::kinds::END;
 use parser::look::at_kind;
 ghost use mathlib.Core.Path.{_≡_};
-ghost use mathlib.Core.Bool.{not, _&&_};
+ghost use mathlib.Core.Bool.{false, not, _&&_};
 ghost use Prim.Native.Nat.{_<_, _^_};
 ghost use lib.ListN.{drop};
 ghost use Rattle.grammar.specs.Words.{is, ELSE as elseWord};
 ghost use Rattle.grammar.specs.Look.{at};
 ghost use Rattle.grammar.specs.Block.{found-terminator, reached-eof};
-ghost use Rattle.parser.specs.Rep.{world, Ready};
+ghost use Rattle.grammar.specs.declared.block.BlockParseOutcome.the-variants.{ReachedEof};
+ghost use Rattle.parser.specs.Rep.{world, Ready, Put};
 ghost use Rattle.blocks.specs.Shapes.{Recovered, Ended, Finished, ItemAt};
 
 // A block's end; `item` says that an item is known to start here.
@@ -103,6 +104,19 @@ pub fn close(
     }
 }
 
+// The closing event of a block in which the file ended.
+pub fn ended_file(ev: &mut [u16], c0: Cursor) -> BlockEnd
+    requires { ⌜ c0 .events < 2 ^ 40 ⌝ }
+    ensures { λ r. ⌜ (Put 0 (now (ev .entry)) c0 (now (ev .exit)) (r .c)) × (r .outcome ≡ ReachedEof) × (r .item ≡ false) ⌝ }
+{
+    let c = put(ev, c0, 0);
+    BlockEnd {
+        c: c,
+        outcome: BlockParseOutcome::ReachedEof,
+        item: false,
+    }
+}
+
 // After a form's last block: its `end` where there is one, and the form's closing event.
 pub fn finish(
     kinds: &[u16],
@@ -127,7 +141,7 @@ pub fn finish(
             }
         }
         BlockParseOutcome::FoundTerminator => {
-            let d = expect_kind(kinds, ev, dm, ds, c, END, Message::MissingEnd(owner));
+            let d = expect(kinds, ev, dm, ds, c, END, Message::MissingEnd(owner));
             let dc = d.c;
             let e = put(ev, dc, 0);
             Form {

@@ -6,8 +6,25 @@ use grammar::message::Message;
 use parser::bump::error_token;
 use parser::cursor::Cursor;
 use parser::cursor::bump;
+ghost use Rattle.grammar.specs.Bump.{error-token};
+ghost use Rattle.grammar.specs.declared.message.Message.the-variants.{Block as block};
 ghost use Rattle.parser.specs.Rep.{world, Ready, Ran};
 ghost use Rattle.blocks.specs.Arms.{taking};
+
+// An Error node around a token that has no place in a block.
+fn bad_token(
+    kinds: &[u16],
+    ev: &mut [u16],
+    dm: &mut [u16],
+    ds: &mut [u32],
+    c0: Cursor,
+    m: BlockMessage,
+) -> Cursor
+    requires { ⌜ Ready 2 (now kinds) c0 ⌝ }
+    ensures { λ r. ⌜ Ran 1 2 1 (now (kinds .entry)) (error-token (block m)) (world (now (ev .entry)) (now (dm .entry)) (now (ds .entry)) c0) (world (now (ev .exit)) (now (dm .exit)) (now (ds .exit)) r) ⌝ }
+{
+    error_token(kinds, ev, dm, ds, c0, Message::Block(m))
+}
 
 pub fn take(
     kinds: &[u16],
@@ -22,22 +39,8 @@ pub fn take(
 {
     match t {
         Taken::Trivia => bump(kinds, ev, dm, ds, c0),
-        Taken::Doc => error_token(
-            kinds,
-            ev,
-            dm,
-            ds,
-            c0,
-            Message::Block(BlockMessage::DocCommentInBlock),
-        ),
+        Taken::Doc => bad_token(kinds, ev, dm, ds, c0, BlockMessage::DocCommentInBlock),
         Taken::Instruction => parse_instruction(kinds, ev, dm, ds, c0),
-        Taken::Bad => error_token(
-            kinds,
-            ev,
-            dm,
-            ds,
-            c0,
-            Message::Block(BlockMessage::UnexpectedTokenInBlock),
-        ),
+        Taken::Bad => bad_token(kinds, ev, dm, ds, c0, BlockMessage::UnexpectedTokenInBlock),
     }
 }

@@ -1,9 +1,9 @@
 -- When the call returns 0, and what it then gives.
 -- Assumes nothing.
-use Prim.Native.Nat.{ℕ, zero, suc, _+_, _≤_, _<_}
+use Prim.Native.Nat.{ℕ, _≤_}
 use mathlib.Core.Path.{_≡_, refl, sym, ap, _∙_}
 use mathlib.Core.Bool.{Bool, true, false, cond, _||_}
-use mathlib.Core.List.{List, [], _∷_, _++_, map}
+use mathlib.Core.List.{List, _∷_, map}
 use native.Mathlib.Omega.{arith}
 use borrow.Author.Tests.{ltb-false, le-ltb}
 use lib.Dec.{ltb}
@@ -12,6 +12,7 @@ use Rattle.utf8.specs.declared.Utf8.{Utf8}
 use Rattle.utf8.specs.declared.Utf8.the-variants.{Valid, At}
 use Rattle.utf8.specs.Validate.{validate}
 use Rattle.lexer.specs.Lexer.{tokenize}
+use Rattle.lexer.specs.Over.{fit-first}
 use Rattle.lexer.specs.Tokens.{kindOf, token-kinds, token-ends}
 use Rattle.lexer.specs.Laws.{length-ends}
 use Rattle.marks.specs.declared.Refusal.{Refusal}
@@ -20,10 +21,9 @@ use Rattle.marks.specs.Marks.{first-refused}
 use Rattle.cst.specs.declared.answer.Answer.{Answer}
 use Rattle.cst.specs.declared.answer.Answer.the-variants.{OutputRoom}
 use Rattle.cst.specs.declared.answer.Answer.the-variants as answer
-use Rattle.cst.specs.Answer.{Slices, token-room, diagnostic-room, events-of, places-of, with-all, short, grown, kept, lexed, checked, parse-text}
+use Rattle.cst.specs.Answer.{Slices, token-room, diagnostic-room, events-of, places-of, with-all, grown, kept, lexed, checked, parse-text}
 use Rattle.cst.specs.Numbers.{numbers}
-use Rattle.cst.specs.Call.{Reply, reply, answered, call, Called}
-use Rattle.cst.specs.Laws.{fit-first}
+use Rattle.cst.specs.Call.{Reply, reply, call, Called}
 use Rattle.cst.specs.Given.{T, E, D, Given, given}
 
 -- No row above the last holds.

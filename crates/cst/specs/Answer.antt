@@ -1,9 +1,8 @@
 -- What a reading answers and leaves in the slices: document 01's table, in its order.
 -- Assumes nothing: these are definitions.
 use Prim.Native.Nat.{ℕ, min}
-use mathlib.Core.Path.{_≡_}
-use mathlib.Core.Bool.{Bool, true, false, cond, _||_}
-use mathlib.Core.List.{List, [], _∷_, map}
+use mathlib.Core.Bool.{Bool, cond, _||_}
+use mathlib.Core.List.{List, map}
 use lib.Dec.{ltb}
 use lib.ListN.{length}
 use Rattle.utf8.specs.declared.Utf8.{Utf8}

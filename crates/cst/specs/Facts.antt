@@ -2,14 +2,14 @@
 -- Assumes nothing.
 use Prim.Native.Nat.{ℕ, _+_, _*_, _≤_}
 use mathlib.Core.Path.{_≡_, refl, sym, ap, _∙_}
-use mathlib.Core.Bool.{Bool, true, false, cond}
+use mathlib.Core.Bool.{true, false, cond}
 use mathlib.Core.List.{List, [], _∷_, _++_, map, map-append, append-nil, append-assoc}
 use native.Mathlib.Omega.{arith}
 use lib.Dec.{ltb}
 use lib.ListN.{length, length-map}
 use Rattle.utf8.specs.WellFormed.{WellFormed}
 use Rattle.utf8.specs.Laws.{accepts as valid}
-use Rattle.lexer.specs.Lexer.{Token, tokenize}
+use Rattle.lexer.specs.Lexer.{tokenize}
 use Rattle.lexer.specs.Tokens.{token-kinds}
 use Rattle.lexer.specs.Tokens
 use Rattle.lexer.specs.Laws.{Every, bytes, lossless, few-tokens, length-ends}
@@ -29,7 +29,7 @@ use Rattle.marks.specs.Laws.{Kept, all-kept, source-unmarked}
 use Rattle.cst.specs.Answer.{Slices, token-room, diagnostic-room, events-of, places-of}
 use Rattle.cst.specs.Call.{Called}
 use Rattle.cst.specs.Given.{T, E, D, Given, given, cut}
-use Rattle.cst.specs.Accepts.{Accepted, Gave, reading, gives, accepting}
+use Rattle.cst.specs.Accepts.{reading, gives, accepting}
 use Rattle.cst.specs.JoinedTokens.{cut-source}
 
 -- The events of tokens.

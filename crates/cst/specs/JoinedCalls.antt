@@ -1,25 +1,24 @@
 -- Demand 3, over three calls: on A, on B and on the join.
 -- Assumes nothing.
-use Prim.Native.Nat.{ℕ, _+_, _≤_, _<_}
+use Prim.Native.Nat.{ℕ, _+_, _≤_}
 use mathlib.Core.Path.{_≡_, refl, sym, ap, ap₂, _∙_}
-use mathlib.Core.Bool.{true, false}
+use mathlib.Core.Bool.{true}
 use mathlib.Core.List.{List, [], _∷_, _++_, map, map-append, tail, dropLast}
 use native.Mathlib.Omega.{arith}
 use lib.ListN.{length, length-append, length-map}
 use Rattle.utf8.specs.WellFormed.{WellFormed}
 use Rattle.utf8.specs.Last.{last-char, last-append}
 use Rattle.utf8.specs.Laws.{accepted as well-formed, joined as valid-join}
-use Rattle.lexer.specs.Syntax.{Newline, RParen}
+use Rattle.lexer.specs.Syntax.{Newline}
 use Rattle.lexer.specs.Lexer.{tokenize}
 use Rattle.lexer.specs.Tokens.{token-kinds, token-ends}
 use Rattle.lexer.specs.Laws.{last, last-end, length-ends, tokenize-nil}
 use Rattle.lexer.specs.Join.{join, join-kinds, join-ends}
-use Rattle.grammar.specs.Words.{is}
-use Rattle.grammar.specs.Look.{at, next-relevant-block-token}
+use Rattle.grammar.specs.Look.{at}
 use Rattle.grammar.specs.Out.{Place, events, diags, places}
 use Rattle.grammar.specs.Source.{syms, symbols}
 use Rattle.grammar.specs.Source
-use Rattle.grammar.specs.Joins.{shutBy, shift, lastEnd}
+use Rattle.grammar.specs.Joins.{shift}
 use Rattle.grammar.specs.Joins
 use Rattle.grammar.specs.Theorems.Joined.{joined, joined-events}
 use Rattle.grammar.specs.Theorems.JoinedBytes.{joined-bytes}
@@ -27,13 +26,9 @@ use Rattle.items.specs.Entry.{limit}
 use Rattle.marks.specs.Laws.{join-syms, join-kept}
 use Rattle.cst.specs.Answer.{Slices, events-of, places-of}
 use Rattle.cst.specs.Call.{Called}
-use Rattle.cst.specs.Given.{T, E, D, Given, given, cut, end-and-newline, Joins, Fits, Joined}
-use Rattle.cst.specs.Accepts.{Accepted, Gave, reading, gives, accepting}
+use Rattle.cst.specs.Given.{T, E, D, given, end-and-newline, Joins, Fits, Joined}
+use Rattle.cst.specs.Accepts.{Accepted, reading, gives, accepting}
 use Rattle.cst.specs.JoinedTokens.{cut-source, to-tail, to-newline, same-start}
-
-last-same : (d : ℕ) (l : List ℕ) → lastEnd d l ≡ last d l
-last-same d [] = refl
-last-same d (x ∷ l) = last-same x l
 
 -- the readings of A, of B and of the join
 module _ (a b : List ℕ) (j : Joins a (reading a) (reading b)) where
@@ -70,7 +65,7 @@ module _ (a b : List ℕ) (j : Joins a (reading a) (reading b)) where
     pub places-are : places-of (a ++ b) ≡ places-of a ++ map (shift (length a)) (places-of b)
     places-are =
         ap₂ (λ (es : List ℕ) (ss : List ℕ). places es (last-char (a ++ b)) (diags limit ss)) (join-ends a b newline (j .line-feed)) symbols-are
-        ∙ joined-bytes limit (length a) (token-ends a) (token-ends b) (last-char b) (last-char (a ++ b)) (last-same 0 (token-ends a) ∙ last-end a)
+        ∙ joined-bytes limit (length a) (token-ends a) (token-ends b) (last-char b) (last-char (a ++ b)) (last-end a)
         (symbols a) (symbols b) premise (last-char a) (length-ends 0 (tokenize a) ∙ sym (length-map (tokenize a) Source.sym)) anchor
 
     pub place-count : length (places-of (a ++ b)) ≡ length (places-of a) + length (places-of b)

@@ -1,19 +1,19 @@
 -- From what a call gave to the tokens and symbols of the definitions: demand 3's premises.
 -- Assumes nothing.
-use Prim.Native.Nat.{ℕ, _+_, _*_, _-_, _<_}
+use Prim.Native.Nat.{ℕ, _+_, _-_, _<_}
 use mathlib.Core.Path.{_≡_, refl, sym, ap, ap₂, _∙_}
-use mathlib.Core.Bool.{Bool, true, false, cond, _&&_, _||_, false≢true}
-use mathlib.Core.List.{List, [], _∷_, _++_, map}
+use mathlib.Core.Bool.{Bool, true, false, cond, _||_, false≢true}
+use mathlib.Core.List.{List, [], _∷_, map}
 use native.Mathlib.Omega.{arith}
 use borrow.Author.Tests.{eqb-true, eqb-false, ne-eqb}
 use lib.Dec.{eqb}
-use lib.ListN.{length, take, drop}
+use lib.ListN.{length}
 use lib.Seq.{take-append-seam, drop-append-seam}
 use Rattle.lexer.specs.Syntax.{Ident, Newline, RParen}
 use Rattle.lexer.specs.Lexer.{Token, same, tokenize}
 use Rattle.lexer.specs.Tokens.{kindOf, ends, token-kinds, token-ends}
 use Rattle.lexer.specs.Laws.{bytes, last, lossless}
-use Rattle.grammar.specs.Words.{Sym, is, key, END, words, numberIn, wordOf, symOf}
+use Rattle.grammar.specs.Words.{is, key, END, words, numberIn, wordOf, symOf}
 use Rattle.grammar.specs.Look.{at, oneOf, is-trivia, skip, next-relevant-block-token}
 use Rattle.grammar.specs.Source.{syms}
 use Rattle.grammar.specs.Source

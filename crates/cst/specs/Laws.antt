@@ -1,17 +1,16 @@
 -- What the passes behind the lexer come to, together.
 -- Assumes nothing.
-use Prim.Native.Nat.{ℕ, zero, suc, pred, _+_, _≤_, min}
+use Prim.Native.Nat.{ℕ, zero, suc, pred, _+_, _≤_}
 use mathlib.Core.Path.{_≡_, refl, sym, ap, _∙_}
-use mathlib.Core.List.{List, [], _∷_, _++_, map}
+use mathlib.Core.List.{List, [], _∷_, map}
 use native.Mathlib.Omega.{arith}
-use lib.ListN.{length, take, drop, length-map}
-use lib.Seq.{take-all, take-at}
+use lib.ListN.{length, length-map}
 use Rattle.utf8.specs.Width.{width}
 use Rattle.utf8.specs.Last.{last-from, last-char}
-use Rattle.lexer.specs.Over.{over, fit, nil-over, cons-over}
+use Rattle.lexer.specs.Over.{over, nil-over, cons-over}
 use Rattle.lexer.specs.Tokens.{token-ends}
 use Rattle.grammar.specs.Words.{kindOf}
-use Rattle.grammar.specs.Out.{Diag, diags, places}
+use Rattle.grammar.specs.Out.{Diag, diags}
 use Rattle.grammar.specs.Source.{symbols}
 use Rattle.parser.specs.declared.cursor.Cursor.{Cursor}
 use Rattle.parser.specs.Rep.{onto, world}
@@ -22,17 +21,6 @@ use Rattle.places.specs.Laws.{messages-of-places}
 use Rattle.places.specs.Writes.{indices, Written, placed-written}
 use Rattle.cst.specs.Answer.{events-of}
 use Rattle.cst.specs.Parts.{Grown}
-
--- writes into all of a slice
-pub over-fit : (l vs : List ℕ) → over l 0 vs ≡ fit (length l) vs l
-over-fit [] vs = nil-over 0 vs
-over-fit (x ∷ l) [] = refl
-over-fit (x ∷ l) (v ∷ vs) = cons-over v l 0 vs ∙ ap (λ (k : List ℕ). v ∷ k) (over-fit l vs)
-
--- numbers that all have room stand first
-pub fit-first : (r n : ℕ) (vs l : List ℕ) → length vs ≡ n → n ≤ r → take n (fit r vs l) ≡ vs
-fit-first r n vs l e h =
-    ap (λ (k : List ℕ). take n (k ++ drop (length k) l)) (take-all r vs (omega arith)) ∙ take-at vs (drop (length vs) l) n e
 
 -- the parser's writes are the lexer's
 onto-over : {A : Type 0} (f : A → ℕ) (l : List ℕ) (xs : List A) → onto f (length l) l xs ≡ over l 0 (map f xs)

@@ -1,8 +1,9 @@
 // From the tokens to events and diagnostics.
 use crate::answer::Answer;
+use lexer::least;
 use marks::Refusal;
 ghost use mathlib.Core.Path.{_≡_};
-ghost use Prim.Native.Nat.{_≤_, min};
+ghost use Prim.Native.Nat.{_≤_};
 ghost use mathlib.Core.Bool.{cond, _||_};
 ghost use lib.Dec.{ltb};
 ghost use lib.ListN.{length};
@@ -18,12 +19,6 @@ ghost use Rattle.cst.specs.Parts.{Grown, Left};
 pub struct Counts {
     pub events: usize,
     pub diagnostics: usize,
-}
-
-pub fn least(a: usize, b: usize) -> usize
-    ensures { λ r. ⌜ r ≡ min a b ⌝ }
-{
-    if a <= b { a } else { b }
 }
 
 // Whether the events and the diagnostics had room.

@@ -30,7 +30,7 @@ fn parse_valid(
     ensures { λ r. ⌜ outcome r (slices (now (kinds .exit)) (now (ends .exit)) (now (events .exit)) (now (messages .exit)) (now (starts .exit)) (now (stops .exit))) ≡ lexed (now (source .entry)) (slices (now (kinds .entry)) (now (ends .entry)) (now (events .entry)) (now (messages .entry)) (now (starts .entry)) (now (stops .entry))) ⌝ }
 {
     let t = lexer::tokenize(source, kinds, ends);
-    let room = grow::least(kinds.len(), ends.len());
+    let room = lexer::least(kinds.len(), ends.len());
     if room < t {
         return Answer::TokenRoom(t);
     }

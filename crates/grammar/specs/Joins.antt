@@ -59,8 +59,3 @@ shift n p = record { msg = p .msg; start = n + p .start; stop = n + p .stop }
 pub record Joined (limit : ℕ) (a b : List Sym) : Type 0 where
   pub events-are : events limit (a ++ b) ≡ dropLast (events limit a) ++ tail (events limit b)
   pub diags-are : diags limit (a ++ b) ≡ diags limit a ++ map (move (length a)) (diags limit b)
-
--- The end of the last token, of tokens that start at s.
-abbrev pub lastEnd : ℕ → List ℕ → ℕ
-lastEnd s [] = s
-lastEnd s (e ∷ es) = lastEnd e es

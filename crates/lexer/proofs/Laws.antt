@@ -1,6 +1,6 @@
 -- Laws that the functions' proofs share: a table's entry, and what stands at an offset of the source. Assumes nothing.
 use mathlib.Core.Path.{_≡_, refl, sym, ap, _∙_}
-use mathlib.Core.Bool.{Bool, true, false, cond, false≢true}
+use mathlib.Core.Bool.{Bool, true, false, false≢true}
 use mathlib.Core.List.{List, [], _∷_}
 use Prim.Native.Nat.{ℕ, zero, suc, _+_, _≤_, _<_}
 use native.Mathlib.Nat.{add-zero, zero-add, add-suc, suc-add, add-assoc, le-of-suc-le-suc, not-suc-le-zero}
@@ -12,7 +12,7 @@ use lib.ListN.{length, getD, drop, drop-of-length-le}
 use lib.Seq.{drop-cons, drop-drop}
 use Rattle.lexer.specs.declared.lexer.Token.{Token}
 use Rattle.lexer.specs.Chars.{tabulate}
-use Rattle.lexer.specs.Lexer.{Lex, one, later, follow, advance-while}
+use Rattle.lexer.specs.Lexer.{Lex, later, follow, advance-while}
 use Rattle.lexer.specs.Code.{placed, starts, AllHold}
 
 from : (f : ℕ → ℕ) (i n k : ℕ) → k < n → getD (tabulate f i n) k 0 ≡ f (i + k)

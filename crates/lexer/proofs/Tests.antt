@@ -1,5 +1,5 @@
 -- What `||` and `&&` of two tests come to, by the way that the code took. Assumes nothing.
-use mathlib.Core.Path.{_≡_, refl, sym, _∙_}
+use mathlib.Core.Path.{_≡_}
 use mathlib.Core.Bool.{Bool, true, false, _&&_, _||_}
 
 module _ {x X : Bool} (e : x ≡ X) where

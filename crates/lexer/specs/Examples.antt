@@ -1,7 +1,7 @@
 -- T3 to T6 of document 01's table, shown of the definitions by one statement over the table.
 -- Assumes nothing.
 use Prim.Native.Nat.{ℕ}
-use mathlib.Core.Bool.{Bool, true, false, _&&_}
+use mathlib.Core.Bool.{Bool, true, _&&_}
 use mathlib.Core.List.{List, [], _∷_}
 use lib.Dec.{T}
 use Rattle.utf8.specs.Width.{width}

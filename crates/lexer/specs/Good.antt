@@ -1,18 +1,18 @@
 -- What every function of the lexer keeps: it takes no more than there is, and a token that ends before the bytes do is the same
 -- whatever follows them. Once for each way to put functions together, then for `next`.
 -- Assumes nothing.
-use Prim.Native.Nat.{ℕ, zero, suc, pred, _≤_, _<_, zero-le, suc-le-suc}
-use mathlib.Core.Path.{_≡_, refl, sym, ap, _∙_}
-use mathlib.Core.Bool.{Bool, true, false, not, _&&_, _||_, cond}
+use Prim.Native.Nat.{ℕ, suc, pred, _≤_, _<_, zero-le, suc-le-suc}
+use mathlib.Core.Path.{_≡_, refl, ap}
+use mathlib.Core.Bool.{Bool, true, false, not, _&&_, cond}
 use mathlib.Core.List.{List, [], _∷_, _++_}
 use native.Mathlib.Omega.{arith}
 use native.Mathlib.Nat.{le-of-suc-le-suc, not-suc-le-zero}
 use lib.Dec.{eqb}
-use lib.ListN.{length, take, length-take}
+use lib.ListN.{length, length-take}
 use lib.Seq.{take-append-le}
 use Rattle.utf8.specs.Width.{width}
 use Rattle.lexer.specs.Chars.{line-end, graphic, word, class}
-use Rattle.lexer.specs.Lexer.{Lexeme, Lex, one, later, pick, follow, advance-while, run, same, kernel, exec, special, unescaped, quoted, stray, arm, next}
+use Rattle.lexer.specs.Lexer.{Lexeme, Lex, one, later, pick, follow, advance-while, run, special, unescaped, quoted, stray, arm, next}
 
 pub record Good (f : Lex) : Type 0 where
   pub within : (r : List ℕ) → f r .more ≤ length r

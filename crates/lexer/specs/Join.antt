@@ -1,16 +1,15 @@
 -- The tokens of joined sources: where A's last token is a newline that ends in LF, they are A's, and then B's moved on by A's length.
 -- Assumes nothing.
 use Prim.Native.Nat.{ℕ, zero, suc, _+_, _≤_, _<_, zero-le, suc-le-suc}
-use mathlib.Core.Path.{_≡_, refl, sym, ap, subst, _∙_}
+use mathlib.Core.Path.{_≡_, refl, sym, ap, _∙_}
 use mathlib.Core.Bool.{Bool, true, false, not, cond, _&&_, _||_}
-use mathlib.Core.Logic.{_⊎_, ⊎-elim, inl, inr}
 use mathlib.Core.List.{List, [], _∷_, _++_, map, map-append}
 use native.Mathlib.Omega.{arith}
 use native.Mathlib.Nat.{le-of-suc-le-suc, not-suc-le-zero, add-zero, add-assoc}
 use borrow.Author.Tests.{eqb-true, eqb-false, ltb-true, ltb-false}
 use lib.Dec.{eqb, ltb}
 use lib.ListN.{length, take, drop, length-append, drop-of-length-le}
-use lib.Seq.{take-append-le, drop-append-le, drop-append-seam, drop-length}
+use lib.Seq.{take-append-le, drop-append-seam}
 use Rattle.lexer.specs.Syntax.{Newline, SpecialIdent, Error, QuotedIdent, QuotedString}
 use Rattle.lexer.specs.Chars.{line-end, Cr, punctuation, class, graphic, word}
 use Rattle.lexer.specs.Lexer.{Lexeme, Lex, Token, one, later, pick, follow, run, special, unescaped, quoted, stray, arm, next, same, kernel, exec, advance-while, tokens, tokenize}

@@ -3,13 +3,12 @@
 -- Assumes nothing.
 use Prim.Native.Nat.{ℕ, zero, suc, _+_, _≤_, _<_, zero-le, suc-le-suc}
 use mathlib.Core.Path.{_≡_, refl, sym, ap, _∙_}
-use mathlib.Core.List.{List, [], _∷_, _++_, map, append-assoc, append-nil}
+use mathlib.Core.List.{List, [], _∷_, _++_}
 use native.Mathlib.Omega.{arith}
-use native.Mathlib.Nat.{add-zero, add-assoc}
-use lib.ListN.{length, take, drop, length-append, take-append-drop, length-map}
-use lib.Seq.{drop-nil}
+use native.Mathlib.Nat.{add-zero}
+use lib.ListN.{length, take, drop, length-append, take-append-drop}
 use Rattle.lexer.specs.Lexer.{Token, next, tokens, tokenize}
-use Rattle.lexer.specs.Tokens.{kindOf, ends, token-kinds, token-ends}
+use Rattle.lexer.specs.Tokens.{ends, token-ends}
 
 -- the token that a byte starts, before r
 abbrev pub token : ℕ → List ℕ → Token

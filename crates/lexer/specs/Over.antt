@@ -1,12 +1,13 @@
 -- A run of writes into a lent list, from a place on: a write past the end changes nothing, as `set` past the end does.
 -- Assumes nothing.
 use mathlib.Core.Path.{_≡_, refl, sym, ap, _∙_}
-use mathlib.Core.List.{List, [], _∷_, _++_}
+use mathlib.Core.List.{List, [], _∷_, _++_, append-nil}
 use Prim.Native.Nat.{ℕ, zero, suc, _+_, _≤_}
 use native.Mathlib.Omega.{arith}
 use native.Mathlib.Nat.{add-zero, not-suc-le-zero}
 use native.Mathlib.Numerals.{add-one}
 use lib.ListN.{length, take, drop, set, length-set, take-append-drop}
+use lib.Seq.{take-all, take-at, drop-length}
 
 abbrev pub over : List ℕ → ℕ → List ℕ → List ℕ
 over l i [] = l
@@ -23,7 +24,6 @@ over-append l i (v ∷ vs) ws =
     over-append (set l i v) (i + 1) vs ws
     ∙ ap (λ (n : ℕ). over (over (set l i v) (i + 1) vs) n ws) (omega arith)
 
--- as readers see it: what fits, and then what was there
 pub cons-over : (x : ℕ) (l : List ℕ) (i : ℕ) (vs : List ℕ) → over (x ∷ l) (suc i) vs ≡ x ∷ over l i vs
 cons-over x l i [] = refl
 cons-over x l i (v ∷ vs) =
@@ -35,15 +35,26 @@ pub nil-over : (i : ℕ) (vs : List ℕ) → over [] i vs ≡ []
 nil-over i [] = refl
 nil-over i (v ∷ vs) = nil-over (i + 1) vs
 
-pub over-fits : (l vs : List ℕ) → over l 0 vs ≡ take (length l) vs ++ drop (length vs) l
-over-fits [] [] = refl
-over-fits [] (v ∷ vs) = nil-over (0 + 1) vs
-over-fits (x ∷ l) [] = refl
-over-fits (x ∷ l) (v ∷ vs) = cons-over v l 0 vs ∙ ap (λ (r : List ℕ). v ∷ r) (over-fits l vs)
-
 -- The first numbers of vs that fit, and then what l held.
 abbrev pub fit : ℕ → List ℕ → List ℕ → List ℕ
 fit room vs l = take room vs ++ drop (length (take room vs)) l
+
+-- as readers see it: what fits, and then what was there
+pub over-fit : (l vs : List ℕ) → over l 0 vs ≡ fit (length l) vs l
+over-fit [] vs = nil-over 0 vs
+over-fit (x ∷ l) [] = refl
+over-fit (x ∷ l) (v ∷ vs) = cons-over v l 0 vs ∙ ap (λ (k : List ℕ). v ∷ k) (over-fit l vs)
+
+-- numbers that all have room stand first
+pub fit-first : (r n : ℕ) (vs l : List ℕ) → length vs ≡ n → n ≤ r → take n (fit r vs l) ≡ vs
+fit-first r n vs l e h =
+    ap (λ (k : List ℕ). take n (k ++ drop (length k) l)) (take-all r vs (omega arith)) ∙ take-at vs (drop (length vs) l) n e
+
+pub written : (l vs : List ℕ) (n : ℕ) → n ≤ length l → length vs ≡ n → over l 0 vs ≡ vs ++ drop n l
+written l vs n h e = over-fit l vs ∙ rw (take-all (length l) vs (omega arith), e)
+
+pub over-all : (l vs : List ℕ) → length vs ≡ length l → over l 0 vs ≡ vs
+over-all l vs e = written l vs (length l) (omega arith) e ∙ ap (λ (k : List ℕ). vs ++ k) (drop-length l) ∙ append-nil vs
 
 -- a part of a list, written over and given back
 pub in-room : (l vs : List ℕ) (room : ℕ) → room ≤ length l → over (take room l) 0 vs ++ drop room l ≡ fit room vs l
@@ -53,3 +64,6 @@ in-room (x ∷ l) [] (suc r) h = ap (λ (k : List ℕ). x ∷ k) (take-append-dr
 in-room (x ∷ l) (v ∷ vs) (suc r) h =
     ap (λ (k : List ℕ). k ++ drop r l) (cons-over v (take r l) 0 vs)
     ∙ ap (λ (k : List ℕ). v ∷ k) (in-room l vs r (omega arith))
+
+pub given-back : (l l′ vs : List ℕ) (room n : ℕ) → l′ ≡ over (take room l) 0 vs → room ≡ n → n ≤ length l → l′ ++ drop room l ≡ fit n vs l
+given-back l l′ vs room n e h k = rw (e, h) (in-room l vs n k)

@@ -236,7 +236,8 @@ fn tokens(source: &[u8], kinds: &mut [u16], ends: &mut [u32]) -> usize
     n
 }
 
-fn least(a: usize, b: usize) -> usize
+// The room in two slices is the shorter length.
+pub fn least(a: usize, b: usize) -> usize
     ensures { λ r. ⌜ r ≡ min a b ⌝ }
 {
     if a <= b { a } else { b }

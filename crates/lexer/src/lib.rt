@@ -6,5 +6,6 @@ mod quoted;
 mod runs;
 pub mod syntax;
 
+pub use lexer::least;
 pub use lexer::tokenize;
 pub use runs::same;

@@ -8,7 +8,7 @@ use borrow.Author.Tests.{lt-ltb}
 use lib.ListN.{length, getD, take, drop, set, length-set, length-map, length-append, length-drop}
 use lib.Seq.{drop-set-lt, drop-drop, drop-append-seam, take-append-seam, map-set-same}
 use Rattle.lexer.specs.Lexer.{Token, tokenize}
-use Rattle.lexer.specs.Over.{over}
+use Rattle.lexer.specs.Over.{over, over-all}
 use Rattle.lexer.specs.Tokens.{ends, token-kinds, token-ends}
 use Rattle.lexer.specs.Tokens
 use Rattle.lexer.specs.Laws.{Every, Filled, every-filled, bytes, lossless}
@@ -19,7 +19,7 @@ use Rattle.marks.specs.Marks.{is-refused, first-refused}
 use Rattle.marks.specs.Kinds.{low-kinds}
 use Rattle.marks.specs.Laws.{kind-of-sym}
 use Rattle.marks.specs.Code.{number-of, kept, refused, Passed}
-use Rattle.marks.proofs.Lists.{head-is, tail-is, inside, over-all}
+use Rattle.marks.proofs.Lists.{head-is, tail-is, inside}
 
 -- token i starts at `start`, and `rest` is left
 pub record Going (s kinds₀ ends′ kinds : List ℕ) (start i : ℕ) (rest : List Token) : Type 0 where

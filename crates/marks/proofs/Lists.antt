@@ -1,13 +1,12 @@
 -- What is left of a list at an index. Assumes nothing.
-use Prim.Native.Nat.{ℕ, _+_, _≤_, _<_}
+use Prim.Native.Nat.{ℕ, _+_, _<_}
 use mathlib.Core.Path.{_≡_, sym, ap, _∙_}
-use mathlib.Core.List.{List, _∷_, append-nil}
+use mathlib.Core.List.{List, _∷_}
 use native.Mathlib.Omega.{arith}
 use native.Mathlib.Nat.{add-zero}
 use native.Mathlib.Numerals.{add-one}
-use lib.ListN.{length, getD, drop, length-drop, drop-of-length-le}
-use lib.Seq.{drop-cons, getD-drop, drop-drop, take-all}
-use Rattle.lexer.specs.Over.{over, over-fits}
+use lib.ListN.{length, getD, drop, length-drop}
+use lib.Seq.{drop-cons, getD-drop, drop-drop}
 
 module _ (l : List ℕ) (i : ℕ) {x : ℕ} {xs : List ℕ} (e : drop i l ≡ x ∷ xs) where
   pub head-is : getD l i 0 ≡ x
@@ -21,9 +20,3 @@ module _ (l : List ℕ) (i : ℕ) {x : ℕ} {xs : List ℕ} (e : drop i l ≡ x 
 
 pub next-is : (l : List ℕ) (i : ℕ) → i < length l → drop i l ≡ getD l i 0 ∷ drop (i + 1) l
 next-is l i h = rw (add-one, drop-cons l i 0)
-
--- as many writes as there are places
-pub over-all : (l vs : List ℕ) → length vs ≡ length l → over l 0 vs ≡ vs
-over-all l vs e =
-    let h : length l ≤ length vs = omega arith in
-    over-fits l vs ∙ rw (take-all (length l) vs (omega arith), drop-of-length-le l h) (append-nil vs)

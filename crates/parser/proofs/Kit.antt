@@ -11,9 +11,9 @@ use Rattle.grammar.specs.Look
 use Rattle.grammar.specs.Run
 use Rattle.grammar.specs.Run.{Res, _<>_, Kind, num, P, pure, peek, inNode, pick, _>>=_, _>>_, if_then_else_, take, repeat, loop, scan, Round, stop, go, warn, turn}
 use Rattle.grammar.specs.Bump.{bump-while}
-use Rattle.grammar.specs.State.{State, after, run, write}
-use Rattle.grammar.specs.Laws.Code.{run-bind, run-node, run-pure, run-if}
-use Rattle.parser.specs.Rep.{Base, World, Rep, Wrote, Went, WentTo, Paid, Ran}
+use Rattle.grammar.specs.State.{State, after, run}
+use Rattle.grammar.specs.Laws.Code.{run-bind, run-node, run-pure}
+use Rattle.parser.specs.Rep.{World, Rep, Wrote, Went, WentTo, Paid, Ran}
 
 run-same : {A : Type 0} (f g : P A) (s : State) → f (s .rest) ≡ g (s .rest) → run f s ≡ run g s
 unfolding run

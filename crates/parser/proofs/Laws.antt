@@ -10,7 +10,7 @@ use native.Mathlib.Omega.{arith}
 use lib.Dec.{leb, eqb}
 use lib.ListN.{length, getD, set, drop, length-append, length-drop, drop-of-length-le}
 use lib.Seq.{drop-cons}
-use borrow.Author.Tests.{leb-true, leb-false, lt-ltb, le-ltb, eq-eqb, ne-eqb}
+use borrow.Author.Tests.{leb-true, leb-false, ne-eqb}
 use Rattle.lexer.specs.Syntax
 use Rattle.grammar.specs.Words.{Sym, is}
 use Rattle.grammar.specs.Words.{File, from}
@@ -18,13 +18,13 @@ use Rattle.parser.specs.declared.cursor.Cursor.{Cursor}
 use Rattle.grammar.specs.Look.{at, skip}
 use Rattle.grammar.specs.Look
 use Rattle.grammar.specs.Look.{current}
-use Rattle.grammar.specs.Run.{Res, P, take}
+use Rattle.grammar.specs.Run.{P, take}
 use Rattle.grammar.specs.Run
 use Rattle.grammar.specs.declared.message.Message.{Message}
 use Rattle.grammar.specs.Message.{number}
-use Rattle.grammar.specs.Out.{kind, Diag, noted}
-use Rattle.grammar.specs.State.{State, after, run, write, report}
-use Rattle.grammar.specs.Laws.Code.{run-err, run-take}
+use Rattle.grammar.specs.Out.{kind, Diag}
+use Rattle.grammar.specs.State.{State, run, write, report}
+use Rattle.grammar.specs.Laws.Code.{run-err}
 use Rattle.parser.specs.Rep.{onto, Base, World, world, room, Rep, Wrote, Went}
 
 abbrev unrecognized : ℕ

@@ -6,9 +6,8 @@ use Prim.Native.Nat.{ℕ, zero, suc, _+_, _*_, _≤_, _<_, _^_, min}
 use lib.ListN.{length}
 use Rattle.grammar.specs.Words.{File, from}
 use Rattle.parser.specs.declared.cursor.Cursor.{Cursor}
-use Rattle.grammar.specs.Run.{Res, P, take}
+use Rattle.grammar.specs.Run.{P, take}
 use Rattle.grammar.specs.Run
-use Rattle.grammar.specs.Out.{Diag}
 use Rattle.grammar.specs.State.{State, run, write}
 
 -- `base`, in whose first r places stand the values of xs by f, as far as there are any.

@@ -6,9 +6,9 @@ use native.Mathlib.Omega.{arith}
 use native.Mathlib.Numerals.{add-one}
 use lib.ListN.{length, getD, take, drop, set, length-set, length-take, length-map, drop-of-length-le}
 use lib.Seq.{drop-cons, drop-set-lt, take-set-lt, getD-take, length-take-le}
-use Rattle.lexer.specs.Over.{over}
+use Rattle.lexer.specs.Over.{over, written}
 use Rattle.places.specs.Places.{start-of, stop-of, Placed}
-use Rattle.places.specs.Laws.{less, written}
+use Rattle.places.specs.Laws.{less}
 
 pub record Going (ends : List ℕ) (anchor n : ℕ) (starts₀ stops₀ starts stops : List ℕ) (i : ℕ) : Type 0 where
   pub room : n ≤ length starts₀

@@ -3,13 +3,12 @@
 use Prim.Native.Nat.{ℕ, zero, suc, _-_, _≤_, _<_, min}
 use mathlib.Core.Path.{_≡_, refl, sym, ap, ap₂, _∙_}
 use mathlib.Core.Bool.{Bool, true, false}
-use mathlib.Core.List.{List, [], _∷_, _++_, map}
+use mathlib.Core.List.{List, [], _∷_, map}
 use native.Mathlib.Omega.{arith}
 use borrow.Author.Tests.{leb-true, leb-false}
 use lib.Dec.{leb}
 use lib.ListN.{length, getD, take, drop, drop-of-length-le}
 use lib.Seq.{take-all}
-use Rattle.lexer.specs.Over.{over, over-fits}
 use Rattle.grammar.specs.Out.{Diag, Place, place, places}
 use Rattle.places.specs.Places.{start-of, stop-of}
 
@@ -86,7 +85,3 @@ less count l = by-size (leb count (length l)) refl
         let k : length l ≤ count = omega (arith, leb-false count (length l) e) in
         let h : length l ≤ min count (length l) = omega arith in
         (take-all (min count (length l)) l h ∙ sym (take-all count l k), drop-of-length-le l h ∙ sym (drop-of-length-le l k))
-
--- what was written in the first places of a list, and then the rest
-pub written : (l vs : List ℕ) (n : ℕ) → n ≤ length l → length vs ≡ n → over l 0 vs ≡ vs ++ drop n l
-written l vs n h e = over-fits l vs ∙ rw (take-all (length l) vs (omega arith), e)

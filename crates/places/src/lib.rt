@@ -1,6 +1,7 @@
 // Diagnostics are written with the index of a token; here each index becomes the token's start and end in bytes.
+use lexer::least;
 ghost use mathlib.Core.Path.{_≡_};
-ghost use Prim.Native.Nat.{_<_, _^_, min};
+ghost use Prim.Native.Nat.{_<_, _^_};
 ghost use lib.ListN.{length};
 ghost use Rattle.places.specs.Places.{start-of, stop-of, Placed};
 
@@ -24,12 +25,6 @@ fn stop_of(ends: &[u32], anchor: u32, i: usize) -> u32
         return ends[i];
     }
     anchor
-}
-
-fn least(a: usize, b: usize) -> usize
-    ensures { λ r. ⌜ r ≡ min a b ⌝ }
-{
-    if a <= b { a } else { b }
 }
 
 // The first `count` entries, as far as the slices go.

@@ -1,9 +1,9 @@
 // One line for each diagnostic: `! line column start end text`.
 use crate::entries::at_u16;
 use crate::entries::at_u32;
-use crate::least;
 use crate::message::put_message;
 use frames::output;
+use lexer::least;
 ghost use mathlib.Core.Path.{_≡_};
 ghost use Prim.Native.Nat.{_+_, _≤_, _<_, min};
 ghost use lib.ListN.{length};

@@ -2,8 +2,7 @@
 use cst::answer::Row;
 use cst::answer::numbers;
 use frames::output;
-ghost use mathlib.Core.Path.{_≡_};
-ghost use Prim.Native.Nat.{min};
+use lexer::least;
 ghost use Rattle.frames.specs.Ready.{Ready};
 
 mod diagnostics;
@@ -13,12 +12,6 @@ mod message;
 
 // The most bytes that are read.
 const LONGEST: usize = 2048;
-
-pub fn least(a: usize, b: usize) -> usize
-    ensures { λ r. ⌜ r ≡ min a b ⌝ }
-{
-    if a <= b { a } else { b }
-}
 
 // `ok` T E D, or `no` and the four numbers.
 fn put_row(out: &mut [u8], used: usize, row: Row) -> usize

@@ -8,7 +8,7 @@ use lib.ListN.{length, set, drop, length-set}
 use Rattle.cst.specs.declared.answer.Answer.{Answer}
 use Rattle.cst.specs.declared.answer.Row.{Row}
 use Rattle.cst.specs.Numbers.{numbers}
-use Rattle.cst.specs.Answer.{Slices, Outcome, outcome, parse-text}
+use Rattle.cst.specs.Answer.{Slices, outcome, parse-text}
 use Rattle.cst.specs.Call.{call, Called}
 use borrow.Author.Needs.{needs}
 use Rattle.cst.proofs.masm_parse_text.Statement.{statement}

@@ -4,9 +4,10 @@ use mathlib.Core.Path.{_≡_, refl, sym, ap, _∙_}
 use mathlib.Core.List.{List, _++_}
 use native.Mathlib.Omega.{arith}
 use borrow.Author.Tests.{lt-ltb, le-ltb}
-use lib.ListN.{length, take, drop, length-map, take-append-drop}
+use lib.ListN.{take, drop, length-map, take-append-drop}
 use lib.Seq.{length-take-le}
 use Rattle.lexer.specs.Lexer.{tokenize}
+use Rattle.lexer.specs.Over.{fit-first}
 use Rattle.lexer.specs.Tokens.{kindOf, room, token-kinds, token-ends, Tokenized}
 use Rattle.lexer.specs.Laws.{length-ends}
 use Rattle.marks.specs.declared.Refusal.{Refusal}
@@ -16,7 +17,6 @@ use Rattle.cst.specs.declared.answer.Answer.{Answer}
 use Rattle.cst.specs.declared.answer.Answer.the-variants.{TokenRoom}
 use Rattle.cst.specs.Answer.{slices, outcome, grown, kept, lexed}
 use Rattle.cst.specs.Parts.{Left}
-use Rattle.cst.specs.Laws.{fit-first}
 use borrow.Author.Needs.{needs}
 use Rattle.cst.proofs.parse_valid.Statement.{statement}
 use Rattle.cst.proofs.parse_valid.Tie as tie

@@ -5,12 +5,13 @@ use mathlib.Core.Path.{_≡_, refl, sym, _∙_, ap, ap₂}
 use mathlib.Core.List.{List, [], _∷_, _++_, map, map-append}
 use lib.ListN.{length}
 use native.Mathlib.Omega.{arith}
+use Rattle.lexer.specs.Laws.{last}
 use Rattle.grammar.specs.Words.{Sym}
 use Rattle.grammar.specs.Look.{eof}
 use Rattle.grammar.specs.Run.{pure, peek, _>>=_}
 use Rattle.grammar.specs.Item.{items, items-in, parse}
 use Rattle.grammar.specs.Out.{Diag, diags, place, places}
-use Rattle.grammar.specs.Joins.{move, shift, Joins, lastEnd}
+use Rattle.grammar.specs.Joins.{move, shift, Joins}
 use Rattle.grammar.specs.Theorems.Joined.{joined, Below, early}
 
 in-first : (m : ℕ) (es fs : List ℕ) (s eof eof′ i : ℕ) → i < length es → place m (es ++ fs) s eof′ i ≡ place m es s eof i
@@ -18,7 +19,7 @@ in-first m [] fs s eof eof′ i h = absurd (omega arith)
 in-first m (e ∷ es) fs s eof eof′ zero h = refl
 in-first m (e ∷ es) fs s eof eof′ (suc i) h = in-first m es fs e eof eof′ i (omega arith)
 
-in-second : (m : ℕ) (es fs : List ℕ) (s eof i : ℕ) → place m (es ++ fs) s eof (length es + i) ≡ place m fs (lastEnd s es) eof i
+in-second : (m : ℕ) (es fs : List ℕ) (s eof i : ℕ) → place m (es ++ fs) s eof (length es + i) ≡ place m fs (last s es) eof i
 in-second m [] fs s eof i = ap (place m fs s eof) (omega arith)
 in-second m (e ∷ es) fs s eof i = ap (place m (e ∷ (es ++ fs)) s eof) (suc-out (length es) i) ∙ in-second m es fs e eof i
   where
@@ -34,7 +35,7 @@ places-first : (es fs : List ℕ) (eof eof′ : ℕ) (l : List Diag) → Below (
 places-first es fs eof eof′ [] b = refl
 places-first es fs eof eof′ (d ∷ l) b = ap₂ _∷_ (in-first (d .msg) es fs 0 eof eof′ (d .pos) (b .0)) (places-first es fs eof eof′ l (b .1))
 
-places-second : (n : ℕ) (es fs : List ℕ) (eof : ℕ) → lastEnd 0 es ≡ n → (l : List Diag) → places (es ++ map (λ e. n + e) fs) (n + eof) (map (move (length es)) l) ≡ map (shift n) (places fs eof l)
+places-second : (n : ℕ) (es fs : List ℕ) (eof : ℕ) → last 0 es ≡ n → (l : List Diag) → places (es ++ map (λ e. n + e) fs) (n + eof) (map (move (length es)) l) ≡ map (shift n) (places fs eof l)
 places-second n es fs eof h [] = refl
 places-second n es fs eof h (d ∷ l) = ap₂ _∷_
     (in-second (d .msg) es (map (λ e. n + e) fs) 0 (n + eof) (d .pos) ∙ ap (λ s. place (d .msg) (map (λ e. n + e) fs) s (n + eof) (d .pos)) (h ∙ plus-zero n) ∙ shifted (d .msg) n fs 0 eof (d .pos))
@@ -50,7 +51,7 @@ no-diags limit = refl
 
 -- n is A's length in bytes, es and fs are the ends of A's and B's tokens; the anchors are A's, B's and the join's. The join's is B's moved
 -- on, unless B is empty: then the join is A.
-module _ (limit n : ℕ) (es fs : List ℕ) (anchorB anchor : ℕ) (k : lastEnd 0 es ≡ n) where
+module _ (limit n : ℕ) (es fs : List ℕ) (anchorB anchor : ℕ) (k : last 0 es ≡ n) where
   second-part : (b : List Sym) → ((b ≡ [] → ⊥) → anchor ≡ n + anchorB) → places (es ++ map (λ e. n + e) fs) anchor (map (move (length es)) (diags limit b)) ≡ map (shift n) (places fs anchorB (diags limit b))
   second-part [] h = rw (no-diags limit)
   second-part (s ∷ b) h = rw (h (λ e. let z : _≡_ {A = ℕ} 0 1 = cc in omega arith)) (places-second n es fs anchorB k (diags limit (s ∷ b)))

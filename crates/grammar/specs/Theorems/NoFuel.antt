@@ -10,7 +10,7 @@ use native.Mathlib.Decide.{decLe}
 use Rattle.lexer.specs.Syntax.{RParen}
 use Rattle.grammar.specs.Words.{Sym, is}
 use Rattle.grammar.specs.Look.{at, skip, eof, next-relevant-top-level-token}
-use Rattle.grammar.specs.Run.{Res, P, pure, _>>_, _>>=_, if_then_else_}
+use Rattle.grammar.specs.Run.{Res, P, pure, _>>_, if_then_else_}
 use Rattle.grammar.specs.Block.{BlockOwner, Terminators, block-round, block-loop, block-in, parse-block}
 use Rattle.grammar.specs.Item.{parse-source-item, items, items-in}
 use Rattle.grammar.specs.Laws.Ahead.{same}

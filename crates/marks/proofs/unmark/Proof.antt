@@ -6,9 +6,9 @@ use native.Mathlib.Omega.{arith}
 use borrow.Author.Needs.{needs}
 use lib.ListN.{length, getD, drop, set, length-set, length-map, drop-of-length-le}
 use lib.Seq.{drop-set-lt}
-use Rattle.lexer.specs.Over.{over}
+use Rattle.lexer.specs.Over.{over, over-all}
 use Rattle.grammar.specs.Words.{kindOf}
-use Rattle.marks.proofs.Lists.{next-is, over-all}
+use Rattle.marks.proofs.Lists.{next-is}
 use Rattle.marks.proofs.unmark.Statement.{statement}
 use Rattle.marks.proofs.unmark.Tie as tie
 

@@ -2,9 +2,10 @@
 use mathlib.Core.Path.{refl, ap, _∙_}
 use native.Mathlib.Omega.{arith}
 use lib.ListN.{drop}
-use Rattle.grammar.specs.Look.{at, oneOf}
 use Rattle.grammar.specs.Words.{is, DO}
+use Rattle.grammar.specs.Look.{at, oneOf}
 use Rattle.blocks.proofs.Laws.{opened}
+use Rattle.parser.proofs.Kit.{_then-to_}
 use Rattle.blocks.proofs.header.do_header.Statement.{statement}
 use Rattle.blocks.proofs.header.do_header.Tie as tie
 
@@ -42,8 +43,8 @@ returns c =
     let c₂ = c₁ .before .before .before .before .before .before in
     let c₃ = c₂ .before .before .before .before .before .before in
     opened (c₂ .put .ensures .wrote (c₃ .args .kinds .now) _ _)
-    (λ next u r h. c₁ .keyword-line .ensures .on next u r h)
-    (omega (arith, c₃ .pre, c₂ .put .ensures, c₁ .keyword-line .ensures .paid))
+    (λ next u r h. c₁ .keyword-line .ensures .key then-to c₁ .keyword-line .ensures .tail then-to h)
+    (omega (arith, c₃ .pre, c₂ .put .ensures, c₁ .keyword-line .ensures .paid, c₂ .put .ensures .pos))
 
 pub do-header-spec : {M : Type 1} → statement M
 do-header-spec = tie.close (tie.spec put-requires keyword-line-requires same-length same-length-2 same-length-3 returns)

@@ -17,8 +17,8 @@ bump-requires c κs =
 enum-told-2 : tie.Need-enum-told-2
 enum-told-2 c = search needs
 
-error-token-requires : tie.Need-error-token-requires
-error-token-requires c κs =
+bad-token-requires : tie.Need-bad-token-requires
+bad-token-requires c κs =
     let c₁ = c .before .before .before .before .before .before .before .before .before in
     omega (arith, c₁ .pre)
 
@@ -33,8 +33,8 @@ parse-instruction-requires c κs =
 enum-told-4 : tie.Need-enum-told-4
 enum-told-4 c = search needs
 
-error-token-requires-2 : tie.Need-error-token-requires-2
-error-token-requires-2 c κs =
+bad-token-requires-2 : tie.Need-bad-token-requires-2
+bad-token-requires-2 c κs =
     let c₁ = c .before .before .before .before .before .before .before .before .before in
     omega (arith, c₁ .pre)
 
@@ -64,17 +64,17 @@ returns c =
 same-length-4 : tie.Need-same-length-4
 same-length-4 c =
     let c₁ = c .before .before .before .before .before .before in
-    c₁ .error-token .kept .1 .0
+    c₁ .bad-token .kept .1 .0
 
 same-length-5 : tie.Need-same-length-5
 same-length-5 c =
     let c₁ = c .before .before .before .before .before .before in
-    c₁ .error-token .kept .1 .1 .0
+    c₁ .bad-token .kept .1 .1 .0
 
 same-length-6 : tie.Need-same-length-6
 same-length-6 c =
     let c₁ = c .before .before .before .before .before .before in
-    c₁ .error-token .kept .1 .1 .1 .0
+    c₁ .bad-token .kept .1 .1 .1 .0
 
 returns-2 : tie.Need-returns-2
 unfolding taking
@@ -82,7 +82,7 @@ returns-2 c =
     let c₁ = c .before .before .before .before .before .before in
     let c₂ = c₁ .before .before .before .before in
     let c₃ = c₂ .before .before .before .before .before .before in
-    record { paid = omega (arith, c₃ .pre, c₁ .error-token .ensures .paid); went = took (c₂ .enum-told2 .given .1) (c₁ .error-token .ensures .went) }
+    record { paid = omega (arith, c₃ .pre, c₁ .bad-token .ensures .paid); went = took (c₂ .enum-told2 .given .1) (c₁ .bad-token .ensures .went) }
 
 same-length-7 : tie.Need-same-length-7
 same-length-7 c =
@@ -110,17 +110,17 @@ returns-3 c =
 same-length-10 : tie.Need-same-length-10
 same-length-10 c =
     let c₁ = c .before .before .before .before .before .before in
-    c₁ .error-token2 .kept .1 .0
+    c₁ .bad-token2 .kept .1 .0
 
 same-length-11 : tie.Need-same-length-11
 same-length-11 c =
     let c₁ = c .before .before .before .before .before .before in
-    c₁ .error-token2 .kept .1 .1 .0
+    c₁ .bad-token2 .kept .1 .1 .0
 
 same-length-12 : tie.Need-same-length-12
 same-length-12 c =
     let c₁ = c .before .before .before .before .before .before in
-    c₁ .error-token2 .kept .1 .1 .1 .0
+    c₁ .bad-token2 .kept .1 .1 .1 .0
 
 returns-4 : tie.Need-returns-4
 unfolding taking
@@ -128,11 +128,11 @@ returns-4 c =
     let c₁ = c .before .before .before .before .before .before in
     let c₂ = c₁ .before .before .before .before in
     let c₃ = c₂ .before .before .before .before .before .before in
-    record { paid = omega (arith, c₃ .pre, c₁ .error-token2 .ensures .paid); went = took (c₂ .enum-told4 .given .1) (c₁ .error-token2 .ensures .went) }
+    record { paid = omega (arith, c₃ .pre, c₁ .bad-token2 .ensures .paid); went = took (c₂ .enum-told4 .given .1) (c₁ .bad-token2 .ensures .went) }
 
 pub take-spec : {M : Type 1} → statement M
 take-spec =
     tie.close
-    (tie.spec enum-told bump-requires enum-told-2 error-token-requires enum-told-3 parse-instruction-requires enum-told-4
-    error-token-requires-2 same-length same-length-2 same-length-3 returns same-length-4 same-length-5 same-length-6 returns-2 same-length-7
+    (tie.spec enum-told bump-requires enum-told-2 bad-token-requires enum-told-3 parse-instruction-requires enum-told-4
+    bad-token-requires-2 same-length same-length-2 same-length-3 returns same-length-4 same-length-5 same-length-6 returns-2 same-length-7
     same-length-8 same-length-9 returns-3 same-length-10 same-length-11 same-length-12 returns-4)

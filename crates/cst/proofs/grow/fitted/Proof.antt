@@ -1,6 +1,5 @@
 -- `cst::grow::fitted` meets its contract, by its two tests. Assumes nothing.
 use borrow.Author.Tests.{lt-ltb, le-ltb}
-use borrow.Author.Needs.{needs}
 use Rattle.cst.proofs.grow.fitted.Statement.{statement}
 use Rattle.cst.proofs.grow.fitted.Tie as tie
 

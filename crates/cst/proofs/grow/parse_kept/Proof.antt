@@ -1,28 +1,23 @@
 -- `cst::grow::parse_kept` meets its contract: the slices of diagnostics are lent as far as the shortest goes. Assumes nothing.
-use Prim.Native.Nat.{ℕ, _≤_, min}
+use Prim.Native.Nat.{ℕ}
 use mathlib.Core.Path.{_≡_, refl, sym, ap, _∙_}
 use mathlib.Core.Bool.{cond, _||_}
-use mathlib.Core.List.{List, [], _∷_, _++_, map}
+use mathlib.Core.List.{List, _++_}
 use native.Mathlib.Omega.{arith}
 use lib.Dec.{ltb}
 use lib.ListN.{length, take, drop, length-map}
 use lib.Seq.{length-take-le}
 use Rattle.lexer.specs.Lexer.{tokenize}
-use Rattle.lexer.specs.Over.{over, fit, in-room, length-over}
+use Rattle.lexer.specs.Over.{length-over, over-fit, given-back}
 use Rattle.grammar.specs.Source.{sym as symOf, symbols}
 use Rattle.cst.specs.declared.grow.Counts.{Counts}
 use Rattle.cst.specs.declared.answer.Answer.{Answer}
 use Rattle.cst.specs.declared.answer.Answer.the-variants.{OutputRoom, Accepted}
-use Rattle.cst.specs.Answer.{slices, diagnostic-room, grown, events-of, places-of}
+use Rattle.cst.specs.Answer.{slices, diagnostic-room, grown, events-of}
 use Rattle.cst.specs.Parts.{Grown, Left}
-use Rattle.cst.specs.Laws.{over-fit}
 use borrow.Author.Needs.{needs}
 use Rattle.cst.proofs.grow.parse_kept.Statement.{statement}
 use Rattle.cst.proofs.grow.parse_kept.Tie as tie
-
--- what a lent part gives back to its slice
-given-back : (l l′ vs : List ℕ) (room : ℕ) → room ≤ length l → l′ ≡ over (take room l) 0 vs → l′ ++ drop room l ≡ fit room vs l
-given-back l l′ vs room h e = ap (λ (k : List ℕ). k ++ drop room l) e ∙ in-room l vs room h
 
 module _ (source kinds ends ev dm ds de : List ℕ) where
   abbrev room : ℕ
@@ -40,9 +35,9 @@ module _ (source kinds ends ev dm ds de : List ℕ) where
         answer-is = a ∙ rw (tokens, event-room, m, g .event-count, g .diagnostic-count) refl;
         kinds-are = g .kinds-are;
         events-are = g .events-are ∙ over-fit ev (events-of source);
-        messages-are = given-back dm dm′ _ n (omega arith) (g .messages-are) ∙ ap (λ (i : ℕ). fit i (map (λ p. p .msg) (places-of source)) dm) m;
-        starts-are = given-back ds ds′ _ n (omega arith) (g .starts-are) ∙ ap (λ (i : ℕ). fit i (map (λ p. p .start) (places-of source)) ds) m;
-        stops-are = given-back de de′ _ n (omega arith) (g .stops-are) ∙ ap (λ (i : ℕ). fit i (map (λ p. p .stop) (places-of source)) de) m;
+        messages-are = given-back dm dm′ _ n room (g .messages-are) m (omega arith);
+        starts-are = given-back ds ds′ _ n room (g .starts-are) m (omega arith);
+        stops-are = given-back de de′ _ n room (g .stops-are) m (omega arith);
       }
 
 least-requires : tie.Need-least-requires

@@ -1,8 +1,8 @@
 -- `lexer::lexer::stray` meets its contract. Assumes nothing.
 use Prim.Native.Nat.{ℕ, pred}
-use mathlib.Core.Path.{_≡_, ap}
+use mathlib.Core.Path.{ap}
 use native.Mathlib.Omega.{arith}
-use lib.ListN.{length, drop, take, length-take, length-drop}
+use lib.ListN.{drop, length-take, length-drop}
 use Rattle.utf8.specs.Width.{width, width-pos}
 use Rattle.lexer.specs.Syntax.{Error}
 use Rattle.lexer.specs.Lexer.{stray}

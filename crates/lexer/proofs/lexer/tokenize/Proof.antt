@@ -1,19 +1,12 @@
 -- `lexer::lexer::tokenize` meets its contract: the parts that are lent have the room of the shorter slice. Assumes nothing.
-use Prim.Native.Nat.{ℕ, _≤_}
-use mathlib.Core.Path.{_≡_, sym, ap, _∙_}
-use mathlib.Core.List.{List, _++_}
+use mathlib.Core.Path.{sym, _∙_}
 use native.Mathlib.Omega.{arith}
-use lib.ListN.{length, take, drop}
 use lib.Seq.{length-take-le}
-use Rattle.lexer.specs.Over.{over, fit, in-room}
+use Rattle.lexer.specs.Over.{given-back}
 use Rattle.lexer.specs.Tokens.{token-kinds, token-ends}
 use borrow.Author.Needs.{needs}
 use Rattle.lexer.proofs.lexer.tokenize.Statement.{statement}
 use Rattle.lexer.proofs.lexer.tokenize.Tie as tie
-
--- what a lent part gives back to its slice
-given-back : (l l′ vs : List ℕ) (room n : ℕ) → l′ ≡ over (take room l) 0 vs → room ≡ n → n ≤ length l → l′ ++ drop room l ≡ fit n vs l
-given-back l l′ vs room n e h k = rw (e, h) (in-room l vs n k)
 
 least-requires : tie.Need-least-requires
 least-requires c κs = search needs

@@ -1,5 +1,4 @@
 -- `lexer::quoted::lex_quoted` meets its contract, by the ending of the quote. Assumes nothing.
-use Prim.Native.Nat.{ℕ}
 use mathlib.Core.Path.{_≡_, refl, sym, ap, _∙_}
 use mathlib.Core.Bool.{Bool}
 use Rattle.lexer.specs.declared.lexer.Token.{Token}

@@ -1,6 +1,6 @@
 -- `lexer::runs::advance_while` meets its contract: what the run takes from its start is what it takes from the cursor on.
 -- Assumes nothing.
-use Prim.Native.Nat.{ℕ, _≤_, _+_, _-_}
+use Prim.Native.Nat.{_≤_, _+_, _-_}
 use mathlib.Core.Path.{_≡_, sym, _∙_}
 use native.Mathlib.Omega.{arith}
 use borrow.Author.Needs.{needs}

@@ -1,5 +1,5 @@
 -- `lexer::runs::line_end_within` meets its contract: while no line end was found, none was passed. Assumes nothing.
-use Prim.Native.Nat.{ℕ, _+_, _-_, _≤_, _<_}
+use Prim.Native.Nat.{_+_, _-_, _≤_}
 use mathlib.Core.Path.{_≡_, sym, ap, _∙_}
 use mathlib.Core.Bool.{true, false, not, false≢true}
 use mathlib.Core.Logic.{⊎-elim}

@@ -1,6 +1,6 @@
 -- `lexer::runs::word_end` meets its contract, as `advance_while` does.
 -- Assumes nothing.
-use Prim.Native.Nat.{ℕ, _≤_, _+_, _-_}
+use Prim.Native.Nat.{_≤_, _+_, _-_}
 use mathlib.Core.Path.{_≡_, sym, _∙_}
 use native.Mathlib.Omega.{arith}
 use borrow.Author.Needs.{needs}

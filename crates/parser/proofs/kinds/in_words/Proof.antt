@@ -1,5 +1,4 @@
 -- `parser::kinds::in_words` meets its contract. Assumes nothing.
-use mathlib.Core.Path.{_≡_, refl, sym, ap, _∙_}
 use borrow.Author.Needs.{needs}
 use borrow.Author.Tests.{eq-eqb, ne-eqb}
 use Rattle.parser.specs.Sets.{word-bit}

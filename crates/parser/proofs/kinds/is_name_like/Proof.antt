@@ -1,7 +1,6 @@
 -- `parser::kinds::is_name_like` meets its contract: from 256 on the kind is Ident. Assumes nothing.
 use Prim.Native.Nat.{ℕ, _≤_, _<_}
-use mathlib.Core.Path.{_≡_, refl, sym, _∙_}
-use mathlib.Core.Bool.{Bool, true, _||_}
+use mathlib.Core.Path.{_≡_, _∙_}
 use mathlib.Core.List.{[], _∷_}
 use borrow.Author.Needs.{needs}
 use borrow.Author.Tests.{lt-ltb, le-ltb, le-leb}

@@ -1,8 +1,8 @@
 -- `parser::kinds::starts_instruction` meets its contract. Assumes nothing.
-use mathlib.Core.Path.{_≡_, refl, sym, ap, _∙_}
-use mathlib.Core.Bool.{Bool, true, false, not, _&&_}
+use mathlib.Core.Path.{ap}
+use mathlib.Core.Bool.{not}
 use borrow.Author.Needs.{needs}
-use Rattle.grammar.specs.Look.{name-like, is-reserved-block-keyword, starts-instruction}
+use Rattle.grammar.specs.Look.{is-reserved-block-keyword, starts-instruction}
 use Rattle.parser.proofs.kinds.starts_instruction.Statement.{statement}
 use Rattle.parser.proofs.kinds.starts_instruction.Tie as tie
 

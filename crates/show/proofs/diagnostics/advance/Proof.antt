@@ -1,8 +1,6 @@
 -- `show::diagnostics::advance` meets its contract: the place goes up to the end. Assumes nothing.
-use mathlib.Core.Path.{_≡_}
 use Prim.Native.Nat.{_≤_, _-_}
 use borrow.Author.Needs.{needs}
-use lib.ListN.{length}
 use Rattle.show.specs.Lines.{Marks}
 use Rattle.show.proofs.diagnostics.advance.Statement.{statement}
 use Rattle.show.proofs.diagnostics.advance.Tie as tie

@@ -4,7 +4,7 @@ use Prim.Native.Nat.{_≤_, _-_}
 use borrow.Author.Needs.{needs}
 use lib.ListN.{length}
 use Rattle.frames.specs.Ready.{Ready}
-use Rattle.show.specs.Lines.{Marks, at-start}
+use Rattle.show.specs.Lines.{Marks}
 use Rattle.show.proofs.diagnostics.put_diagnostics.Statement.{statement}
 use Rattle.show.proofs.diagnostics.put_diagnostics.Tie as tie
 

@@ -1,7 +1,7 @@
 -- `tokens::frame::frame` keeps the buffer ready. Assumes nothing.
 use mathlib.Core.Path.{sym}
-use borrow.Author.Needs.{needs}
 use lib.Seq.{length-take-le}
+use borrow.Author.Needs.{needs}
 use Rattle.tokens.proofs.frame.frame.Statement.{statement}
 use Rattle.tokens.proofs.frame.frame.Tie as tie
 
@@ -14,11 +14,20 @@ read-full-requires c κs = search needs
 returns : tie.Need-returns
 returns c = search needs
 
+slice-aggregate-number : tie.Need-slice-aggregate-number
+slice-aggregate-number c = search needs
+
 number-requires : tie.Need-number-requires
 number-requires c κs = search needs
 
+slice-aggregate-number-2 : tie.Need-slice-aggregate-number-2
+slice-aggregate-number-2 c = search needs
+
 number-requires-2 : tie.Need-number-requires-2
 number-requires-2 c κs = search needs
+
+slice-aggregate-number-3 : tie.Need-slice-aggregate-number-3
+slice-aggregate-number-3 c = search needs
 
 number-requires-3 : tie.Need-number-requires-3
 number-requires-3 c κs = search needs
@@ -75,8 +84,11 @@ frame-spec =
     slice-aggregate-read-full
     read-full-requires
     returns
+    slice-aggregate-number
     number-requires
+    slice-aggregate-number-2
     number-requires-2
+    slice-aggregate-number-3
     number-requires-3
     returns-2
     returns-3

@@ -1,26 +1,21 @@
 -- `blocks::block::parse_control_flow`: the four forms, by their keyword. Assumes nothing.
-use mathlib.Core.Path.{refl}
 use Prim.Native.Nat.{ℕ}
+use mathlib.Core.Path.{refl}
 use native.Mathlib.Omega.{arith}
-use borrow.Author.Needs.{needs}
-use Rattle.grammar.specs.Block.{parse-control-flow}
 use Rattle.grammar.specs.Words.{DO, IF, WHILE}
 use Rattle.blocks.proofs.Laws.{repeat-here}
-use Rattle.parser.proofs.Ahead.{at-here, at-not}
 use Rattle.parser.proofs.Kit.{yes-to, no-to}
-use Rattle.blocks.proofs.block.+parse_block+parse_control_flow+parse_do_while+parse_if+parse_repeat+parse_while.Lts-parse_control_flow as lts
+use Rattle.grammar.specs.Block.{parse-control-flow}
+use Rattle.parser.proofs.Ahead.{at-here, at-not}
+use Rattle.blocks.proofs.block.+body_block+inner_block+last_block+parse_block+parse_control_flow+parse_do_while+parse_if+parse_repeat+parse_while+then_block.Lts-parse_control_flow as lts
 use Rattle.blocks.proofs.block.parse_control_flow.Reads as parse-control-flow
-use Rattle.blocks.proofs.block.+parse_block+parse_control_flow+parse_do_while+parse_if+parse_repeat+parse_while.Proof.Common.{parse-control-flow-calls, parse-control-flow-at}
-
-pub current-requires : (t : ℕ) → lts.Need-current-requires (parse-control-flow-calls t) (parse-control-flow-at t) parse-control-flow.Post
-current-requires t c κs = search needs
+use Rattle.blocks.proofs.block.+body_block+inner_block+last_block+parse_block+parse_control_flow+parse_do_while+parse_if+parse_repeat+parse_while+then_block.Proof.Common.{parse-control-flow-calls, parse-control-flow-at}
 
 pub parse-if-requires : (t : ℕ) → lts.Need-parse-if-requires (parse-control-flow-calls t) (parse-control-flow-at t) parse-control-flow.Post
 parse-if-requires t c κs =
     let c₁ = c .before .before .before in
-    let c₂ = c₁ .before in
-    let c₃ = c₂ .before .before .before .before .before in
-    (omega (arith, c₃ .pre), (omega (arith, c₃ .pre), at-here IF _ refl (c₂ .current .ensures) (c₁ .if1 .taken), omega (arith, c₃ .pre)))
+    let c₂ = c₁ .before .before .before .before .before in
+    (omega (arith, c₂ .pre), (omega (arith, c₂ .pre), at-here IF _ refl (c₂ .pre .1 .1) (c₁ .if1 .taken), omega (arith, c₂ .pre)))
 
 pub same-length : (t : ℕ) → lts.Need-same-length (parse-control-flow-calls t) (parse-control-flow-at t) parse-control-flow.Post
 same-length t c =
@@ -42,11 +37,10 @@ unfolding parse-control-flow
 returns t c =
     let c₁ = c .before .before .before .before .before .before in
     let c₂ = c₁ .before .before .before .before in
-    let c₃ = c₂ .before in
-    let c₄ = c₃ .before .before .before .before .before in (
+    let c₃ = c₂ .before .before .before .before .before in (
       record {
-        paid = omega (arith, c₄ .pre, c₁ .parse-if .ensures .0 .paid);
-        went = yes-to _ _ refl (at-here IF _ refl (c₃ .current .ensures) (c₂ .if1 .taken)) (c₁ .parse-if .ensures .0 .went);
+        paid = omega (arith, c₃ .pre, c₁ .parse-if .ensures .0 .paid);
+        went = yes-to _ _ refl (at-here IF _ refl (c₃ .pre .1 .1) (c₂ .if1 .taken)) (c₁ .parse-if .ensures .0 .went);
       },
       c₁ .parse-if .ensures .1,
       c₁ .parse-if .ensures .2,
@@ -55,9 +49,8 @@ returns t c =
 pub parse-do-while-requires : (t : ℕ) → lts.Need-parse-do-while-requires (parse-control-flow-calls t) (parse-control-flow-at t) parse-control-flow.Post
 parse-do-while-requires t c κs =
     let c₁ = c .before .before .before in
-    let c₂ = c₁ .before .before in
-    let c₃ = c₂ .before .before .before .before .before in
-    (omega (arith, c₃ .pre), (omega (arith, c₃ .pre), at-here DO _ refl (c₂ .current .ensures) (c₁ .if2 .taken), omega (arith, c₃ .pre)))
+    let c₂ = c₁ .before .before .before .before .before .before in
+    (omega (arith, c₂ .pre), (omega (arith, c₂ .pre), at-here DO _ refl (c₂ .pre .1 .1) (c₁ .if2 .taken), omega (arith, c₂ .pre)))
 
 pub same-length-4 : (t : ℕ) → lts.Need-same-length-4 (parse-control-flow-calls t) (parse-control-flow-at t) parse-control-flow.Post
 same-length-4 t c =
@@ -80,12 +73,11 @@ returns-2 t c =
     let c₁ = c .before .before .before .before .before .before in
     let c₂ = c₁ .before .before .before .before in
     let c₃ = c₂ .before in
-    let c₄ = c₃ .before in
-    let c₅ = c₄ .before .before .before .before .before in
-    let no-if = at-not IF _ refl (c₄ .current .ensures) (c₃ .if1 .left) in (
+    let c₄ = c₃ .before .before .before .before .before in
+    let no-if = at-not IF _ refl (c₄ .pre .1 .1) (c₃ .if1 .left) in (
       record {
-        paid = omega (arith, c₅ .pre, c₁ .parse-do-while .ensures .0 .paid);
-        went = no-to _ _ refl no-if (yes-to _ _ refl (at-here DO _ refl (c₄ .current .ensures) (c₂ .if2 .taken)) (c₁ .parse-do-while .ensures .0 .went));
+        paid = omega (arith, c₄ .pre, c₁ .parse-do-while .ensures .0 .paid);
+        went = no-to _ _ refl no-if (yes-to _ _ refl (at-here DO _ refl (c₄ .pre .1 .1) (c₂ .if2 .taken)) (c₁ .parse-do-while .ensures .0 .went));
       },
       c₁ .parse-do-while .ensures .1,
       c₁ .parse-do-while .ensures .2,
@@ -94,9 +86,8 @@ returns-2 t c =
 pub parse-while-requires : (t : ℕ) → lts.Need-parse-while-requires (parse-control-flow-calls t) (parse-control-flow-at t) parse-control-flow.Post
 parse-while-requires t c κs =
     let c₁ = c .before .before .before in
-    let c₂ = c₁ .before .before .before in
-    let c₃ = c₂ .before .before .before .before .before in
-    (omega (arith, c₃ .pre), (omega (arith, c₃ .pre), at-here WHILE _ refl (c₂ .current .ensures) (c₁ .if3 .taken), omega (arith, c₃ .pre)))
+    let c₂ = c₁ .before .before .before .before .before .before .before in
+    (omega (arith, c₂ .pre), (omega (arith, c₂ .pre), at-here WHILE _ refl (c₂ .pre .1 .1) (c₁ .if3 .taken), omega (arith, c₂ .pre)))
 
 pub same-length-7 : (t : ℕ) → lts.Need-same-length-7 (parse-control-flow-calls t) (parse-control-flow-at t) parse-control-flow.Post
 same-length-7 t c =
@@ -120,13 +111,12 @@ returns-3 t c =
     let c₂ = c₁ .before .before .before .before in
     let c₃ = c₂ .before in
     let c₄ = c₃ .before in
-    let c₅ = c₄ .before in
-    let c₆ = c₅ .before .before .before .before .before in
-    let no-if = at-not IF _ refl (c₅ .current .ensures) (c₄ .if1 .left) in
-    let no-do = at-not DO _ refl (c₅ .current .ensures) (c₃ .if2 .left) in (
+    let c₅ = c₄ .before .before .before .before .before in
+    let no-if = at-not IF _ refl (c₅ .pre .1 .1) (c₄ .if1 .left) in
+    let no-do = at-not DO _ refl (c₅ .pre .1 .1) (c₃ .if2 .left) in (
       record {
-        paid = omega (arith, c₆ .pre, c₁ .parse-while .ensures .0 .paid);
-        went = no-to _ _ refl no-if (no-to _ _ refl no-do (yes-to _ _ refl (at-here WHILE _ refl (c₅ .current .ensures) (c₂ .if3 .taken)) (c₁ .parse-while .ensures .0 .went)));
+        paid = omega (arith, c₅ .pre, c₁ .parse-while .ensures .0 .paid);
+        went = no-to _ _ refl no-if (no-to _ _ refl no-do (yes-to _ _ refl (at-here WHILE _ refl (c₅ .pre .1 .1) (c₂ .if3 .taken)) (c₁ .parse-while .ensures .0 .went)));
       },
       c₁ .parse-while .ensures .1,
       c₁ .parse-while .ensures .2,
@@ -137,12 +127,11 @@ parse-repeat-requires t c κs =
     let c₁ = c .before .before .before in
     let c₂ = c₁ .before in
     let c₃ = c₂ .before in
-    let c₄ = c₃ .before in
-    let c₅ = c₄ .before .before .before .before .before in
-    let no-if = at-not IF _ refl (c₄ .current .ensures) (c₃ .if1 .left) in
-    let no-do = at-not DO _ refl (c₄ .current .ensures) (c₂ .if2 .left) in
-    let no-while = at-not WHILE _ refl (c₄ .current .ensures) (c₁ .if3 .left) in
-    (omega (arith, c₅ .pre), (omega (arith, c₅ .pre), repeat-here _ (c₅ .pre .1 .1) no-if no-do no-while, omega (arith, c₅ .pre)))
+    let c₄ = c₃ .before .before .before .before .before in
+    let no-if = at-not IF _ refl (c₄ .pre .1 .1) (c₃ .if1 .left) in
+    let no-do = at-not DO _ refl (c₄ .pre .1 .1) (c₂ .if2 .left) in
+    let no-while = at-not WHILE _ refl (c₄ .pre .1 .1) (c₁ .if3 .left) in
+    (omega (arith, c₄ .pre), (omega (arith, c₄ .pre), repeat-here _ (c₄ .pre .1 .2) no-if no-do no-while, omega (arith, c₄ .pre)))
 
 pub same-length-10 : (t : ℕ) → lts.Need-same-length-10 (parse-control-flow-calls t) (parse-control-flow-at t) parse-control-flow.Post
 same-length-10 t c =
@@ -166,13 +155,12 @@ returns-4 t c =
     let c₂ = c₁ .before .before .before .before in
     let c₃ = c₂ .before in
     let c₄ = c₃ .before in
-    let c₅ = c₄ .before in
-    let c₆ = c₅ .before .before .before .before .before in
-    let no-if = at-not IF _ refl (c₅ .current .ensures) (c₄ .if1 .left) in
-    let no-do = at-not DO _ refl (c₅ .current .ensures) (c₃ .if2 .left) in
-    let no-while = at-not WHILE _ refl (c₅ .current .ensures) (c₂ .if3 .left) in (
+    let c₅ = c₄ .before .before .before .before .before in
+    let no-if = at-not IF _ refl (c₅ .pre .1 .1) (c₄ .if1 .left) in
+    let no-do = at-not DO _ refl (c₅ .pre .1 .1) (c₃ .if2 .left) in
+    let no-while = at-not WHILE _ refl (c₅ .pre .1 .1) (c₂ .if3 .left) in (
       record {
-        paid = omega (arith, c₆ .pre, c₁ .parse-repeat .ensures .0 .paid);
+        paid = omega (arith, c₅ .pre, c₁ .parse-repeat .ensures .0 .paid);
         went = no-to _ _ refl no-if (no-to _ _ refl no-do (no-to _ _ refl no-while (c₁ .parse-repeat .ensures .0 .went)));
       },
       c₁ .parse-repeat .ensures .1,

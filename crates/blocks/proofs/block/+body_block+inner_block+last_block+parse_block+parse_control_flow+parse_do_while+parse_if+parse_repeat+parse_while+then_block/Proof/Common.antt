@@ -1,0 +1,252 @@
+-- What the members of the cycle share: measures, what is asked and learnt at their calls, and the invariant of the loop. Assumes nothing.
+use Prim.Native.Nat.{ℕ, _+_, _-_, _*_, _<_}
+use lib.ListN.{length}
+use borrow.Fn.Kinds.{In}
+use borrow.Fn.PlainCycle.{Measures, is, falls, and}
+use Rattle.blocks.proofs.Laws.{Going}
+use Rattle.blocks.proofs.block.body_block.Reads as body-block
+use Rattle.blocks.proofs.block.body_block.Kinds as body-block-kinds
+use Rattle.blocks.proofs.block.+body_block+inner_block+last_block+parse_block+parse_control_flow+parse_do_while+parse_if+parse_repeat+parse_while+then_block.Lts-body_block as body-block-lts
+use Rattle.blocks.proofs.block.inner_block.Reads as inner-block
+use Rattle.blocks.proofs.block.inner_block.Kinds as inner-block-kinds
+use Rattle.blocks.proofs.block.+body_block+inner_block+last_block+parse_block+parse_control_flow+parse_do_while+parse_if+parse_repeat+parse_while+then_block.Lts-inner_block as inner-block-lts
+use Rattle.blocks.proofs.block.last_block.Reads as last-block
+use Rattle.blocks.proofs.block.last_block.Kinds as last-block-kinds
+use Rattle.blocks.proofs.block.+body_block+inner_block+last_block+parse_block+parse_control_flow+parse_do_while+parse_if+parse_repeat+parse_while+then_block.Lts-last_block as last-block-lts
+use Rattle.blocks.proofs.block.parse_block.Reads as parse-block
+use Rattle.blocks.proofs.block.parse_block.Kinds as parse-block-kinds
+use Rattle.blocks.proofs.block.+body_block+inner_block+last_block+parse_block+parse_control_flow+parse_do_while+parse_if+parse_repeat+parse_while+then_block.Lts-parse_block as parse-block-lts
+use Rattle.blocks.proofs.block.parse_control_flow.Reads as parse-control-flow
+use Rattle.blocks.proofs.block.parse_control_flow.Kinds as parse-control-flow-kinds
+use Rattle.blocks.proofs.block.+body_block+inner_block+last_block+parse_block+parse_control_flow+parse_do_while+parse_if+parse_repeat+parse_while+then_block.Lts-parse_control_flow as parse-control-flow-lts
+use Rattle.blocks.proofs.block.parse_do_while.Reads as parse-do-while
+use Rattle.blocks.proofs.block.parse_do_while.Kinds as parse-do-while-kinds
+use Rattle.blocks.proofs.block.+body_block+inner_block+last_block+parse_block+parse_control_flow+parse_do_while+parse_if+parse_repeat+parse_while+then_block.Lts-parse_do_while as parse-do-while-lts
+use Rattle.blocks.proofs.block.parse_if.Reads as parse-if
+use Rattle.blocks.proofs.block.parse_if.Kinds as parse-if-kinds
+use Rattle.blocks.proofs.block.+body_block+inner_block+last_block+parse_block+parse_control_flow+parse_do_while+parse_if+parse_repeat+parse_while+then_block.Lts-parse_if as parse-if-lts
+use Rattle.blocks.proofs.block.parse_repeat.Reads as parse-repeat
+use Rattle.blocks.proofs.block.parse_repeat.Kinds as parse-repeat-kinds
+use Rattle.blocks.proofs.block.+body_block+inner_block+last_block+parse_block+parse_control_flow+parse_do_while+parse_if+parse_repeat+parse_while+then_block.Lts-parse_repeat as parse-repeat-lts
+use Rattle.blocks.proofs.block.parse_while.Reads as parse-while
+use Rattle.blocks.proofs.block.parse_while.Kinds as parse-while-kinds
+use Rattle.blocks.proofs.block.+body_block+inner_block+last_block+parse_block+parse_control_flow+parse_do_while+parse_if+parse_repeat+parse_while+then_block.Lts-parse_while as parse-while-lts
+use Rattle.blocks.proofs.block.then_block.Reads as then-block
+use Rattle.blocks.proofs.block.then_block.Kinds as then-block-kinds
+use Rattle.blocks.proofs.block.+body_block+inner_block+last_block+parse_block+parse_control_flow+parse_do_while+parse_if+parse_repeat+parse_while+then_block.Lts-then_block as then-block-lts
+use Rattle.blocks.proofs.close.ended_file.Reads as ended-file-reads
+use Rattle.blocks.proofs.close.finish.Reads as finish-reads
+use Rattle.blocks.proofs.close.found_terminator.Reads as found-terminator-reads
+use Rattle.blocks.proofs.close.goes_to_else.Reads as goes-to-else-reads
+use Rattle.blocks.proofs.header.do_header.Reads as do-header-reads
+use Rattle.blocks.proofs.header.else_line.Reads as else-line-reads
+use Rattle.blocks.proofs.header.if_header.Reads as if-header-reads
+use Rattle.blocks.proofs.header.repeat_header.Reads as repeat-header-reads
+use Rattle.blocks.proofs.header.while_header.Reads as while-header-reads
+use Rattle.blocks.proofs.header.while_line.Reads as while-line-reads
+use Rattle.blocks.proofs.rounds.first_rounds.Reads as first-rounds-reads
+use Rattle.blocks.proofs.rounds.next_rounds.Reads as next-rounds-reads
+
+abbrev pub μ-body-block : Measures 4 body-block-kinds.ps ℕ
+μ-body-block κs a = 5 * (length (a .0 .now) - a .1 .1 .1 .1 .0 .pos) + 4
+
+abbrev pub μ-inner-block : Measures 4 inner-block-kinds.ps ℕ
+μ-inner-block κs a = 5 * (length (a .0 .now) - a .1 .1 .1 .1 .0 .pos) + 3
+
+abbrev pub μ-last-block : Measures 4 last-block-kinds.ps ℕ
+μ-last-block κs a = 5 * (length (a .0 .now) - a .1 .1 .1 .1 .0 .pos) + 4
+
+abbrev pub μ-parse-block : Measures 4 parse-block-kinds.ps ℕ
+μ-parse-block κs a = 5 * (length (a .0 .now) - a .1 .1 .1 .1 .0 .pos) + 2
+
+abbrev pub μ-parse-control-flow : Measures 4 parse-control-flow-kinds.ps ℕ
+μ-parse-control-flow κs a = 5 * (length (a .0 .now) - a .1 .1 .1 .1 .0 .pos) + 1
+
+abbrev pub μ-parse-do-while : Measures 4 parse-do-while-kinds.ps ℕ
+μ-parse-do-while κs a = 5 * (length (a .0 .now) - a .1 .1 .1 .1 .0 .pos)
+
+abbrev pub μ-parse-if : Measures 4 parse-if-kinds.ps ℕ
+μ-parse-if κs a = 5 * (length (a .0 .now) - a .1 .1 .1 .1 .0 .pos)
+
+abbrev pub μ-parse-repeat : Measures 4 parse-repeat-kinds.ps ℕ
+μ-parse-repeat κs a = 5 * (length (a .0 .now) - a .1 .1 .1 .1 .0 .pos)
+
+abbrev pub μ-parse-while : Measures 4 parse-while-kinds.ps ℕ
+μ-parse-while κs a = 5 * (length (a .0 .now) - a .1 .1 .1 .1 .0 .pos)
+
+abbrev pub μ-then-block : Measures 4 then-block-kinds.ps ℕ
+μ-then-block κs a = 5 * (length (a .0 .now) - a .1 .1 .1 .1 .0 .pos) + 4
+
+abbrev pub body-block-at : ℕ → In 4 body-block-kinds.ps
+body-block-at t = and 4 body-block-kinds.ps (is 4 body-block-kinds.ps μ-body-block t) body-block.Pre
+
+abbrev pub body-block-below : ℕ → In 4 body-block-kinds.ps
+body-block-below t = and 4 body-block-kinds.ps (falls 4 body-block-kinds.ps _<_ μ-body-block t) body-block.Pre
+
+abbrev pub inner-block-at : ℕ → In 4 inner-block-kinds.ps
+inner-block-at t = and 4 inner-block-kinds.ps (is 4 inner-block-kinds.ps μ-inner-block t) inner-block.Pre
+
+abbrev pub inner-block-below : ℕ → In 4 inner-block-kinds.ps
+inner-block-below t = and 4 inner-block-kinds.ps (falls 4 inner-block-kinds.ps _<_ μ-inner-block t) inner-block.Pre
+
+abbrev pub last-block-at : ℕ → In 4 last-block-kinds.ps
+last-block-at t = and 4 last-block-kinds.ps (is 4 last-block-kinds.ps μ-last-block t) last-block.Pre
+
+abbrev pub last-block-below : ℕ → In 4 last-block-kinds.ps
+last-block-below t = and 4 last-block-kinds.ps (falls 4 last-block-kinds.ps _<_ μ-last-block t) last-block.Pre
+
+abbrev pub parse-block-at : ℕ → In 4 parse-block-kinds.ps
+parse-block-at t = and 4 parse-block-kinds.ps (is 4 parse-block-kinds.ps μ-parse-block t) parse-block.Pre
+
+abbrev pub parse-block-below : ℕ → In 4 parse-block-kinds.ps
+parse-block-below t = and 4 parse-block-kinds.ps (falls 4 parse-block-kinds.ps _<_ μ-parse-block t) parse-block.Pre
+
+abbrev pub parse-control-flow-at : ℕ → In 4 parse-control-flow-kinds.ps
+parse-control-flow-at t = and 4 parse-control-flow-kinds.ps (is 4 parse-control-flow-kinds.ps μ-parse-control-flow t) parse-control-flow.Pre
+
+abbrev pub parse-control-flow-below : ℕ → In 4 parse-control-flow-kinds.ps
+parse-control-flow-below t = and 4 parse-control-flow-kinds.ps (falls 4 parse-control-flow-kinds.ps _<_ μ-parse-control-flow t) parse-control-flow.Pre
+
+abbrev pub parse-do-while-at : ℕ → In 4 parse-do-while-kinds.ps
+parse-do-while-at t = and 4 parse-do-while-kinds.ps (is 4 parse-do-while-kinds.ps μ-parse-do-while t) parse-do-while.Pre
+
+abbrev pub parse-do-while-below : ℕ → In 4 parse-do-while-kinds.ps
+parse-do-while-below t = and 4 parse-do-while-kinds.ps (falls 4 parse-do-while-kinds.ps _<_ μ-parse-do-while t) parse-do-while.Pre
+
+abbrev pub parse-if-at : ℕ → In 4 parse-if-kinds.ps
+parse-if-at t = and 4 parse-if-kinds.ps (is 4 parse-if-kinds.ps μ-parse-if t) parse-if.Pre
+
+abbrev pub parse-if-below : ℕ → In 4 parse-if-kinds.ps
+parse-if-below t = and 4 parse-if-kinds.ps (falls 4 parse-if-kinds.ps _<_ μ-parse-if t) parse-if.Pre
+
+abbrev pub parse-repeat-at : ℕ → In 4 parse-repeat-kinds.ps
+parse-repeat-at t = and 4 parse-repeat-kinds.ps (is 4 parse-repeat-kinds.ps μ-parse-repeat t) parse-repeat.Pre
+
+abbrev pub parse-repeat-below : ℕ → In 4 parse-repeat-kinds.ps
+parse-repeat-below t = and 4 parse-repeat-kinds.ps (falls 4 parse-repeat-kinds.ps _<_ μ-parse-repeat t) parse-repeat.Pre
+
+abbrev pub parse-while-at : ℕ → In 4 parse-while-kinds.ps
+parse-while-at t = and 4 parse-while-kinds.ps (is 4 parse-while-kinds.ps μ-parse-while t) parse-while.Pre
+
+abbrev pub parse-while-below : ℕ → In 4 parse-while-kinds.ps
+parse-while-below t = and 4 parse-while-kinds.ps (falls 4 parse-while-kinds.ps _<_ μ-parse-while t) parse-while.Pre
+
+abbrev pub then-block-at : ℕ → In 4 then-block-kinds.ps
+then-block-at t = and 4 then-block-kinds.ps (is 4 then-block-kinds.ps μ-then-block t) then-block.Pre
+
+abbrev pub then-block-below : ℕ → In 4 then-block-kinds.ps
+then-block-below t = and 4 then-block-kinds.ps (falls 4 then-block-kinds.ps _<_ μ-then-block t) then-block.Pre
+
+-- what is asked and learnt at the calls of `body_block`
+abbrev pub body-block-calls : ℕ → body-block-lts.Claims
+body-block-calls t = (
+  inner-block-below t,
+  inner-block.Post,
+  found-terminator-reads.Asked,
+  found-terminator-reads.Learnt,
+  while-line-reads.Asked,
+  while-line-reads.Learnt,
+  finish-reads.Asked,
+  finish-reads.Learnt,
+)
+
+-- what is asked and learnt at the calls of `inner_block`
+abbrev pub inner-block-calls : ℕ → inner-block-lts.Claims
+inner-block-calls t = (
+  parse-block-below t,
+  parse-block.Post,
+)
+
+-- what is asked and learnt at the calls of `last_block`
+abbrev pub last-block-calls : ℕ → last-block-lts.Claims
+last-block-calls t = (
+  inner-block-below t,
+  inner-block.Post,
+  finish-reads.Asked,
+  finish-reads.Learnt,
+)
+
+-- what is asked and learnt at the calls of `parse_block`
+abbrev pub parse-block-calls : ℕ → parse-block-lts.Claims
+parse-block-calls t = (
+  first-rounds-reads.Asked,
+  first-rounds-reads.Learnt,
+  parse-control-flow-below t,
+  parse-control-flow.Post,
+  ended-file-reads.Asked,
+  ended-file-reads.Learnt,
+  next-rounds-reads.Asked,
+  next-rounds-reads.Learnt,
+)
+
+-- what is asked and learnt at the calls of `parse_control_flow`
+abbrev pub parse-control-flow-calls : ℕ → parse-control-flow-lts.Claims
+parse-control-flow-calls t = (
+  parse-if-below t,
+  parse-if.Post,
+  parse-do-while-below t,
+  parse-do-while.Post,
+  parse-while-below t,
+  parse-while.Post,
+  parse-repeat-below t,
+  parse-repeat.Post,
+)
+
+-- what is asked and learnt at the calls of `parse_do_while`
+abbrev pub parse-do-while-calls : ℕ → parse-do-while-lts.Claims
+parse-do-while-calls t = (
+  do-header-reads.Asked,
+  do-header-reads.Learnt,
+  body-block-below t,
+  body-block.Post,
+  last-block-below t,
+  last-block.Post,
+)
+
+-- what is asked and learnt at the calls of `parse_if`
+abbrev pub parse-if-calls : ℕ → parse-if-lts.Claims
+parse-if-calls t = (
+  if-header-reads.Asked,
+  if-header-reads.Learnt,
+  then-block-below t,
+  then-block.Post,
+  last-block-below t,
+  last-block.Post,
+)
+
+-- what is asked and learnt at the calls of `parse_repeat`
+abbrev pub parse-repeat-calls : ℕ → parse-repeat-lts.Claims
+parse-repeat-calls t = (
+  repeat-header-reads.Asked,
+  repeat-header-reads.Learnt,
+  last-block-below t,
+  last-block.Post,
+)
+
+-- what is asked and learnt at the calls of `parse_while`
+abbrev pub parse-while-calls : ℕ → parse-while-lts.Claims
+parse-while-calls t = (
+  while-header-reads.Asked,
+  while-header-reads.Learnt,
+  last-block-below t,
+  last-block.Post,
+)
+
+-- what is asked and learnt at the calls of `then_block`
+abbrev pub then-block-calls : ℕ → then-block-lts.Claims
+then-block-calls t = (
+  inner-block-below t,
+  inner-block.Post,
+  goes-to-else-reads.Asked,
+  goes-to-else-reads.Learnt,
+  else-line-reads.Asked,
+  else-line-reads.Learnt,
+  finish-reads.Asked,
+  finish-reads.Learnt,
+)
+
+abbrev pub parse-block-Inv-loop : parse-block-lts.InvT-loop
+parse-block-Inv-loop kinds ev₀ dm₀ ds₀ owner terminators depth s₀ ev dm ds s = Going kinds owner terminators depth ev₀ dm₀ ds₀ s₀ ev dm ds s
+
+abbrev pub parse-block-μ-loop : parse-block-lts.MeasureT-loop
+parse-block-μ-loop kinds ev₀ dm₀ ds₀ owner terminators depth s₀ ev dm ds s = length kinds - s .c .pos

@@ -1,0 +1,115 @@
+-- `blocks::block::parse_do_while`: the header, the body and, behind a `while`, the block of the condition. Assumes nothing.
+use Prim.Native.Nat.{ℕ}
+use mathlib.Core.Path.{_∙_}
+use native.Mathlib.Omega.{arith}
+use borrow.Author.Tests.{not-true, not-false}
+use Rattle.grammar.specs.declared.block.BlockOwner.{BlockOwner}
+use Rattle.blocks.proofs.Laws.{no-condition, condition}
+use Rattle.parser.proofs.Kit.{node-to, bind-to}
+use Rattle.grammar.specs.Block.{ended, do-condition, parse-block, parse-do-while}
+use Rattle.blocks.proofs.block.+body_block+inner_block+last_block+parse_block+parse_control_flow+parse_do_while+parse_if+parse_repeat+parse_while+then_block.Lts-parse_do_while as lts
+use Rattle.blocks.proofs.block.parse_do_while.Reads as parse-do-while
+use Rattle.blocks.proofs.block.+body_block+inner_block+last_block+parse_block+parse_control_flow+parse_do_while+parse_if+parse_repeat+parse_while+then_block.Proof.Common.{parse-do-while-calls, parse-do-while-at}
+
+pub do-header-requires : (t : ℕ) → lts.Need-do-header-requires (parse-do-while-calls t) (parse-do-while-at t) parse-do-while.Post
+do-header-requires t c κs =
+    let c₁ = c .before .before .before .before .before .before .before in
+    (omega (arith, c₁ .pre), c₁ .pre .1 .1)
+
+pub body-block-requires : (t : ℕ) → lts.Need-body-block-requires (parse-do-while-calls t) (parse-do-while-at t) parse-do-while.Post
+body-block-requires t c κs =
+    let c₁ = c .before .before .before .before .before .before .before .before .before in
+    let c₂ = c₁ .before .before .before .before .before .before .before .before in
+    omega (arith, c₂ .pre, c₁ .do-header .ensures .paid)
+
+pub same-length : (t : ℕ) → lts.Need-same-length (parse-do-while-calls t) (parse-do-while-at t) parse-do-while.Post
+same-length t c =
+    let c₁ = c .before .before .before .before .before .before .before .before .before in
+    let c₂ = c₁ .before .before .before .before .before .before .before .before .before .before in
+    c₁ .body-block .kept .1 .0 ∙ c₂ .do-header .kept .1 .0
+
+pub same-length-2 : (t : ℕ) → lts.Need-same-length-2 (parse-do-while-calls t) (parse-do-while-at t) parse-do-while.Post
+same-length-2 t c =
+    let c₁ = c .before .before .before .before .before .before .before .before .before in
+    let c₂ = c₁ .before .before .before .before .before .before .before .before .before .before in
+    c₁ .body-block .kept .1 .1 .0 ∙ c₂ .do-header .kept .1 .1 .0
+
+pub same-length-3 : (t : ℕ) → lts.Need-same-length-3 (parse-do-while-calls t) (parse-do-while-at t) parse-do-while.Post
+same-length-3 t c =
+    let c₁ = c .before .before .before .before .before .before .before .before .before in
+    let c₂ = c₁ .before .before .before .before .before .before .before .before .before .before in
+    c₁ .body-block .kept .1 .1 .1 .0 ∙ c₂ .do-header .kept .1 .1 .1 .0
+
+pub returns : (t : ℕ) → lts.Need-returns (parse-do-while-calls t) (parse-do-while-at t) parse-do-while.Post
+unfolding parse-do-while
+returns t c =
+    let c₁ = c .before .before .before .before .before .before .before .before .before in
+    let c₂ = c₁ .before .before .before .before .before .before .before .before .before .before in
+    let c₃ = c₂ .before .before .before .before .before .before .before .before in
+    let head = c₂ .do-header .ensures in
+    let first = c₁ .body-block .ensures in
+    let fails = not-true (c₁ .body-block .result .more) (c .if1 .taken) in
+    let last = first .done fails in
+    let rest = no-condition (c₃ .args .depth) (first .outcome) (first .test) fails (last .went) in
+    let form = bind-to (do-condition (parse-block 256) (c₃ .args .depth)) (first .block .went) rest in (
+      record {
+        paid = omega (arith, c₃ .pre, c₂ .do-header .ensures .paid, c₁ .body-block .ensures .block .paid, last .paid);
+        went = node-to _ (head .wrote) (head .on _ _ _ form) (last .wrote);
+      },
+      last .here,
+      omega (arith, head .paid .ahead, first .block .paid .ahead, last .paid .ahead),
+    )
+
+pub last-block-requires : (t : ℕ) → lts.Need-last-block-requires (parse-do-while-calls t) (parse-do-while-at t) parse-do-while.Post
+last-block-requires t c κs =
+    let c₁ = c .before .before .before in
+    let c₂ = c₁ .before .before .before .before .before .before .before .before .before in
+    let c₃ = c₂ .before .before .before .before .before .before .before .before .before .before in
+    let c₄ = c₃ .before .before .before .before .before .before .before .before in
+    let line = c₂ .body-block .ensures .led (not-false (c₂ .body-block .result .more) (c₁ .if1 .left)) in
+    omega (arith, c₄ .pre, c₃ .do-header .ensures .paid, c₂ .body-block .ensures .block .paid, line .paid)
+
+pub same-length-4 : (t : ℕ) → lts.Need-same-length-4 (parse-do-while-calls t) (parse-do-while-at t) parse-do-while.Post
+same-length-4 t c =
+    let c₁ = c .before .before .before .before .before .before in
+    let c₂ = c₁ .before .before .before .before .before .before .before .before .before .before .before .before .before in
+    let c₃ = c₂ .before .before .before .before .before .before .before .before .before .before in
+    c₁ .last-block .kept .1 .0 ∙ c₂ .body-block .kept .1 .0 ∙ c₃ .do-header .kept .1 .0
+
+pub same-length-5 : (t : ℕ) → lts.Need-same-length-5 (parse-do-while-calls t) (parse-do-while-at t) parse-do-while.Post
+same-length-5 t c =
+    let c₁ = c .before .before .before .before .before .before in
+    let c₂ = c₁ .before .before .before .before .before .before .before .before .before .before .before .before .before in
+    let c₃ = c₂ .before .before .before .before .before .before .before .before .before .before in
+    c₁ .last-block .kept .1 .1 .0 ∙ c₂ .body-block .kept .1 .1 .0 ∙ c₃ .do-header .kept .1 .1 .0
+
+pub same-length-6 : (t : ℕ) → lts.Need-same-length-6 (parse-do-while-calls t) (parse-do-while-at t) parse-do-while.Post
+same-length-6 t c =
+    let c₁ = c .before .before .before .before .before .before in
+    let c₂ = c₁ .before .before .before .before .before .before .before .before .before .before .before .before .before in
+    let c₃ = c₂ .before .before .before .before .before .before .before .before .before .before in
+    c₁ .last-block .kept .1 .1 .1 .0 ∙ c₂ .body-block .kept .1 .1 .1 .0 ∙ c₃ .do-header .kept .1 .1 .1 .0
+
+pub returns-2 : (t : ℕ) → lts.Need-returns-2 (parse-do-while-calls t) (parse-do-while-at t) parse-do-while.Post
+unfolding parse-do-while
+returns-2 t c =
+    let c₁ = c .before .before .before .before .before .before in
+    let c₂ = c₁ .before .before .before .before in
+    let c₃ = c₂ .before .before .before .before .before .before .before .before .before in
+    let c₄ = c₃ .before .before .before .before .before .before .before .before .before .before in
+    let c₅ = c₄ .before .before .before .before .before .before .before .before in
+    let head = c₄ .do-header .ensures in
+    let first = c₃ .body-block .ensures in
+    let holds = not-false (c₃ .body-block .result .more) (c₂ .if1 .left) in
+    let line = first .led holds in
+    let last = c₁ .last-block .ensures in
+    let block = bind-to (λ o. ended BlockOwner.DoWhile o) (last .block .went) (last .done .went) in
+    let rest = condition (c₅ .args .depth) (first .outcome) (first .test) holds (line .on _ _ _ block) in
+    let form = bind-to (do-condition (parse-block 256) (c₅ .args .depth)) (first .block .went) rest in (
+      record {
+        paid = omega (arith, c₅ .pre, c₄ .do-header .ensures .paid, c₃ .body-block .ensures .block .paid, c₁ .last-block .ensures .block .paid, c₁ .last-block .ensures .done .paid, line .paid);
+        went = node-to _ (head .wrote) (head .on _ _ _ form) (last .done .wrote);
+      },
+      last .done .here,
+      omega (arith, head .paid .ahead, first .block .paid .ahead, line .paid .ahead, last .block .paid .ahead, last .done .paid .ahead),
+    )

@@ -1,0 +1,114 @@
+-- `blocks::block::parse_if`: the header, the block and, behind an `else`, another. Assumes nothing.
+use Prim.Native.Nat.{ℕ}
+use mathlib.Core.Path.{_∙_}
+use native.Mathlib.Omega.{arith}
+use borrow.Author.Tests.{not-true, not-false}
+use Rattle.blocks.specs.Shapes.{else-part}
+use Rattle.blocks.proofs.Laws.{no-else, with-else}
+use Rattle.parser.proofs.Kit.{node-to, bind-to}
+use Rattle.grammar.specs.Block.{parse-block, parse-if}
+use Rattle.blocks.proofs.block.+body_block+inner_block+last_block+parse_block+parse_control_flow+parse_do_while+parse_if+parse_repeat+parse_while+then_block.Lts-parse_if as lts
+use Rattle.blocks.proofs.block.parse_if.Reads as parse-if
+use Rattle.blocks.proofs.block.+body_block+inner_block+last_block+parse_block+parse_control_flow+parse_do_while+parse_if+parse_repeat+parse_while+then_block.Proof.Common.{parse-if-calls, parse-if-at}
+
+pub if-header-requires : (t : ℕ) → lts.Need-if-header-requires (parse-if-calls t) (parse-if-at t) parse-if.Post
+if-header-requires t c κs =
+    let c₁ = c .before .before .before .before .before .before .before in
+    (omega (arith, c₁ .pre), c₁ .pre .1 .1)
+
+pub then-block-requires : (t : ℕ) → lts.Need-then-block-requires (parse-if-calls t) (parse-if-at t) parse-if.Post
+then-block-requires t c κs =
+    let c₁ = c .before .before .before .before .before .before .before .before .before in
+    let c₂ = c₁ .before .before .before .before .before .before .before .before in
+    omega (arith, c₂ .pre, c₁ .if-header .ensures .paid)
+
+pub same-length : (t : ℕ) → lts.Need-same-length (parse-if-calls t) (parse-if-at t) parse-if.Post
+same-length t c =
+    let c₁ = c .before .before .before .before .before .before .before .before .before in
+    let c₂ = c₁ .before .before .before .before .before .before .before .before .before .before in
+    c₁ .then-block .kept .1 .0 ∙ c₂ .if-header .kept .1 .0
+
+pub same-length-2 : (t : ℕ) → lts.Need-same-length-2 (parse-if-calls t) (parse-if-at t) parse-if.Post
+same-length-2 t c =
+    let c₁ = c .before .before .before .before .before .before .before .before .before in
+    let c₂ = c₁ .before .before .before .before .before .before .before .before .before .before in
+    c₁ .then-block .kept .1 .1 .0 ∙ c₂ .if-header .kept .1 .1 .0
+
+pub same-length-3 : (t : ℕ) → lts.Need-same-length-3 (parse-if-calls t) (parse-if-at t) parse-if.Post
+same-length-3 t c =
+    let c₁ = c .before .before .before .before .before .before .before .before .before in
+    let c₂ = c₁ .before .before .before .before .before .before .before .before .before .before in
+    c₁ .then-block .kept .1 .1 .1 .0 ∙ c₂ .if-header .kept .1 .1 .1 .0
+
+pub returns : (t : ℕ) → lts.Need-returns (parse-if-calls t) (parse-if-at t) parse-if.Post
+unfolding parse-if
+returns t c =
+    let c₁ = c .before .before .before .before .before .before .before .before .before in
+    let c₂ = c₁ .before .before .before .before .before .before .before .before .before .before in
+    let c₃ = c₂ .before .before .before .before .before .before .before .before in
+    let head = c₂ .if-header .ensures in
+    let first = c₁ .then-block .ensures in
+    let fails = not-true (c₁ .then-block .result .more) (c .if1 .taken) in
+    let last = first .done fails in
+    let rest = no-else (c₃ .args .depth) (first .outcome) (first .test) fails (last .went) in
+    let form = bind-to (else-part (parse-block 256) (c₃ .args .depth)) (first .block .went) rest in (
+      record {
+        paid = omega (arith, c₃ .pre, c₂ .if-header .ensures .paid, c₁ .then-block .ensures .block .paid, last .paid);
+        went = node-to _ (head .wrote) (head .on _ _ _ form) (last .wrote);
+      },
+      last .here,
+      omega (arith, head .paid .ahead, first .block .paid .ahead, last .paid .ahead),
+    )
+
+pub last-block-requires : (t : ℕ) → lts.Need-last-block-requires (parse-if-calls t) (parse-if-at t) parse-if.Post
+last-block-requires t c κs =
+    let c₁ = c .before .before .before in
+    let c₂ = c₁ .before .before .before .before .before .before .before .before .before in
+    let c₃ = c₂ .before .before .before .before .before .before .before .before .before .before in
+    let c₄ = c₃ .before .before .before .before .before .before .before .before in
+    let line = c₂ .then-block .ensures .led (not-false (c₂ .then-block .result .more) (c₁ .if1 .left)) in
+    omega (arith, c₄ .pre, c₃ .if-header .ensures .paid, c₂ .then-block .ensures .block .paid, line .paid)
+
+pub same-length-4 : (t : ℕ) → lts.Need-same-length-4 (parse-if-calls t) (parse-if-at t) parse-if.Post
+same-length-4 t c =
+    let c₁ = c .before .before .before .before .before .before in
+    let c₂ = c₁ .before .before .before .before .before .before .before .before .before .before .before .before .before in
+    let c₃ = c₂ .before .before .before .before .before .before .before .before .before .before in
+    c₁ .last-block .kept .1 .0 ∙ c₂ .then-block .kept .1 .0 ∙ c₃ .if-header .kept .1 .0
+
+pub same-length-5 : (t : ℕ) → lts.Need-same-length-5 (parse-if-calls t) (parse-if-at t) parse-if.Post
+same-length-5 t c =
+    let c₁ = c .before .before .before .before .before .before in
+    let c₂ = c₁ .before .before .before .before .before .before .before .before .before .before .before .before .before in
+    let c₃ = c₂ .before .before .before .before .before .before .before .before .before .before in
+    c₁ .last-block .kept .1 .1 .0 ∙ c₂ .then-block .kept .1 .1 .0 ∙ c₃ .if-header .kept .1 .1 .0
+
+pub same-length-6 : (t : ℕ) → lts.Need-same-length-6 (parse-if-calls t) (parse-if-at t) parse-if.Post
+same-length-6 t c =
+    let c₁ = c .before .before .before .before .before .before in
+    let c₂ = c₁ .before .before .before .before .before .before .before .before .before .before .before .before .before in
+    let c₃ = c₂ .before .before .before .before .before .before .before .before .before .before in
+    c₁ .last-block .kept .1 .1 .1 .0 ∙ c₂ .then-block .kept .1 .1 .1 .0 ∙ c₃ .if-header .kept .1 .1 .1 .0
+
+pub returns-2 : (t : ℕ) → lts.Need-returns-2 (parse-if-calls t) (parse-if-at t) parse-if.Post
+unfolding parse-if
+returns-2 t c =
+    let c₁ = c .before .before .before .before .before .before in
+    let c₂ = c₁ .before .before .before .before in
+    let c₃ = c₂ .before .before .before .before .before .before .before .before .before in
+    let c₄ = c₃ .before .before .before .before .before .before .before .before .before .before in
+    let c₅ = c₄ .before .before .before .before .before .before .before .before in
+    let head = c₄ .if-header .ensures in
+    let first = c₃ .then-block .ensures in
+    let holds = not-false (c₃ .then-block .result .more) (c₂ .if1 .left) in
+    let line = first .led holds in
+    let last = c₁ .last-block .ensures in
+    let rest = with-else (c₅ .args .depth) (first .outcome) (first .test) holds (line .on _ _ _ (last .block .went)) (last .done .went) in
+    let form = bind-to (else-part (parse-block 256) (c₅ .args .depth)) (first .block .went) rest in (
+      record {
+        paid = omega (arith, c₅ .pre, c₄ .if-header .ensures .paid, c₃ .then-block .ensures .block .paid, c₁ .last-block .ensures .block .paid, c₁ .last-block .ensures .done .paid, line .paid);
+        went = node-to _ (head .wrote) (head .on _ _ _ form) (last .done .wrote);
+      },
+      last .done .here,
+      omega (arith, head .paid .ahead, first .block .paid .ahead, line .paid .ahead, last .block .paid .ahead, last .done .paid .ahead),
+    )

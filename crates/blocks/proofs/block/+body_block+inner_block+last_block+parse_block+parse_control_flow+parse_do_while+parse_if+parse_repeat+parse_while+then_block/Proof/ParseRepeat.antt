@@ -1,0 +1,56 @@
+-- `blocks::block::parse_repeat`: the header, and the block. Assumes nothing.
+use Prim.Native.Nat.{ℕ}
+use mathlib.Core.Path.{_∙_}
+use native.Mathlib.Omega.{arith}
+use Rattle.grammar.specs.declared.block.BlockOwner.{BlockOwner}
+use Rattle.parser.proofs.Kit.{node-to, bind-to}
+use Rattle.grammar.specs.Block.{ended, parse-repeat}
+use Rattle.blocks.proofs.block.+body_block+inner_block+last_block+parse_block+parse_control_flow+parse_do_while+parse_if+parse_repeat+parse_while+then_block.Lts-parse_repeat as lts
+use Rattle.blocks.proofs.block.parse_repeat.Reads as parse-repeat
+use Rattle.blocks.proofs.block.+body_block+inner_block+last_block+parse_block+parse_control_flow+parse_do_while+parse_if+parse_repeat+parse_while+then_block.Proof.Common.{parse-repeat-calls, parse-repeat-at}
+
+pub repeat-header-requires : (t : ℕ) → lts.Need-repeat-header-requires (parse-repeat-calls t) (parse-repeat-at t) parse-repeat.Post
+repeat-header-requires t c κs =
+    let c₁ = c .before .before .before .before .before .before .before in
+    (omega (arith, c₁ .pre), c₁ .pre .1 .1)
+
+pub last-block-requires : (t : ℕ) → lts.Need-last-block-requires (parse-repeat-calls t) (parse-repeat-at t) parse-repeat.Post
+last-block-requires t c κs =
+    let c₁ = c .before .before .before .before .before .before .before .before .before in
+    let c₂ = c₁ .before .before .before .before .before .before .before .before in
+    omega (arith, c₂ .pre, c₁ .repeat-header .ensures .paid)
+
+pub same-length : (t : ℕ) → lts.Need-same-length (parse-repeat-calls t) (parse-repeat-at t) parse-repeat.Post
+same-length t c =
+    let c₁ = c .before .before .before .before .before .before in
+    let c₂ = c₁ .before .before .before .before .before .before .before .before .before .before in
+    c₁ .last-block .kept .1 .0 ∙ c₂ .repeat-header .kept .1 .0
+
+pub same-length-2 : (t : ℕ) → lts.Need-same-length-2 (parse-repeat-calls t) (parse-repeat-at t) parse-repeat.Post
+same-length-2 t c =
+    let c₁ = c .before .before .before .before .before .before in
+    let c₂ = c₁ .before .before .before .before .before .before .before .before .before .before in
+    c₁ .last-block .kept .1 .1 .0 ∙ c₂ .repeat-header .kept .1 .1 .0
+
+pub same-length-3 : (t : ℕ) → lts.Need-same-length-3 (parse-repeat-calls t) (parse-repeat-at t) parse-repeat.Post
+same-length-3 t c =
+    let c₁ = c .before .before .before .before .before .before in
+    let c₂ = c₁ .before .before .before .before .before .before .before .before .before .before in
+    c₁ .last-block .kept .1 .1 .1 .0 ∙ c₂ .repeat-header .kept .1 .1 .1 .0
+
+pub returns : (t : ℕ) → lts.Need-returns (parse-repeat-calls t) (parse-repeat-at t) parse-repeat.Post
+unfolding parse-repeat
+returns t c =
+    let c₁ = c .before .before .before .before .before .before in
+    let c₂ = c₁ .before .before .before .before .before .before .before .before .before .before in
+    let c₃ = c₂ .before .before .before .before .before .before .before .before in
+    let head = c₂ .repeat-header .ensures in
+    let last = c₁ .last-block .ensures in
+    let form = bind-to (λ o. ended BlockOwner.Repeat o) (last .block .went) (last .done .went) in (
+      record {
+        paid = omega (arith, c₃ .pre, c₂ .repeat-header .ensures .paid, c₁ .last-block .ensures .block .paid, c₁ .last-block .ensures .done .paid);
+        went = node-to _ (head .wrote) (head .on _ _ _ form) (last .done .wrote);
+      },
+      last .done .here,
+      omega (arith, head .paid .ahead, last .block .paid .ahead, last .done .paid .ahead),
+    )

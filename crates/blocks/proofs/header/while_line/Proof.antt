@@ -1,0 +1,36 @@
+-- `blocks::header::while_line`: the line. Assumes nothing.
+use mathlib.Core.Path.{refl}
+use native.Mathlib.Omega.{arith}
+use Rattle.grammar.specs.Look.{oneOf}
+use Rattle.parser.proofs.Kit.{_then-to_}
+use Rattle.blocks.proofs.header.while_line.Statement.{statement}
+use Rattle.blocks.proofs.header.while_line.Tie as tie
+
+keyword-line-requires : tie.Need-keyword-line-requires
+unfolding oneOf
+keyword-line-requires c κs =
+    let c₁ = c .before .before .before .before .before .before .before in
+    (omega (arith, c₁ .pre), c₁ .pre .1, refl)
+
+same-length : tie.Need-same-length
+same-length c =
+    let c₁ = c .before .before .before .before .before .before in
+    c₁ .keyword-line .kept .1 .0
+
+same-length-2 : tie.Need-same-length-2
+same-length-2 c =
+    let c₁ = c .before .before .before .before .before .before in
+    c₁ .keyword-line .kept .1 .1 .0
+
+same-length-3 : tie.Need-same-length-3
+same-length-3 c =
+    let c₁ = c .before .before .before .before .before .before in
+    c₁ .keyword-line .kept .1 .1 .1 .0
+
+returns : tie.Need-returns
+returns c =
+    let c₁ = c .before .before .before .before .before .before in
+    record { on = λ next v r h. c₁ .keyword-line .ensures .key then-to c₁ .keyword-line .ensures .tail then-to h; paid = c₁ .keyword-line .ensures .paid }
+
+pub while-line-spec : {M : Type 1} → statement M
+while-line-spec = tie.close (tie.spec keyword-line-requires same-length same-length-2 same-length-3 returns)

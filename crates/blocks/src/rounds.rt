@@ -1,0 +1,147 @@
+// The rounds of parse_block's loop up to its next form. They make no call into the cycle, so their locals stand in none of its frames.
+use crate::arm::Arm;
+use crate::arm::arm_here;
+use crate::close::close;
+use crate::reject::reject_excessive_control_flow_nesting;
+use crate::step::take;
+use grammar::block::BlockOwner;
+use grammar::block::BlockParseOutcome;
+use grammar::block::Terminators;
+use parser::cursor::Cursor;
+use parser::cursor::put;
+use parser::look::Remembered;
+use parser::look::current;
+ghost use Rattle.parser.specs.Rep.{world, Ready};
+ghost use Rattle.blocks.specs.Shapes.{ItemAt, FormHere, Rounded, Begun};
+
+// The limit on control-flow nodes in one another: MAX_CONTROL_FLOW_NESTING.
+const LIMIT: usize = 256;
+
+// Where the rounds stop: at a form, whose keyword is `word`, or behind the block's closing event.
+pub struct Stopped {
+    pub c: Cursor,
+    pub control: bool,
+    pub word: u16,
+    pub outcome: BlockParseOutcome,
+    pub item: bool,
+}
+
+// At a form. Past the limit the rest of the file is rejected, and the block has ended.
+fn form_here(
+    kinds: &[u16],
+    ev: &mut [u16],
+    dm: &mut [u16],
+    ds: &mut [u32],
+    c0: Cursor,
+    depth: usize,
+) -> Stopped
+    requires { ⌜ Ready 7 (now kinds) c0 ⌝ }
+    ensures { λ r. ⌜ FormHere (now (kinds .entry)) depth (world (now (ev .entry)) (now (dm .entry)) (now (ds .entry)) c0) (world (now (ev .exit)) (now (dm .exit)) (now (ds .exit)) (r .c)) (r .outcome) (r .item) (r .control) (r .word) ⌝ }
+{
+    if LIMIT <= depth {
+        let d = reject_excessive_control_flow_nesting(kinds, ev, dm, ds, c0);
+        let e = put(ev, d, 0);
+        return Stopped {
+            c: e,
+            control: false,
+            word: 0,
+            outcome: BlockParseOutcome::ReachedEof,
+            item: false,
+        };
+    }
+    let word = current(kinds, c0.pos);
+    Stopped {
+        c: c0,
+        control: true,
+        word: word,
+        outcome: BlockParseOutcome::ReachedEof,
+        item: false,
+    }
+}
+
+// Where `item0` holds, a form before this ended at an item that starts here. A lookahead remembered before a form holds only
+// of trivia before it, so nothing is remembered over a form.
+fn rounds(
+    kinds: &[u16],
+    ev: &mut [u16],
+    dm: &mut [u16],
+    ds: &mut [u32],
+    c0: Cursor,
+    owner: BlockOwner,
+    terminators: Terminators,
+    depth: usize,
+    item0: bool,
+) -> Stopped
+    requires { ⌜ (Ready 7 (now kinds) c0) × ItemAt (now kinds) (c0 .pos) item0 ⌝ }
+    ensures { λ r. ⌜ Rounded (now (kinds .entry)) owner terminators depth (world (now (ev .entry)) (now (dm .entry)) (now (ds .entry)) c0) (world (now (ev .exit)) (now (dm .exit)) (now (ds .exit)) (r .c)) (r .outcome) (r .item) (r .control) (r .word) ⌝ }
+{
+    let mut c = c0;
+    let mut item = item0;
+    let mut known = Remembered {
+        next: 0,
+        starts: false,
+    };
+    loop {
+        let seen = arm_here(kinds, c.pos, terminators, known, item);
+        let a = seen.arm;
+        known = seen.known;
+        match a {
+            Arm::Takes(t) => {
+                c = take(kinds, ev, dm, ds, c, t);
+                item = false;
+                continue;
+            }
+            Arm::Closes(k) => {
+                let e = close(ev, dm, ds, c, owner, k);
+                let ec = e.c;
+                let outcome = e.outcome;
+                return Stopped {
+                    c: ec,
+                    control: false,
+                    word: 0,
+                    outcome: outcome,
+                    item: e.item,
+                };
+            }
+            Arm::Control => {
+                return form_here(kinds, ev, dm, ds, c, depth);
+            }
+        }
+    }
+}
+
+// The block's opening event, and its rounds up to the first form.
+pub fn first_rounds(
+    kinds: &[u16],
+    ev: &mut [u16],
+    dm: &mut [u16],
+    ds: &mut [u32],
+    c0: Cursor,
+    owner: BlockOwner,
+    terminators: Terminators,
+    depth: usize,
+) -> Stopped
+    requires { ⌜ Ready 8 (now kinds) c0 ⌝ }
+    ensures { λ r. ⌜ Begun (now (kinds .entry)) owner terminators depth (world (now (ev .entry)) (now (dm .entry)) (now (ds .entry)) c0) (world (now (ev .exit)) (now (dm .exit)) (now (ds .exit)) (r .c)) (r .outcome) (r .item) (r .control) (r .word) ⌝ }
+{
+    let c = put(ev, c0, 18);
+    rounds(kinds, ev, dm, ds, c, owner, terminators, depth, false)
+}
+
+// The rounds behind a form.
+pub fn next_rounds(
+    kinds: &[u16],
+    ev: &mut [u16],
+    dm: &mut [u16],
+    ds: &mut [u32],
+    c0: Cursor,
+    owner: BlockOwner,
+    terminators: Terminators,
+    depth: usize,
+    item0: bool,
+) -> Stopped
+    requires { ⌜ (Ready 7 (now kinds) c0) × ItemAt (now kinds) (c0 .pos) item0 ⌝ }
+    ensures { λ r. ⌜ Rounded (now (kinds .entry)) owner terminators depth (world (now (ev .entry)) (now (dm .entry)) (now (ds .entry)) c0) (world (now (ev .exit)) (now (dm .exit)) (now (ds .exit)) (r .c)) (r .outcome) (r .item) (r .control) (r .word) ⌝ }
+{
+    rounds(kinds, ev, dm, ds, c0, owner, terminators, depth, item0)
+}
