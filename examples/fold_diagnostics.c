@@ -57,7 +57,8 @@ void show_diagnostics(const struct reading *r)
     for (size_t i = 0; i < r->counts[2]; i++) {
         size_t start = r->starts[i], end = r->ends[i];
         put_name(r->name);
-        printf(":%zu:%zu: %s", line_of(r, start), column_of(r, start), masm_message(r->messages[i]));
+        printf(":%zu:%zu: %s", line_of(r, start), column_of(r, start),
+               masm_message(r->messages[i]));
         if (r->messages[i] == MASM_UNRECOGNIZED) {
             fputs(" `", stdout);
             put_bytes(r->source + start, end - start);

@@ -12,7 +12,7 @@ struct mark {
     bool opens, closes;
 };
 
-/* Where a row ends: behind LF or a CR without it. Both end a comment, so both are seen as breaks. */
+/* Where a row ends: behind LF or a CR without it. Both end a comment, so both must show. */
 static size_t row_end(const struct reading *r, size_t from)
 {
     for (size_t i = from; i < r->length; i++) {

@@ -31,7 +31,7 @@ void step(const struct reading *r, struct walk *w)
     }
 }
 
-/* Takes the next child of the innermost open node with all that it holds; false at the node's end. */
+/* Takes the next child of the innermost open node, and all that it holds; false at its end. */
 bool next_child(const struct reading *r, struct walk *w, struct child *c)
 {
     uint16_t event = r->events[w->event];

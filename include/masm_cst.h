@@ -22,17 +22,17 @@ extern "C" {
 #define MASM_DIAGNOSTIC_ROOM(n) ((size_t)2 * (n))
 #define MASM_COUNTS 3
 
-/* What the call returns, what is then in counts[0], [1] and [2], and what is in the other slices.
-   An entry that is not named is as it was before the call. Checked in the order 6, 1, 2, 3, 4, 5. */
+/* What the call returns: what is then in counts[0], [1] and [2], when, and what is written to the
+   other slices. All else is as it was before. Checked in the order 6, 1, 2, 3, 4, 5. */
 enum masm_status {
-    MASM_ACCEPTED = 0,        /* T, E, D: the numbers of tokens, events and diagnostics; all of them */
-    MASM_TOO_LONG = 1,        /* 0, 0, 0: over MASM_MAX_SOURCE bytes; nothing */
-    MASM_NOT_UTF8 = 2,        /* offset, 0, 0: where the longest well-formed start ends; nothing */
-    MASM_TOKEN_SHORT = 3,     /* T, 0, 0: more tokens than fit; the first that fit */
-    MASM_UNWANTED = 4,        /* offset, 0, 0: of the first `use` or `extern`; all tokens */
-    MASM_OUTPUT_SHORT = 5,    /* T, E, D: more events or diagnostics than fit; all tokens, and the
-                                 first events and diagnostics that fit */
-    MASM_COUNTS_SHORT = 6     /* counts is shorter than MASM_COUNTS; nothing, counts too */
+    MASM_ACCEPTED = 0,     /* T, E, D, the numbers of tokens, events and diagnostics; all of them */
+    MASM_TOO_LONG = 1,     /* 0, 0, 0: over MASM_MAX_SOURCE bytes; nothing */
+    MASM_NOT_UTF8 = 2,     /* offset, 0, 0: where the longest well-formed start ends; nothing */
+    MASM_TOKEN_SHORT = 3,  /* T, 0, 0: more tokens than fit; the first that fit */
+    MASM_UNWANTED = 4,     /* offset, 0, 0: of the first `use` or `extern`; all tokens */
+    MASM_OUTPUT_SHORT = 5, /* T, E, D: more events or diagnostics than fit; all tokens, and the
+                              first events and diagnostics that fit */
+    MASM_COUNTS_SHORT = 6  /* nothing, counts too: it is shorter than MASM_COUNTS */
 };
 
 /* Kinds. 1 to 26 are nodes, 27 to 59 tokens; a token may also be of kind MASM_ERROR. */
@@ -100,7 +100,7 @@ enum masm_kind {
     MASM_STAR = 59
 };
 
-/* An event is the kind of the node that it opens, or the kind of the next token, or one of these. */
+/* An event is the kind of the node that it opens, the kind of the next token, or one of these. */
 #define MASM_CLOSE 0u        /* closes the node opened last */
 #define MASM_ERROR_TOKEN 60u /* the next token, of kind MASM_ERROR */
 

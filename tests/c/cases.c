@@ -94,7 +94,8 @@ const struct test_case CASES[] = {
         .messages = LIST(22), .starts = LIST(0), .ends = LIST(4) } },
     { "not UTF-8", TEXT("ab\xFF"), { .status = MASM_NOT_UTF8, .offset = 2 } },
     { "a character cut short", TEXT("\xE2\x82"), { .status = MASM_NOT_UTF8, .offset = 0 } },
-    { "a surrogate behind use", TEXT("use \xED\xA0\x80"), { .status = MASM_NOT_UTF8, .offset = 4 } },
+    { "a surrogate behind use", TEXT("use \xED\xA0\x80"),
+      { .status = MASM_NOT_UTF8, .offset = 4 } },
 };
 
 const size_t CASE_COUNT = sizeof CASES / sizeof CASES[0];

@@ -1,5 +1,5 @@
-/* Reads what `fold FILE --open` printed and writes the source that it shows, byte for byte: a LF
-   for each numbered row that follows. A source without LF at its end is the only one that differs. */
+/* Reads what `fold FILE --open` printed and writes the source that it shows, byte for byte. A LF
+   is written behind the last row, be there one in the source or not. */
 #include <stdbool.h>
 #include <stdio.h>
 #include <stdlib.h>
