@@ -16,6 +16,13 @@ static struct rooms ample(size_t n)
                              diagnostics, MASM_COUNTS } };
 }
 
+static bool accepted(const struct call *call)
+{
+    const size_t *room = call->rooms.length;
+    return call->status == MASM_ACCEPTED && count_of(call, 0) <= room[TOKEN_KINDS]
+        && count_of(call, 1) <= room[EVENTS] && count_of(call, 2) <= room[MESSAGES];
+}
+
 /* The least rooms that demand 3 allows. */
 static struct rooms sums(const struct call *a, const struct call *b)
 {
@@ -59,9 +66,8 @@ bool joins(enum lending how, const char *a, const char *b)
     strncat(text, b, 100);
     struct call first = call_on(how, a, ample(strlen(a)));
     struct call second = call_on(how, b, ample(strlen(b)));
-    bool accepted = first.status == MASM_ACCEPTED && second.status == MASM_ACCEPTED;
     bool result = false;
-    if (accepted) {
+    if (accepted(&first) && accepted(&second)) {
         struct call whole = call_on(how, text, sums(&first, &second));
         result = joined(&whole, &first, &second);
         end_call(&whole);
