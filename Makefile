@@ -1,5 +1,5 @@
 # The front door. Each target is one command; `make test` is the gate.
-.PHONY: check test differ large growth speed store samples
+.PHONY: check test differ large calls growth speed store samples
 
 # Prove every crate and run the programs.
 check:
@@ -20,6 +20,12 @@ large:
 	rt check tokens readings
 	cd tests && cargo run --offline --release --bin differ lexer --program ../target/bin/tokens --large $(N)
 	cd tests && cargo run --offline --release --bin differ readings --program ../target/bin/readings --large $(N)
+
+# The exported call over the corpus, and from C. Needs gcc and valgrind.
+calls:
+	rt staticlib cst
+	cd tests && cargo run --offline --release --bin differ calls
+	tests/c/run
 
 # Instructions on sources of n and 2n bytes, 32 families (docs/PERFORMANCE.md). Needs valgrind.
 growth:

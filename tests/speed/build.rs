@@ -1,25 +1,20 @@
-//! Links the archives of the proved lexer and of the proved reader where they are.
+//! Links the archive of the proved lexer where there is one.
 //!
-//! `MASM_LEX_ARCHIVE` and `MASM_CST_ARCHIVE` are their paths (a relative path starts at the
-//! repository root).
+//! `MASM_LEX_ARCHIVE` is its path (a relative path starts at the repository root).
 
 use std::{env, path::PathBuf};
 
-fn main() {
-    link("MASM_LEX_ARCHIVE", "target/staticlib/libmasm_lex.a", "masm_lex");
-    link("MASM_CST_ARCHIVE", "target/staticlib/libcst.a", "masm_cst");
-}
+const DEFAULT_ARCHIVE: &str = "target/staticlib/libmasm_lex.a";
 
-/// Links the archive that the variable names, and sets the condition, if there is one.
-fn link(variable: &str, default: &str, condition: &str) {
-    println!("cargo::rerun-if-env-changed={variable}");
-    println!("cargo::rustc-check-cfg=cfg({condition})");
+fn main() {
+    println!("cargo::rerun-if-env-changed=MASM_LEX_ARCHIVE");
+    println!("cargo::rustc-check-cfg=cfg(masm_lex)");
     let root = PathBuf::from(env::var("CARGO_MANIFEST_DIR").unwrap()).join("../..");
-    let named = env::var(variable).unwrap_or_else(|_| default.to_string());
+    let named = env::var("MASM_LEX_ARCHIVE").unwrap_or_else(|_| DEFAULT_ARCHIVE.to_string());
     let archive = root.join(named);
     println!("cargo::rerun-if-changed={}", archive.display());
     if let Ok(archive) = archive.canonicalize() {
-        println!("cargo::rustc-cfg={condition}");
+        println!("cargo::rustc-cfg=masm_lex");
         println!("cargo::rustc-link-arg={}", archive.display());
     }
 }

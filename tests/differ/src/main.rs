@@ -1,19 +1,23 @@
-//! Runs a program over the corpus and compares its answers with the reference.
+//! Runs a program, or the exported call, over the corpus and compares its answers with the reference.
 
+mod calls;
 mod lexer;
 mod part;
 mod readings;
 mod run;
 mod store;
+mod zones;
 
 use std::{env, path::Path, process::ExitCode, time::Duration};
 
-use corpus::{Family, Size, cases};
+use corpus::{Family, Size, cases, pairs};
 use part::Part;
-use readings::Limits;
+use readings::{Limits, check_joins};
+use reference::joined;
 
 const USAGE: &str = "usage: differ PART --program PATH [OPTIONS]
        differ PART --store DIR N
+       differ calls [OPTIONS]
 parts: lexer, readings
 options: --large N, --every N, --family NAME, --patience SECONDS
          and for readings the greatest lengths of slices: --tokens N, --events N, --diagnostics N";
@@ -35,6 +39,7 @@ fn main() -> ExitCode {
     let answer = match words.as_slice() {
         [name, "--store", folder, count] => store(name, folder, count),
         [name, "--program", program, rest @ ..] => compare(name, program, rest),
+        ["calls", rest @ ..] => compare_calls(rest),
         _ => None,
     };
     answer.unwrap_or_else(|| {
@@ -62,13 +67,40 @@ fn store(name: &str, folder: &str, count: &str) -> Option<ExitCode> {
 fn compare(name: &str, program: &str, options: &[&str]) -> Option<ExitCode> {
     let Options { size, every, family, patience, limits } = read_options(options)?;
     let part = part(name, limits)?;
-    let chosen = |other: &&Family| family.is_none_or(|family| family == **other);
-    let families: Vec<Family> = part.families.iter().filter(chosen).copied().collect();
-    let joins = !families.contains(&Family::Pairs) || readings::check_joins(size, every);
+    let families = chosen(part.families, family);
+    let joins = !families.contains(&Family::Pairs)
+        || check_joins("reference", pairs(size).step_by(every), joined::obeyed);
     let cases = cases(&families, size).step_by(every);
     let outcome = run::run(&part, Path::new(program), patience, cases);
     outcome.print(part.name);
-    Some(if joins && outcome.agrees() { ExitCode::SUCCESS } else { ExitCode::FAILURE })
+    Some(exit_code(joins && outcome.agrees()))
+}
+
+/// Nothing if the words are not understood.
+fn compare_calls(options: &[&str]) -> Option<ExitCode> {
+    let Options { size, every, family, .. } = read_options(options)?;
+    if !exported::LINKED {
+        println!("{}", exported::MISSING);
+        return Some(ExitCode::FAILURE);
+    }
+    let accepted = |source: &[u8], rooms| calls::accepted(exported::parse_text, source, rooms);
+    let obeyed = |first: &[u8], second: &[u8]| joined::obeyed_by(accepted, first, second);
+    let families = chosen(&Family::ALL, family);
+    let joins = !families.contains(&Family::Pairs)
+        || check_joins("call", pairs(size).step_by(every), obeyed);
+    let outcome = calls::run(exported::parse_text, cases(&families, size).step_by(every));
+    outcome.print("calls");
+    Some(exit_code(joins && outcome.agrees()))
+}
+
+/// The family asked for, or all.
+fn chosen(families: &[Family], family: Option<Family>) -> Vec<Family> {
+    let asked = |other: &&Family| family.is_none_or(|family| family == **other);
+    families.iter().filter(asked).copied().collect()
+}
+
+fn exit_code(agrees: bool) -> ExitCode {
+    if agrees { ExitCode::SUCCESS } else { ExitCode::FAILURE }
 }
 
 fn read_options(words: &[&str]) -> Option<Options> {

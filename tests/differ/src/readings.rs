@@ -1,7 +1,7 @@
 //! The whole reader: tokens, events, diagnostics and the refusals.
 
-use corpus::{Case, Family, Size, pairs, rooms::Needs};
-use reference::{Rooms, joined, reading};
+use corpus::{Case, Family, pairs::Pair, rooms::Needs};
+use reference::{Rooms, Slices, reading};
 
 use crate::part::{Exchange, Part, frame, push_line};
 
@@ -48,31 +48,44 @@ fn exchange(case: &Case, limits: Limits) -> Exchange {
     let reading = reading(&case.source);
     let rooms = limits.cut(case.plan.rooms(Needs::of(&reading)));
     let answer = reading.answer(rooms);
-    let slices = answer.slices;
     let mut expected = Vec::new();
-    push_line(&mut expected, [answer.status].into_iter().chain(answer.counts));
-    push_line(&mut expected, slices.token_kinds);
-    push_line(&mut expected, slices.token_ends);
-    push_line(&mut expected, slices.events);
-    push_line(&mut expected, slices.messages);
-    push_line(&mut expected, slices.starts);
-    push_line(&mut expected, slices.ends);
+    push_slices(&mut expected, [answer.status].iter().chain(&answer.counts), &answer.slices);
     let Rooms { token_kinds, token_ends, events, messages, starts, ends, .. } = rooms;
     let lengths = [token_kinds, token_ends, events, messages, starts, ends];
     Exchange { frame: frame(&case.source, &lengths), expected }
 }
 
-/// Whether the reference's readings of the joined pairs are as demand 3 says. Prints the counts.
-pub fn check_joins(size: Size, every: usize) -> bool {
+/// A line with the numbers returned, then one for each slice but the counts.
+pub fn push_slices<'a>(
+    text: &mut Vec<u8>,
+    numbers: impl Iterator<Item = &'a u64>,
+    slices: &Slices,
+) {
+    push_line(text, numbers.copied());
+    push_line(text, slices.token_kinds.iter().copied());
+    push_line(text, slices.token_ends.iter().copied());
+    push_line(text, slices.events.iter().copied());
+    push_line(text, slices.messages.iter().copied());
+    push_line(text, slices.starts.iter().copied());
+    push_line(text, slices.ends.iter().copied());
+}
+
+/// Whether the joined pairs are read as demand 3 says; `obeyed` answers for the pairs inside its
+/// premise. Prints the counts.
+pub fn check_joins(
+    reader: &str,
+    pairs: impl Iterator<Item = Pair>,
+    obeyed: impl Fn(&[u8], &[u8]) -> Option<bool>,
+) -> bool {
     let (mut inside, mut failures) = (0, 0);
-    for (first, second) in pairs(size).step_by(every) {
-        let Some(obeyed) = joined::obeyed(&first, &second) else { continue };
+    for (first, second) in pairs {
+        let Some(obeyed) = obeyed(&first, &second) else { continue };
         inside += 1;
         if !obeyed {
             failures += 1;
             println!("joined otherwise: {} | {}", first.escape_ascii(), second.escape_ascii());
         }
     }
-    println!("demand 3 of the reference: {inside} pairs, {failures} failures");
+    println!("demand 3 of the {reader}: {inside} pairs, {failures} failures");
     failures == 0
 }

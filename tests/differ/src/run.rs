@@ -26,8 +26,9 @@ const BUFFER: usize = 65_536;
 
 /// What a run found.
 pub struct Outcome {
+    begun: Instant,
     counts: BTreeMap<Family, usize>,
-    mismatches: usize,
+    pub mismatches: usize,
     /// What is wrong besides single answers.
     troubles: Vec<String>,
     took: Duration,
@@ -40,6 +41,25 @@ struct Pending {
 }
 
 impl Outcome {
+    pub fn begun() -> Self {
+        Self {
+            begun: Instant::now(),
+            counts: BTreeMap::new(),
+            mismatches: 0,
+            troubles: Vec::new(),
+            took: Duration::ZERO,
+        }
+    }
+
+    /// One more case of a family.
+    pub fn count(&mut self, family: Family) {
+        *self.counts.entry(family).or_default() += 1;
+    }
+
+    pub fn ended(self) -> Self {
+        Self { took: self.begun.elapsed(), ..self }
+    }
+
     pub fn agrees(&self) -> bool {
         self.mismatches == 0 && self.troubles.is_empty()
     }
@@ -66,18 +86,12 @@ pub fn run(
     patience: Duration,
     cases: impl Iterator<Item = Case> + Send,
 ) -> Outcome {
-    let begun = Instant::now();
+    let mut outcome = Outcome::begun();
     let mut child = start(program);
     let (stdin, stdout) = (child.stdin.take().unwrap(), child.stdout.take().unwrap());
     // Not bounded: the pipe holds the feeder back, and a bound could stop it before an answer.
     let (pending, to_compare) = channel();
     let (answers, to_read) = sync_channel(AHEAD);
-    let mut outcome = Outcome {
-        counts: BTreeMap::new(),
-        mismatches: 0,
-        troubles: Vec::new(),
-        took: begun.elapsed(),
-    };
 
     thread::scope(|scope| {
         scope.spawn(|| feed(part, stdin, cases, pending));
@@ -93,8 +107,7 @@ pub fn run(
     if outcome.troubles.is_empty() && !status.success() {
         outcome.troubles.push(format!("the program ended with {status}"));
     }
-    outcome.took = begun.elapsed();
-    outcome
+    outcome.ended()
 }
 
 /// The shell lifts the limit on the stack; then the program takes its place.
@@ -155,7 +168,7 @@ fn compare(
     let mut count = 0;
     for Pending { case, expected } in pending {
         let answer = next(count).inspect_err(|_| outcome.mismatches += 1)?;
-        *outcome.counts.entry(case.family).or_default() += 1;
+        outcome.count(case.family);
         if answer != expected {
             outcome.mismatches += 1;
             if outcome.mismatches <= SHOWN {
@@ -174,7 +187,8 @@ fn compare(
     }
 }
 
-fn show(case: &Case, expected: &[u8], answer: &[u8]) {
+/// A case, and its two answers around the first place where they differ.
+pub fn show(case: &Case, expected: &[u8], answer: &[u8]) {
     let same = expected.iter().zip(answer).take_while(|(a, b)| a == b).count();
     println!("mismatch in {} ({} bytes)", case.family.name(), case.source.len());
     println!("  source   {}", shortened(&case.source, 0));

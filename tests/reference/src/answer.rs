@@ -70,6 +70,20 @@ impl Rooms {
         }
     }
 
+    /// Every room is what a reading fills.
+    pub fn exact(parsed: &Parsed) -> Self {
+        let (tokens, diagnostics) = (parsed.tokens.len(), parsed.diagnostics.len());
+        Self {
+            counts: 3,
+            token_kinds: tokens,
+            token_ends: tokens,
+            events: parsed.events.len(),
+            messages: diagnostics,
+            starts: diagnostics,
+            ends: diagnostics,
+        }
+    }
+
     pub fn tokens(&self) -> usize {
         self.token_kinds.min(self.token_ends)
     }

@@ -1,19 +1,33 @@
 //! Demand 3: which files may be joined, and what the reading of the join is then.
 
 use crate::{
-    answer::{self, MAX_SOURCE},
+    answer::{self, MAX_SOURCE, Rooms},
     parsed::{Diagnostic, Parsed, Token, parsed, unwanted},
     syntax::SyntaxKind,
 };
 
-/// Whether the reading of the join is as demand 3 says; nothing where its premise does not hold.
+/// Whether the upstream parser's reading of the join is as demand 3 says; nothing where its
+/// premise does not hold.
 pub fn obeyed(first: &[u8], second: &[u8]) -> Option<bool> {
-    let (a, b) = (accepted(first)?, accepted(second)?);
+    obeyed_by(|source, _| accepted(source), first, second)
+}
+
+/// The same of any reader, which is given a source and rooms and answers if it accepts. The join
+/// is read with the least rooms that demand 3 allows.
+pub fn obeyed_by(
+    read: impl Fn(&[u8], Rooms) -> Option<Parsed>,
+    first: &[u8],
+    second: &[u8],
+) -> Option<bool> {
+    let [a, b] = [first, second].map(|source| read(source, Rooms::ample(source.len())));
+    let (a, b) = (a?, b?);
     let whole = [first, second].concat();
     if whole.len() > MAX_SOURCE || !may_end(first, &a) || !may_follow(&b) {
         return None;
     }
-    Some(accepted(&whole).is_some_and(|found| found == joined(a, b, first.len() as u32)))
+    let expected = joined(a, b, first.len() as u32);
+    let found = read(&whole, Rooms::exact(&expected));
+    Some(found.is_some_and(|found| found == expected))
 }
 
 /// The reading of an accepted source.

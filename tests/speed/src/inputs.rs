@@ -28,7 +28,6 @@ pub fn for_lexers() -> impl Iterator<Item = Input> {
 }
 
 /// On some shapes the upstream parser's time is quadratic, so they are not longer.
-#[cfg(masm_cst)]
 pub fn for_readers() -> impl Iterator<Item = Input> {
     let sized = |shape: &shapes::Shape| Input { name: shape.name, bytes: shape.sized(64 * KIB) };
     scripts().chain(shapes::SHAPES.iter().map(sized))

@@ -3,7 +3,6 @@
 
 mod inputs;
 mod lexers;
-#[cfg(masm_cst)]
 mod readers;
 mod table;
 mod timing;
@@ -12,8 +11,9 @@ fn main() {
     println!("times in microseconds: least and median");
     lexers::run();
     println!();
-    #[cfg(masm_cst)]
-    readers::run();
-    #[cfg(not(masm_cst))]
-    println!("no archive with masm_parse_text: the reader is left out (see tests/README.md)");
+    if exported::LINKED {
+        readers::run();
+    } else {
+        println!("{}: the reader is left out", exported::MISSING);
+    }
 }

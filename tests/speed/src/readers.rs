@@ -40,46 +40,5 @@ fn upstream(source: &[u8], _: &mut Slices) -> u64 {
 }
 
 fn proved(source: &[u8], slices: &mut Slices) -> u64 {
-    unsafe extern "C" {
-        fn masm_parse_text(
-            source: *const u8,
-            source_len: usize,
-            token_kinds: *mut u16,
-            token_kinds_len: usize,
-            token_ends: *mut u32,
-            token_ends_len: usize,
-            events: *mut u16,
-            events_len: usize,
-            messages: *mut u16,
-            messages_len: usize,
-            starts: *mut u32,
-            starts_len: usize,
-            ends: *mut u32,
-            ends_len: usize,
-            counts: *mut u64,
-            counts_len: usize,
-        ) -> u64;
-    }
-    let Slices { counts, token_kinds, token_ends, events, messages, starts, ends } = slices;
-    // SAFETY: the pointers and lengths are those of eight slices that do not overlap.
-    unsafe {
-        masm_parse_text(
-            source.as_ptr(),
-            source.len(),
-            token_kinds.as_mut_ptr(),
-            token_kinds.len(),
-            token_ends.as_mut_ptr(),
-            token_ends.len(),
-            events.as_mut_ptr(),
-            events.len(),
-            messages.as_mut_ptr(),
-            messages.len(),
-            starts.as_mut_ptr(),
-            starts.len(),
-            ends.as_mut_ptr(),
-            ends.len(),
-            counts.as_mut_ptr(),
-            counts.len(),
-        )
-    }
+    exported::parse_text(source, slices.into())
 }
