@@ -52,6 +52,12 @@ pub fn sizes() -> impl Iterator<Item = Vec<u8>> {
     plain.chain(full.into_iter().map(|(start, piece)| filled(start, piece, MAX_SOURCE)))
 }
 
+/// Around the 2,048 bytes that program `tree` reads: spaces, and more diagnostics than it has room for.
+pub fn tree_sizes() -> impl Iterator<Item = Vec<u8>> {
+    let around = 2_047..=2_049;
+    around.flat_map(|size| [" ", "@$", "proc a"].map(|piece| filled("", piece, size)))
+}
+
 /// `start`, then `piece` as often as it fits, then dots up to the size.
 fn filled(start: &str, piece: &str, size: usize) -> Vec<u8> {
     let mut bytes = start.as_bytes().to_vec();

@@ -156,7 +156,12 @@ fn sources(family: Family, size: Size) -> Sources {
         },
         Family::Scripts => Box::new(sampled(1_000, any_script).chain(sampled(2, full_script))),
         Family::Damaged => sampled(30_000, damaged_script),
-        Family::Edges => Box::new(edges::depths().chain(edges::endings()).chain(edges::sizes())),
+        Family::Edges => Box::new(
+            edges::depths()
+                .chain(edges::endings())
+                .chain(edges::tree_sizes())
+                .chain(edges::sizes()),
+        ),
         Family::Rooms => sampled(15_000, any_source),
         Family::Publics => Box::new(publics::all(longer)),
         Family::Nested => Box::new(nested::all()),

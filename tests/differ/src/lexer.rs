@@ -6,7 +6,7 @@ use reference::{Rooms, Slices, answer};
 use crate::part::{Exchange, Part, frame, push_line};
 
 pub fn part() -> Part {
-    Part { name: "lexer", families: Family::LEXER, lines: 3, exchange: Box::new(exchange) }
+    Part { name: "lexer", families: Family::LEXER, exchange: Box::new(exchange) }
 }
 
 /// Frame: source length, kinds length, ends length, source. Answer: status and value, kinds, ends.

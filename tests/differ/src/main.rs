@@ -6,6 +6,7 @@ mod part;
 mod readings;
 mod run;
 mod store;
+mod trees;
 mod zones;
 
 use std::{env, path::Path, process::ExitCode, time::Duration};
@@ -18,7 +19,7 @@ use reference::joined;
 const USAGE: &str = "usage: differ PART --program PATH [OPTIONS]
        differ PART --store DIR N
        differ calls [OPTIONS]
-parts: lexer, readings
+parts: lexer, readings, trees
 options: --large N, --every N, --family NAME, --patience SECONDS
          and for readings the greatest lengths of slices: --tokens N, --events N, --diagnostics N";
 
@@ -52,6 +53,7 @@ fn part(name: &str, limits: Limits) -> Option<Part> {
     match name {
         "lexer" => Some(lexer::part()),
         "readings" => Some(readings::part(limits)),
+        "trees" => Some(trees::part()),
         _ => None,
     }
 }

@@ -7,8 +7,6 @@ use corpus::{Case, Family};
 pub struct Part {
     pub name: &'static str,
     pub families: &'static [Family],
-    /// How many lines an answer has.
-    pub lines: usize,
     pub exchange: Box<dyn Fn(&Case) -> Exchange + Sync>,
 }
 

@@ -37,7 +37,6 @@ pub fn part(limits: Limits) -> Part {
     Part {
         name: "readings",
         families: &Family::ALL,
-        lines: 7,
         exchange: Box::new(move |case| exchange(case, limits)),
     }
 }

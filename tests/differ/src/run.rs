@@ -91,11 +91,12 @@ pub fn run(
     let (stdin, stdout) = (child.stdin.take().unwrap(), child.stdout.take().unwrap());
     // Not bounded: the pipe holds the feeder back, and a bound could stop it before an answer.
     let (pending, to_compare) = channel();
+    let (lines, expected_lines) = channel();
     let (answers, to_read) = sync_channel(AHEAD);
 
     thread::scope(|scope| {
-        scope.spawn(|| feed(part, stdin, cases, pending));
-        scope.spawn(|| read(part.lines, stdout, answers));
+        scope.spawn(|| feed(part, stdin, cases, pending, lines));
+        scope.spawn(|| read(expected_lines, stdout, answers));
         if let Err(trouble) = compare(&to_compare, &to_read, patience, &mut outcome) {
             outcome.troubles.push(trouble);
             // Ends both threads, whichever pipe they wait for.
@@ -127,10 +128,15 @@ fn feed(
     stdin: impl Write,
     cases: impl Iterator<Item = Case>,
     pending: Sender<Pending>,
+    lines: Sender<usize>,
 ) {
     let mut stdin = BufWriter::with_capacity(BUFFER, stdin);
     for case in cases {
         let exchange = (part.exchange)(&case);
+        let count = exchange.expected.iter().filter(|&&byte| byte == b'\n').count();
+        if lines.send(count).is_err() {
+            return;
+        }
         let sent = pending.send(Pending { case, expected: exchange.expected });
         if sent.is_err() || stdin.write_all(&exchange.frame).is_err() {
             return;
@@ -140,12 +146,12 @@ fn feed(
     let _ = stdin.flush();
 }
 
-/// Sends on each answer; the last one may lack lines, and is empty at the proper end.
-fn read(lines: usize, stdout: impl Read, answers: SyncSender<Vec<u8>>) {
+/// Sends on each answer, of as many lines as are expected, then what is left: nothing at the proper end.
+fn read(lines: Receiver<usize>, stdout: impl Read, answers: SyncSender<Vec<u8>>) {
     let mut stdout = BufReader::with_capacity(BUFFER, stdout);
-    loop {
+    for count in lines {
         let mut answer = Vec::new();
-        for _ in 0..lines {
+        for _ in 0..count {
             stdout.read_until(b'\n', &mut answer).expect("the pipe is read");
         }
         let ended = answer.is_empty();
@@ -153,6 +159,9 @@ fn read(lines: usize, stdout: impl Read, answers: SyncSender<Vec<u8>>) {
             return;
         }
     }
+    let mut rest = Vec::new();
+    stdout.read_until(b'\n', &mut rest).expect("the pipe is read");
+    let _ = answers.send(rest);
 }
 
 fn compare(

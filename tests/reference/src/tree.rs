@@ -7,7 +7,7 @@ use crate::{answer, parsed};
 const MAX_INPUT: usize = 2_048;
 const EVENT_ROOM: usize = 14_338;
 
-/// What `tree` prints for this input. After a line `no` nothing follows.
+/// What `tree` prints for this input. After `ok` and `no 5` the events and diagnostics in the slices follow.
 pub fn tree(source: &[u8]) -> Vec<u8> {
     if source.len() > MAX_INPUT {
         return b"long\n".to_vec();
@@ -22,16 +22,18 @@ pub fn tree(source: &[u8]) -> Vec<u8> {
         ends: MAX_INPUT,
     };
     let answer::Answer { status, counts: [a, b, c], .. } = answer::answer(source, rooms);
-    if status != 0 {
-        return format!("no {status} {a} {b} {c}\n").into_bytes();
+    let mut out = match status {
+        0 => format!("ok {a} {b} {c}\n"),
+        _ => format!("no {status} {a} {b} {c}\n"),
     }
-
-    let text = str::from_utf8(source).expect("an accepted source is UTF-8");
-    let parsed = parsed::parsed(text);
-    let mut out = format!("ok {a} {b} {c}\n").into_bytes();
-    print_events(&mut out, &parsed);
-    for diagnostic in &parsed.diagnostics {
-        print_diagnostic(&mut out, text, diagnostic);
+    .into_bytes();
+    if status == 0 || status == 5 {
+        let text = str::from_utf8(source).expect("a source with a tree is UTF-8");
+        let parsed = parsed::parsed(text);
+        print_events(&mut out, &parsed);
+        for diagnostic in parsed.diagnostics.iter().take(MAX_INPUT) {
+            print_diagnostic(&mut out, text, diagnostic);
+        }
     }
     out
 }
@@ -39,7 +41,7 @@ pub fn tree(source: &[u8]) -> Vec<u8> {
 fn print_events(out: &mut Vec<u8>, parsed: &parsed::Parsed) {
     let mut tokens = parsed.tokens.iter();
     let mut start = 0;
-    for &event in &parsed.events {
+    for &event in parsed.events.iter().take(EVENT_ROOM) {
         match event {
             0 => writeln!(out, "-"),
             1..=26 => writeln!(out, "+ {event}"),
