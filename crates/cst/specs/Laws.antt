@@ -19,7 +19,7 @@ use Rattle.marks.specs.Laws.{source-unmarked}
 use Rattle.places.specs.Places.{Placed}
 use Rattle.places.specs.Laws.{messages-of-places}
 use Rattle.places.specs.Writes.{indices, Written, placed-written}
-use Rattle.cst.specs.Answer.{events-of}
+use Rattle.answer.specs.Answer.{events-of}
 use Rattle.cst.specs.Parts.{Grown}
 
 -- the parser's writes are the lexer's

@@ -1,11 +1,3 @@
--- The whole reading of a source: what is answered and what is left in the slices.
-pub mod Answer
-pub mod Numbers
-pub mod Call
+-- The steps of a reading, for the proofs of its functions.
 pub mod Parts
 pub mod Laws
-pub mod Given
-pub mod Accepts
-pub mod JoinedTokens
-pub mod JoinedCalls
-pub mod Facts

@@ -6,8 +6,8 @@ use lib.ListN.{length}
 use Rattle.lexer.specs.Over.{over}
 use Rattle.lexer.specs.Tokens.{token-kinds}
 use Rattle.cst.specs.declared.grow.Counts.{Counts}
-use Rattle.cst.specs.declared.answer.Answer.{Answer}
-use Rattle.cst.specs.Answer.{Outcome, events-of, places-of}
+use Rattle.answer.specs.declared.Answer.{Answer}
+use Rattle.answer.specs.Answer.{Outcome, events-of, places-of}
 
 -- `grow`: all events and diagnostics, each slice as far as it goes
 pub record Grown (source ev dm ds de : List ℕ) (r : Counts) (kinds′ ev′ dm′ ds′ de′ : List ℕ) : Type 0 where

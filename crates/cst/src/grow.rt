@@ -1,5 +1,5 @@
 // From the tokens to events and diagnostics.
-use crate::answer::Answer;
+use answer::Answer;
 use lexer::least;
 use marks::Refusal;
 ghost use mathlib.Core.Path.{_≡_};
@@ -12,8 +12,8 @@ ghost use Rattle.lexer.specs.Lexer.{tokenize};
 ghost use Rattle.lexer.specs.Tokens.{token-kinds, token-ends};
 ghost use Rattle.grammar.specs.Source.{symbols};
 ghost use Rattle.marks.specs.Marks.{first-refused};
-ghost use Rattle.cst.specs.declared.answer.Answer.the-variants.{OutputRoom, Accepted};
-ghost use Rattle.cst.specs.Answer.{slices, grown, kept};
+ghost use Rattle.answer.specs.declared.Answer.the-variants.{OutputRoom, Accepted};
+ghost use Rattle.answer.specs.Answer.{slices, grown, kept};
 ghost use Rattle.cst.specs.Parts.{Grown, Left};
 
 pub struct Counts {

@@ -1,17 +1,15 @@
 // The reading of a source into lent slices: UTF-8, lexer, words, grammar, places.
+use answer::Answer;
 use answer::numbers;
 use utf8::Utf8;
 ghost use mathlib.Core.Path.{_≡_};
 ghost use Prim.Native.Nat.{_≤_};
 ghost use lib.ListN.{length};
 ghost use Rattle.utf8.specs.WellFormed.{WellFormed};
-ghost use Rattle.cst.specs.Answer.{slices, outcome, lexed, parse-text};
-ghost use Rattle.cst.specs.Call.{Called};
+ghost use Rattle.answer.specs.Answer.{slices, outcome, lexed, parse-text};
+ghost use Rattle.answer.specs.Call.{Called};
 
-pub mod answer;
 mod grow;
-
-pub use answer::Answer;
 
 // The most bytes that a source may have.
 const LIMIT: usize = 1048576;

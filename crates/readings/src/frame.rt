@@ -1,5 +1,5 @@
 // The frames of the input: seven little-endian numbers (bytes of the source, entries of the six slices), then the source.
-use crate::answer;
+use crate::reading;
 use frames::header::number;
 use frames::output;
 use libc::STDIN_FILENO;
@@ -32,7 +32,7 @@ fn body(
     if got < source.len() {
         return Step { used, more: false };
     }
-    let used = answer::answer(
+    let used = reading::reading(
         source,
         kinds,
         ends,

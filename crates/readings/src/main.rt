@@ -1,6 +1,6 @@
 // Reads framed sources from standard input, and writes the answer of `cst::parse_text` and what it leaves in its slices.
-mod answer;
 mod frame;
+mod reading;
 
 fn main() {
     let mut source = [0u8; 1048577];

@@ -1,6 +1,6 @@
 // The text of program `tree`, as document 01 has it.
-use cst::answer::Row;
-use cst::answer::numbers;
+use answer::Row;
+use answer::numbers;
 use frames::output;
 use lexer::least;
 ghost use Rattle.frames.specs.Ready.{Ready};

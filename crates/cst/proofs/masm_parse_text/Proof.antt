@@ -5,11 +5,11 @@ use mathlib.Core.List.{List, [], _∷_}
 use native.Mathlib.Omega.{arith}
 use borrow.Author.Tests.{lt-ltb, le-ltb}
 use lib.ListN.{length, set, drop, length-set}
-use Rattle.cst.specs.declared.answer.Answer.{Answer}
-use Rattle.cst.specs.declared.answer.Row.{Row}
-use Rattle.cst.specs.Numbers.{numbers}
-use Rattle.cst.specs.Answer.{Slices, outcome, parse-text}
-use Rattle.cst.specs.Call.{call, Called}
+use Rattle.answer.specs.declared.Answer.{Answer}
+use Rattle.answer.specs.declared.Row.{Row}
+use Rattle.answer.specs.Numbers.{numbers}
+use Rattle.answer.specs.Answer.{Slices, outcome, parse-text}
+use Rattle.answer.specs.Call.{call, Called}
 use borrow.Author.Needs.{needs}
 use Rattle.cst.proofs.masm_parse_text.Statement.{statement}
 use Rattle.cst.proofs.masm_parse_text.Tie as tie

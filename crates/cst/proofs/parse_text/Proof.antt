@@ -7,8 +7,8 @@ use lib.ListN.{length}
 use Rattle.utf8.specs.declared.Utf8.the-variants.{Valid, At}
 use Rattle.utf8.specs.Validate.{validate}
 use Rattle.utf8.specs.Laws.{accepted}
-use Rattle.cst.specs.declared.answer.Answer.the-variants.{TooLong, NotUtf8}
-use Rattle.cst.specs.Answer.{Slices, Outcome, outcome, lexed, checked, parse-text}
+use Rattle.answer.specs.declared.Answer.the-variants.{TooLong, NotUtf8}
+use Rattle.answer.specs.Answer.{Slices, Outcome, outcome, lexed, checked, parse-text}
 use borrow.Author.Needs.{needs}
 use Rattle.cst.proofs.parse_text.Statement.{statement}
 use Rattle.cst.proofs.parse_text.Tie as tie

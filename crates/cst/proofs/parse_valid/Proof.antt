@@ -13,9 +13,9 @@ use Rattle.lexer.specs.Laws.{length-ends}
 use Rattle.marks.specs.declared.Refusal.{Refusal}
 use Rattle.marks.specs.declared.Refusal.the-variants.{Nothing, At}
 use Rattle.marks.specs.Marks.{first-refused}
-use Rattle.cst.specs.declared.answer.Answer.{Answer}
-use Rattle.cst.specs.declared.answer.Answer.the-variants.{TokenRoom}
-use Rattle.cst.specs.Answer.{slices, outcome, grown, kept, lexed}
+use Rattle.answer.specs.declared.Answer.{Answer}
+use Rattle.answer.specs.declared.Answer.the-variants.{TokenRoom}
+use Rattle.answer.specs.Answer.{slices, outcome, grown, kept, lexed}
 use Rattle.cst.specs.Parts.{Left}
 use borrow.Author.Needs.{needs}
 use Rattle.cst.proofs.parse_valid.Statement.{statement}

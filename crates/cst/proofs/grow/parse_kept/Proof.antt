@@ -11,9 +11,9 @@ use Rattle.lexer.specs.Lexer.{tokenize}
 use Rattle.lexer.specs.Over.{length-over, over-fit, given-back}
 use Rattle.grammar.specs.Source.{sym as symOf, symbols}
 use Rattle.cst.specs.declared.grow.Counts.{Counts}
-use Rattle.cst.specs.declared.answer.Answer.{Answer}
-use Rattle.cst.specs.declared.answer.Answer.the-variants.{OutputRoom, Accepted}
-use Rattle.cst.specs.Answer.{slices, diagnostic-room, grown, events-of}
+use Rattle.answer.specs.declared.Answer.{Answer}
+use Rattle.answer.specs.declared.Answer.the-variants.{OutputRoom, Accepted}
+use Rattle.answer.specs.Answer.{slices, diagnostic-room, grown, events-of}
 use Rattle.cst.specs.Parts.{Grown, Left}
 use borrow.Author.Needs.{needs}
 use Rattle.cst.proofs.grow.parse_kept.Statement.{statement}

@@ -8,9 +8,9 @@ use Rattle.grammar.specs.Source.{symbols}
 use Rattle.marks.specs.declared.Refusal.{Refusal}
 use Rattle.marks.specs.declared.Refusal.the-variants.{Nothing, At}
 use Rattle.marks.specs.Marks.{first-refused, marked, Marked}
-use Rattle.cst.specs.declared.answer.Answer.{Answer}
-use Rattle.cst.specs.declared.answer.Answer.the-variants.{Refused}
-use Rattle.cst.specs.Answer.{slices, grown, kept}
+use Rattle.answer.specs.declared.Answer.{Answer}
+use Rattle.answer.specs.declared.Answer.the-variants.{Refused}
+use Rattle.answer.specs.Answer.{slices, grown, kept}
 use Rattle.cst.specs.Parts.{Left}
 use borrow.Author.Needs.{needs}
 use Rattle.cst.proofs.grow.parse_tokens.Statement.{statement}

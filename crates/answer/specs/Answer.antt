@@ -17,8 +17,8 @@ use Rattle.items.specs.Entry.{limit}
 use Rattle.marks.specs.declared.Refusal.{Refusal}
 use Rattle.marks.specs.declared.Refusal.the-variants as refusal
 use Rattle.marks.specs.Marks.{first-refused}
-use Rattle.cst.specs.declared.answer.Answer.{Answer}
-use Rattle.cst.specs.declared.answer.Answer.the-variants.{TooLong, NotUtf8, TokenRoom, Refused, OutputRoom, Accepted}
+use Rattle.answer.specs.declared.Answer.{Answer}
+use Rattle.answer.specs.declared.Answer.the-variants.{TooLong, NotUtf8, TokenRoom, Refused, OutputRoom, Accepted}
 
 -- The six slices: kinds and ends of tokens, events, and messages, starts and stops of diagnostics.
 pub record Slices : Type 0 where

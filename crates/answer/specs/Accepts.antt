@@ -18,13 +18,13 @@ use Rattle.lexer.specs.Laws.{length-ends}
 use Rattle.marks.specs.declared.Refusal.{Refusal}
 use Rattle.marks.specs.declared.Refusal.the-variants as refusal
 use Rattle.marks.specs.Marks.{first-refused}
-use Rattle.cst.specs.declared.answer.Answer.{Answer}
-use Rattle.cst.specs.declared.answer.Answer.the-variants.{OutputRoom}
-use Rattle.cst.specs.declared.answer.Answer.the-variants as answer
-use Rattle.cst.specs.Answer.{Slices, token-room, diagnostic-room, events-of, places-of, with-all, grown, kept, lexed, checked, parse-text}
-use Rattle.cst.specs.Numbers.{numbers}
-use Rattle.cst.specs.Call.{Reply, reply, call, Called}
-use Rattle.cst.specs.Given.{T, E, D, Given, given}
+use Rattle.answer.specs.declared.Answer.{Answer}
+use Rattle.answer.specs.declared.Answer.the-variants.{OutputRoom}
+use Rattle.answer.specs.declared.Answer.the-variants as answer
+use Rattle.answer.specs.Answer.{Slices, token-room, diagnostic-room, events-of, places-of, with-all, grown, kept, lexed, checked, parse-text}
+use Rattle.answer.specs.Numbers.{numbers}
+use Rattle.answer.specs.Call.{Reply, reply, call, Called}
+use Rattle.answer.specs.Given.{T, E, D, Given, given}
 
 -- No row above the last holds.
 pub record Accepted (source : List ℕ) (s : Slices) (counts : List ℕ) : Type 0 where

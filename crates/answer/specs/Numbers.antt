@@ -1,8 +1,8 @@
 -- Document 01's four numbers of an answer. Assumes nothing: these are definitions.
 use Prim.Native.Nat.{ℕ}
-use Rattle.cst.specs.declared.answer.Answer.{Answer}
-use Rattle.cst.specs.declared.answer.Answer.the-variants.{TooLong, NotUtf8, TokenRoom, Refused, OutputRoom, Accepted}
-use Rattle.cst.specs.declared.answer.Row.{Row}
+use Rattle.answer.specs.declared.Answer.{Answer}
+use Rattle.answer.specs.declared.Answer.the-variants.{TooLong, NotUtf8, TokenRoom, Refused, OutputRoom, Accepted}
+use Rattle.answer.specs.declared.Row.{Row}
 
 abbrev pub row : ℕ → ℕ → ℕ → ℕ → Row
 row status first second third = record { status = status; first = first; second = second; third = third }

@@ -26,11 +26,11 @@ use Rattle.grammar.specs.Theorems.FewEvents.{few-events}
 use Rattle.grammar.specs.Theorems.FewDiagnostics.{few-diagnostics}
 use Rattle.items.specs.Entry.{limit}
 use Rattle.marks.specs.Laws.{Kept, all-kept, source-unmarked}
-use Rattle.cst.specs.Answer.{Slices, token-room, diagnostic-room, events-of, places-of}
-use Rattle.cst.specs.Call.{Called}
-use Rattle.cst.specs.Given.{T, E, D, Given, given, cut}
-use Rattle.cst.specs.Accepts.{reading, gives, accepting}
-use Rattle.cst.specs.JoinedTokens.{cut-source}
+use Rattle.answer.specs.Answer.{Slices, token-room, diagnostic-room, events-of, places-of}
+use Rattle.answer.specs.Call.{Called}
+use Rattle.answer.specs.Given.{T, E, D, Given, given, cut}
+use Rattle.answer.specs.Accepts.{reading, gives, accepting}
+use Rattle.answer.specs.JoinedTokens.{cut-source}
 
 -- The events of tokens.
 abbrev pub leaf-events : List ℕ → List ℕ

@@ -1,5 +1,5 @@
 // One source: its slices filled, the reading, and what is left in the slices.
-use cst::Answer;
+use answer::Answer;
 use frames::fill::fill_u16;
 use frames::fill::fill_u32;
 use frames::output;
@@ -75,7 +75,7 @@ fn fill(
 }
 
 // The seven lines of an answer.
-pub fn answer(
+pub fn reading(
     source: &[u8],
     kinds: &mut [u16],
     ends: &mut [u32],

@@ -1,6 +1,6 @@
 // The answer of a reading, and its four numbers.
 ghost use mathlib.Core.Path.{_≡_};
-ghost use Rattle.cst.specs.Numbers.{row, numbers as numbersOf};
+ghost use Rattle.answer.specs.Numbers.{row, numbers as numbersOf};
 
 // The rows of document 01's table with their values.
 pub enum Answer {

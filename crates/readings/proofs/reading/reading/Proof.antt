@@ -1,8 +1,8 @@
--- `readings::answer::answer` keeps the buffer ready. Assumes nothing.
+-- `readings::reading::reading` keeps the buffer ready. Assumes nothing.
 use native.Mathlib.Omega.{arith}
 use borrow.Author.Needs.{needs}
-use Rattle.readings.proofs.answer.answer.Statement.{statement}
-use Rattle.readings.proofs.answer.answer.Tie as tie
+use Rattle.readings.proofs.reading.reading.Statement.{statement}
+use Rattle.readings.proofs.reading.reading.Tie as tie
 
 fill-requires : tie.Need-fill-requires
 fill-requires c κs = search needs
@@ -63,8 +63,8 @@ same-length-7 c = search needs
 returns : tie.Need-returns
 returns c = search needs
 
-pub answer-spec : {M : Type 1} → statement M
-answer-spec =
+pub reading-spec : {M : Type 1} → statement M
+reading-spec =
     tie.close
     (tie.spec
     fill-requires

@@ -12,7 +12,7 @@ use Rattle.lexer.specs.Laws.{last}
 use Rattle.grammar.specs.Words.{is}
 use Rattle.grammar.specs.Look.{at, next-relevant-block-token}
 use Rattle.grammar.specs.Joins.{shutBy}
-use Rattle.cst.specs.Answer.{Slices, token-room, diagnostic-room}
+use Rattle.answer.specs.Answer.{Slices, token-room, diagnostic-room}
 
 -- The counts of tokens, events and diagnostics, as the call leaves them.
 abbrev pub T : List ℕ → ℕ

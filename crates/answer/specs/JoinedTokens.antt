@@ -20,7 +20,7 @@ use Rattle.grammar.specs.Source
 use Rattle.grammar.specs.Joins.{Tail, here, there}
 use Rattle.grammar.specs.Laws.Here.{and-l, and-r}
 use Rattle.marks.specs.Code.{equal}
-use Rattle.cst.specs.Given.{cut, end-text, is-end, end-and-newline}
+use Rattle.answer.specs.Given.{cut, end-text, is-end, end-and-newline}
 
 -- kinds, ends and bytes make the tokens again
 cut-tokens : (n : ℕ) (ts : List Token) → cut n (map kindOf ts) (ends n ts) (bytes ts) ≡ ts

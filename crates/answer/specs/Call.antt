@@ -6,9 +6,9 @@ use mathlib.Core.Bool.{cond}
 use mathlib.Core.List.{List, _∷_}
 use lib.Dec.{ltb}
 use lib.ListN.{length, drop}
-use Rattle.cst.specs.declared.answer.Row.{Row}
-use Rattle.cst.specs.Numbers.{numbers}
-use Rattle.cst.specs.Answer.{Slices, Outcome, parse-text}
+use Rattle.answer.specs.declared.Row.{Row}
+use Rattle.answer.specs.Numbers.{numbers}
+use Rattle.answer.specs.Answer.{Slices, Outcome, parse-text}
 
 -- The number returned, and what stands in the slices and in `counts`.
 pub record Reply : Type 0 where

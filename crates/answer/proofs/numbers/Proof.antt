@@ -1,9 +1,9 @@
--- `cst::answer::numbers` meets its contract, by the answer. Assumes nothing.
+-- `answer::numbers` meets its contract, by the answer. Assumes nothing.
 use mathlib.Core.Path.{sym, ap, _∙_}
-use Rattle.cst.specs.Numbers.{numbers}
+use Rattle.answer.specs.Numbers.{numbers}
 use borrow.Author.Needs.{needs}
-use Rattle.cst.proofs.answer.numbers.Statement.{statement}
-use Rattle.cst.proofs.answer.numbers.Tie as tie
+use Rattle.answer.proofs.numbers.Statement.{statement}
+use Rattle.answer.proofs.numbers.Tie as tie
 
 enum-told : tie.Need-enum-told
 enum-told c = search needs

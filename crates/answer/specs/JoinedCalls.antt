@@ -24,11 +24,11 @@ use Rattle.grammar.specs.Theorems.Joined.{joined, joined-events}
 use Rattle.grammar.specs.Theorems.JoinedBytes.{joined-bytes}
 use Rattle.items.specs.Entry.{limit}
 use Rattle.marks.specs.Laws.{join-syms, join-kept}
-use Rattle.cst.specs.Answer.{Slices, events-of, places-of}
-use Rattle.cst.specs.Call.{Called}
-use Rattle.cst.specs.Given.{T, E, D, given, end-and-newline, Joins, Fits, Joined}
-use Rattle.cst.specs.Accepts.{Accepted, reading, gives, accepting}
-use Rattle.cst.specs.JoinedTokens.{cut-source, to-tail, to-newline, same-start}
+use Rattle.answer.specs.Answer.{Slices, events-of, places-of}
+use Rattle.answer.specs.Call.{Called}
+use Rattle.answer.specs.Given.{T, E, D, given, end-and-newline, Joins, Fits, Joined}
+use Rattle.answer.specs.Accepts.{Accepted, reading, gives, accepting}
+use Rattle.answer.specs.JoinedTokens.{cut-source, to-tail, to-newline, same-start}
 
 -- the readings of A, of B and of the join
 module _ (a b : List ℕ) (j : Joins a (reading a) (reading b)) where
