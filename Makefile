@@ -1,5 +1,12 @@
 # The front door. Each target is one command; `make test` is the gate.
-.PHONY: check test differ large calls growth speed store samples
+.PHONY: fold check test differ large calls growth speed store samples
+
+# Build everything and show a sample script folded; FILE is another one.
+FILE ?= examples/wallet.masm
+fold:
+	rt staticlib cst
+	$(CC) -std=c11 -O2 -Wall -Wextra -Iinclude examples/fold*.c target/staticlib/libcst.a -o target/fold
+	target/fold $(FILE)
 
 # Prove every crate and run the programs.
 check:
@@ -9,17 +16,19 @@ check:
 test:
 	bash .ci/run
 
-# The lexer and the readings against the compiled reference, and the same on N times the sampled cases.
+# The lexer, the readings and the text of tree against the compiled reference, and the same on N times the sampled cases.
 differ:
-	rt check tokens readings
+	rt check tokens readings replay
 	cd tests && cargo run --offline --release --bin differ lexer --program ../target/bin/tokens
 	cd tests && cargo run --offline --release --bin differ readings --program ../target/bin/readings
+	cd tests && cargo run --offline --release --bin differ trees --program ../target/bin/replay
 
 N ?= 10
 large:
-	rt check tokens readings
+	rt check tokens readings replay
 	cd tests && cargo run --offline --release --bin differ lexer --program ../target/bin/tokens --large $(N)
 	cd tests && cargo run --offline --release --bin differ readings --program ../target/bin/readings --large $(N)
+	cd tests && cargo run --offline --release --bin differ trees --program ../target/bin/replay --large $(N)
 
 # The exported call over the corpus, and from C. Needs gcc and valgrind.
 calls:
@@ -32,15 +41,17 @@ growth:
 	rt check readings
 	cd tests && cargo run --offline --release --bin growth -- --program ../target/bin/readings --markdown
 
-# Times of the proved lexer, a plain Rust lexer and the reference (docs/PERFORMANCE.md).
+# Times of the proved lexer and reader, a plain Rust lexer and the reference (docs/PERFORMANCE.md).
 speed:
 	rt staticlib masm_lex
+	rt staticlib cst
 	cd tests && cargo run --offline --release --bin speed
 
 # Writes the stored cases and answers that `rt ci` replays.
 store:
 	cd tests && cargo run --offline --release --bin differ lexer --store ../crates/tokens 400
 	cd tests && cargo run --offline --release --bin differ readings --store ../crates/readings 600
+	cd tests && cargo run --offline --release --bin differ trees --store ../crates/replay 500
 
 # Writes the reference's answers that the grammar's definitions are held to.
 samples:
