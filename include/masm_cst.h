@@ -14,7 +14,7 @@ extern "C" {
 #define MASM_MAX_OPEN 516u
 
 /* The stack that a call takes, in bytes: measured (tests/c/stack_test.c), not proved. */
-#define MASM_STACK 163840u
+#define MASM_STACK 81920u
 
 /* Lengths of slices that suffice for every source of n bytes. */
 #define MASM_TOKEN_ROOM(n) ((size_t)(n))

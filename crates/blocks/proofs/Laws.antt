@@ -266,7 +266,7 @@ ahead {F} {w} {w′} {control} r = go control refl
     go true e = (r .form e .paid .ahead, r .form e .paid .within)
     go false e = (r .over e .paid .ahead, r .over e .paid .within)
 
--- what parse_block's loop holds: rounds up to where it began are rounds up to where it is, and the slices keep their lengths
+-- what block_from's loop holds: rounds up to where it began are rounds up to where it is, and the slices keep their lengths
 pub record Going (F : File) (owner : BlockOwner) (terminators : Terminators) (depth : ℕ) (e₀ m₀ p₀ : List ℕ) (s₀ : Stopped) (e m p : List ℕ) (s : Stopped) : Type 0 where
   pub on : (w : World) → Rounded F owner terminators depth w (world e₀ m₀ p₀ (s₀ .c)) (s₀ .outcome) (s₀ .item) (s₀ .control) (s₀ .word)
       → Rounded F owner terminators depth w (world e m p (s .c)) (s .outcome) (s .item) (s .control) (s .word)

@@ -12,6 +12,7 @@ use crate::header::if_header;
 use crate::header::repeat_header;
 use crate::header::while_header;
 use crate::header::while_line;
+use crate::rounds::Place;
 use crate::rounds::first_rounds;
 use crate::rounds::next_rounds;
 use grammar::block::BlockOwner;
@@ -38,6 +39,12 @@ struct Half {
     item: bool,
 }
 
+// Where a block begins, and which it is: the arguments of `block_from`, which a frame then holds in one place.
+struct Start {
+    c: Cursor,
+    place: Place,
+}
+
 pub fn parse_block(
     kinds: &[u16],
     ev: &mut [u16],
@@ -51,7 +58,33 @@ pub fn parse_block(
     requires { ⌜ (Ready 8 (now kinds) c0) × (depth ≤ 256) ⌝ }
     ensures { λ r. ⌜ (RanTo 7 4 1 (now (kinds .entry)) (parse-block 256 owner terminators depth) (world (now (ev .entry)) (now (dm .entry)) (now (ds .entry)) c0) (world (now (ev .exit)) (now (dm .exit)) (now (ds .exit)) (r .c)) (r .outcome)) × ItemAt (now (kinds .entry)) (r .c .pos) (r .item) ⌝ }
 {
-    let mut s = first_rounds(kinds, ev, dm, ds, c0, owner, terminators, depth);
+    let place = Place {
+        depth: depth as u16,
+        owner: owner,
+        terminators: terminators,
+    };
+    let start = Start {
+        c: c0,
+        place: place,
+    };
+    block_from(kinds, ev, dm, ds, start)
+}
+
+// A block: parse_block calls this from outside the cycle, inner_block from inside.
+fn block_from(
+    kinds: &[u16],
+    ev: &mut [u16],
+    dm: &mut [u16],
+    ds: &mut [u32],
+    start: Start,
+) -> BlockEnd
+    requires { ⌜ (Ready 8 (now kinds) (start .c)) × (start .place .depth ≤ 256) ⌝ }
+    ensures { λ r. ⌜ (RanTo 7 4 1 (now (kinds .entry)) (parse-block 256 (start .place .owner) (start .place .terminators) (start .place .depth)) (world (now (ev .entry)) (now (dm .entry)) (now (ds .entry)) (start .c)) (world (now (ev .exit)) (now (dm .exit)) (now (ds .exit)) (r .c)) (r .outcome)) × ItemAt (now (kinds .entry)) (r .c .pos) (r .item) ⌝ }
+{
+    let c0 = start.c;
+    let place = start.place;
+    let depth = place.depth as usize;
+    let mut s = first_rounds(kinds, ev, dm, ds, c0, place);
     while s.control {
         let c = s.c;
         let f = parse_control_flow(kinds, ev, dm, ds, c, s.word, depth + 1);
@@ -59,7 +92,7 @@ pub fn parse_block(
         if f.eof {
             return ended_file(ev, fc);
         }
-        s = next_rounds(kinds, ev, dm, ds, fc, owner, terminators, depth, f.item);
+        s = next_rounds(kinds, ev, dm, ds, fc, place, f.item);
     }
     let c = s.c;
     let outcome = s.outcome;
@@ -109,7 +142,16 @@ fn inner_block(
     requires { ⌜ (Ready 8 (now kinds) c0) × (depth ≤ 256) ⌝ }
     ensures { λ r. ⌜ (RanTo 7 4 1 (now (kinds .entry)) (parse-block 256 owner terminators depth) (world (now (ev .entry)) (now (dm .entry)) (now (ds .entry)) c0) (world (now (ev .exit)) (now (dm .exit)) (now (ds .exit)) (r .c)) (r .outcome)) × ItemAt (now (kinds .entry)) (r .c .pos) (r .item) ⌝ }
 {
-    parse_block(kinds, ev, dm, ds, c0, owner, terminators, depth)
+    let place = Place {
+        depth: depth as u16,
+        owner: owner,
+        terminators: terminators,
+    };
+    let start = Start {
+        c: c0,
+        place: place,
+    };
+    block_from(kinds, ev, dm, ds, start)
 }
 
 // A form's last block, and the form's end.

@@ -17,6 +17,13 @@ ghost use Rattle.blocks.specs.Shapes.{ItemAt, FormHere, Rounded, Begun};
 // The limit on control-flow nodes in one another: MAX_CONTROL_FLOW_NESTING.
 const LIMIT: usize = 256;
 
+// Which block it is, and how many forms it stands in. One small struct, since each frame of the cycle has one.
+pub struct Place {
+    pub depth: u16,
+    pub owner: BlockOwner,
+    pub terminators: Terminators,
+}
+
 // Where the rounds stop: at a form, whose keyword is `word`, or behind the block's closing event.
 pub struct Stopped {
     pub c: Cursor,
@@ -67,14 +74,15 @@ fn rounds(
     dm: &mut [u16],
     ds: &mut [u32],
     c0: Cursor,
-    owner: BlockOwner,
-    terminators: Terminators,
-    depth: usize,
+    place: Place,
     item0: bool,
 ) -> Stopped
     requires { ⌜ (Ready 7 (now kinds) c0) × ItemAt (now kinds) (c0 .pos) item0 ⌝ }
-    ensures { λ r. ⌜ Rounded (now (kinds .entry)) owner terminators depth (world (now (ev .entry)) (now (dm .entry)) (now (ds .entry)) c0) (world (now (ev .exit)) (now (dm .exit)) (now (ds .exit)) (r .c)) (r .outcome) (r .item) (r .control) (r .word) ⌝ }
+    ensures { λ r. ⌜ Rounded (now (kinds .entry)) (place .owner) (place .terminators) (place .depth) (world (now (ev .entry)) (now (dm .entry)) (now (ds .entry)) c0) (world (now (ev .exit)) (now (dm .exit)) (now (ds .exit)) (r .c)) (r .outcome) (r .item) (r .control) (r .word) ⌝ }
 {
+    let owner = place.owner;
+    let terminators = place.terminators;
+    let depth = place.depth as usize;
     let mut c = c0;
     let mut item = item0;
     let mut known = Remembered {
@@ -117,15 +125,13 @@ pub fn first_rounds(
     dm: &mut [u16],
     ds: &mut [u32],
     c0: Cursor,
-    owner: BlockOwner,
-    terminators: Terminators,
-    depth: usize,
+    place: Place,
 ) -> Stopped
     requires { ⌜ Ready 8 (now kinds) c0 ⌝ }
-    ensures { λ r. ⌜ Begun (now (kinds .entry)) owner terminators depth (world (now (ev .entry)) (now (dm .entry)) (now (ds .entry)) c0) (world (now (ev .exit)) (now (dm .exit)) (now (ds .exit)) (r .c)) (r .outcome) (r .item) (r .control) (r .word) ⌝ }
+    ensures { λ r. ⌜ Begun (now (kinds .entry)) (place .owner) (place .terminators) (place .depth) (world (now (ev .entry)) (now (dm .entry)) (now (ds .entry)) c0) (world (now (ev .exit)) (now (dm .exit)) (now (ds .exit)) (r .c)) (r .outcome) (r .item) (r .control) (r .word) ⌝ }
 {
     let c = put(ev, c0, 18);
-    rounds(kinds, ev, dm, ds, c, owner, terminators, depth, false)
+    rounds(kinds, ev, dm, ds, c, place, false)
 }
 
 // The rounds behind a form.
@@ -135,13 +141,11 @@ pub fn next_rounds(
     dm: &mut [u16],
     ds: &mut [u32],
     c0: Cursor,
-    owner: BlockOwner,
-    terminators: Terminators,
-    depth: usize,
+    place: Place,
     item0: bool,
 ) -> Stopped
     requires { ⌜ (Ready 7 (now kinds) c0) × ItemAt (now kinds) (c0 .pos) item0 ⌝ }
-    ensures { λ r. ⌜ Rounded (now (kinds .entry)) owner terminators depth (world (now (ev .entry)) (now (dm .entry)) (now (ds .entry)) c0) (world (now (ev .exit)) (now (dm .exit)) (now (ds .exit)) (r .c)) (r .outcome) (r .item) (r .control) (r .word) ⌝ }
+    ensures { λ r. ⌜ Rounded (now (kinds .entry)) (place .owner) (place .terminators) (place .depth) (world (now (ev .entry)) (now (dm .entry)) (now (ds .entry)) c0) (world (now (ev .exit)) (now (dm .exit)) (now (ds .exit)) (r .c)) (r .outcome) (r .item) (r .control) (r .word) ⌝ }
 {
-    rounds(kinds, ev, dm, ds, c0, owner, terminators, depth, item0)
+    rounds(kinds, ev, dm, ds, c0, place, item0)
 }

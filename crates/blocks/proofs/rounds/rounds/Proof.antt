@@ -21,14 +21,17 @@ use Rattle.blocks.proofs.rounds.rounds.Statement.{statement}
 use Rattle.blocks.proofs.rounds.rounds.Tie as tie
 
 abbrev Inv-loop : tie.InvT-loop
-Inv-loop kinds ev₀ dm₀ ds₀ owner terminators depth item0 c₀ item₀ known₀ ev dm ds c item known = (Held 7 0 0 kinds (block-in 256 owner terminators depth) (world ev₀ dm₀ ds₀ c₀) (block-in 256 owner terminators depth) (world ev dm ds c)) × DocKnown kinds (c .pos) known × ItemAt kinds (c .pos) item
+Inv-loop kinds ev₀ dm₀ ds₀ item0 owner terminators depth c₀ item₀ known₀ ev dm ds c item known = (Held 7 0 0 kinds (block-in 256 owner terminators depth) (world ev₀ dm₀ ds₀ c₀) (block-in 256 owner terminators depth) (world ev dm ds c)) × DocKnown kinds (c .pos) known × ItemAt kinds (c .pos) item
 
 abbrev μ-loop : tie.MeasureT-loop
-μ-loop kinds ev₀ dm₀ ds₀ owner terminators depth item0 c₀ item₀ known₀ ev dm ds c item known = length kinds - c .pos
+μ-loop kinds ev₀ dm₀ ds₀ item0 owner terminators depth c₀ item₀ known₀ ev dm ds c item known = length kinds - c .pos
+
+cast-depth : tie.Need-cast-depth Inv-loop μ-loop
+cast-depth c = omega (arith, c .struct-known .given)
 
 loop-holds : tie.Need-loop-holds Inv-loop μ-loop
 loop-holds c =
-    let c₁ = c .before .before .before .before in
+    let c₁ = c .before .before .before .before .before in
     (record { paid = omega (arith, c₁ .pre); ev = refl; dm = refl; ds = refl; leads = begins }, remembers-none (omega arith), c₁ .pre .1)
 
 arm-here-requires : tie.Need-arm-here-requires Inv-loop μ-loop
@@ -40,7 +43,7 @@ enum-known-a c = search needs
 take-requires : tie.Need-take-requires Inv-loop μ-loop
 take-requires c κs =
     let c₁ = c .before .before .before .before .before .before .before .before in
-    let c₂ = c₁ .before .before .before .before .before in
+    let c₂ = c₁ .before .before .before .before .before .before in
     omega (arith, c₂ .pre, c₁ .loop .inv .0 .paid)
 
 loop-less : tie.Need-loop-less Inv-loop μ-loop
@@ -48,8 +51,8 @@ loop-less c =
     let c₁ = c .before .before .before .before .before .before in
     let c₂ = c₁ .before .before .before .before .before in
     let c₃ = c₂ .before .before .before in
-    let c₄ = c₃ .before .before .before .before .before .before in
-    let moved = past-here (c₁ .take .ensures .went) (takes _ _ (meant (c₄ .args .terminators) _ (Arm.Takes _) (c₃ .arm-here .ensures .0) (c₂ .a .given .1))) in
+    let c₄ = c₃ .before .before .before .before .before .before .before in
+    let moved = past-here (c₁ .take .ensures .went) (takes _ _ (meant (c₄ .args .place .terminators) _ (Arm.Takes _) (c₃ .arm-here .ensures .0) (c₂ .a .given .1))) in
     omega (arith, moved, c₁ .take .ensures .paid)
 
 loop-again : tie.Need-loop-again Inv-loop μ-loop
@@ -59,15 +62,15 @@ loop-again c =
     let c₂ = c₁ .before .before .before .before .before in
     let c₃ = c₂ .before .before .before in
     let c₄ = c₃ .before in
-    let c₅ = c₄ .before .before .before .before .before in
+    let c₅ = c₄ .before .before .before .before .before .before in
     let i = c₄ .loop .inv .0 in
-    let moved = past-here (c₁ .take .ensures .went) (takes _ _ (meant (c₅ .args .terminators) _ (Arm.Takes _) (c₃ .arm-here .ensures .0) (c₂ .a .given .1))) in (
+    let moved = past-here (c₁ .take .ensures .went) (takes _ _ (meant (c₅ .args .place .terminators) _ (Arm.Takes _) (c₃ .arm-here .ensures .0) (c₂ .a .given .1))) in (
       record {
         paid = omega (arith, c₅ .pre, c₄ .loop .inv .0 .paid, c₁ .take .ensures .paid, moved);
         ev = c₁ .take .kept .1 .0 ∙ i .ev;
         dm = c₁ .take .kept .1 .1 .0 ∙ i .dm;
         ds = c₁ .take .kept .1 .1 .1 .0 ∙ i .ds;
-        leads = goes-on (i .leads) (λ w′ r k. round (c₅ .args .owner) (c₅ .args .terminators) (c₅ .args .depth) (Arm.Takes _) (c₃ .arm-here .ensures .0) (c₂ .a .given .1) (c₁ .take .ensures .went then-to k));
+        leads = goes-on (i .leads) (λ w′ r k. round (c₅ .args .place .owner) (c₅ .args .place .terminators) (c₅ .args .place .depth) (Arm.Takes _) (c₃ .arm-here .ensures .0) (c₂ .a .given .1) (c₁ .take .ensures .went then-to k));
       },
       remembers-later _ (c₁ .take .ensures .paid .ahead) (c₃ .arm-here .ensures .1),
       no-item,
@@ -79,7 +82,7 @@ enum-known-a-2 c = search needs
 close-requires : tie.Need-close-requires Inv-loop μ-loop
 close-requires c κs =
     let c₁ = c .before .before .before .before .before .before .before .before in
-    let c₂ = c₁ .before .before .before .before .before in
+    let c₂ = c₁ .before .before .before .before .before .before in
     omega (arith, c₂ .pre, c₁ .loop .inv .0 .paid)
 
 same-length : tie.Need-same-length Inv-loop μ-loop
@@ -107,18 +110,18 @@ returns c =
     let c₂ = c₁ .before .before .before .before .before in
     let c₃ = c₂ .before .before .before in
     let c₄ = c₃ .before in
-    let c₅ = c₄ .before .before .before .before .before in
+    let c₅ = c₄ .before .before .before .before .before .before in
     let told = c₂ .a2 .given .1 in
     record {
       form = λ h. absurd (false≢true h);
       over = λ h. record {
         mid = _;
-        went = c₄ .loop .inv .0 .leads .on _ _ (round (c₅ .args .owner) (c₅ .args .terminators) (c₅ .args .depth) (Arm.Closes _) (c₃ .arm-here .ensures .0) told (c₁ .close .ensures .went (c₅ .args .kinds .now)));
+        went = c₄ .loop .inv .0 .leads .on _ _ (round (c₅ .args .place .owner) (c₅ .args .place .terminators) (c₅ .args .place .depth) (Arm.Closes _) (c₃ .arm-here .ensures .0) told (c₁ .close .ensures .went (c₅ .args .kinds .now)));
         wrote = c₁ .close .ensures .wrote (c₅ .args .kinds .now);
         paid = omega (arith, c₅ .pre, c₄ .loop .inv .0 .paid, c₁ .close .ensures);
         here = record {
           starts = λ i. ap (λ p. at-top-level-form-starter-in-block (drop p (c₅ .args .kinds .now))) (c₁ .close .ensures .pos)
-              ∙ meant (c₅ .args .terminators) _ (Arm.Closes Closing.Item) (c₃ .arm-here .ensures .0) (told ∙ ap Arm.Closes (c₁ .close .ensures .at-item i));
+              ∙ meant (c₅ .args .place .terminators) _ (Arm.Closes Closing.Item) (c₃ .arm-here .ensures .0) (told ∙ ap Arm.Closes (c₁ .close .ensures .at-item i));
         };
       };
     }
@@ -129,7 +132,7 @@ enum-told c = search needs
 form-here-requires : tie.Need-form-here-requires Inv-loop μ-loop
 form-here-requires c κs =
     let c₁ = c .before .before .before .before .before .before .before in
-    let c₂ = c₁ .before .before .before .before .before in
+    let c₂ = c₁ .before .before .before .before .before .before in
     omega (arith, c₂ .pre, c₁ .loop .inv .0 .paid)
 
 same-length-4 : tie.Need-same-length-4 Inv-loop μ-loop
@@ -156,9 +159,9 @@ returns-2 c =
     let c₂ = c₁ .before .before .before .before in
     let c₃ = c₂ .before .before .before in
     let c₄ = c₃ .before in
-    let c₅ = c₄ .before .before .before .before .before in
-    let here = c₁ .form-here .ensures .of (c₅ .args .owner) (c₅ .args .terminators) (sym (c₃ .arm-here .ensures .0) ∙ c₂ .enum-told .given .1) in
+    let c₅ = c₄ .before .before .before .before .before .before in
+    let here = c₁ .form-here .ensures .of (c₅ .args .place .owner) (c₅ .args .place .terminators) (sym (c₃ .arm-here .ensures .0) ∙ c₂ .enum-told .given .1) in
     from-here (c₄ .loop .inv .0 .leads) (c₄ .loop .inv .0 .paid) here
 
 pub rounds-spec : {M : Type 1} → statement M
-rounds-spec = tie.close (tie.spec Inv-loop μ-loop loop-holds arm-here-requires enum-known-a take-requires loop-less loop-again enum-known-a-2 close-requires same-length same-length-2 same-length-3 returns enum-told form-here-requires same-length-4 same-length-5 same-length-6 returns-2)
+rounds-spec = tie.close (tie.spec Inv-loop μ-loop cast-depth loop-holds arm-here-requires enum-known-a take-requires loop-less loop-again enum-known-a-2 close-requires same-length same-length-2 same-length-3 returns enum-told form-here-requires same-length-4 same-length-5 same-length-6 returns-2)

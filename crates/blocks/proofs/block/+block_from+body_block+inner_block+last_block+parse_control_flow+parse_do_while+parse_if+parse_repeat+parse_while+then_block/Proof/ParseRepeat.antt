@@ -5,9 +5,9 @@ use native.Mathlib.Omega.{arith}
 use Rattle.grammar.specs.declared.block.BlockOwner.{BlockOwner}
 use Rattle.parser.proofs.Kit.{node-to, bind-to}
 use Rattle.grammar.specs.Block.{ended, parse-repeat}
-use Rattle.blocks.proofs.block.+body_block+inner_block+last_block+parse_block+parse_control_flow+parse_do_while+parse_if+parse_repeat+parse_while+then_block.Lts-parse_repeat as lts
+use Rattle.blocks.proofs.block.+block_from+body_block+inner_block+last_block+parse_control_flow+parse_do_while+parse_if+parse_repeat+parse_while+then_block.Lts-parse_repeat as lts
 use Rattle.blocks.proofs.block.parse_repeat.Reads as parse-repeat
-use Rattle.blocks.proofs.block.+body_block+inner_block+last_block+parse_block+parse_control_flow+parse_do_while+parse_if+parse_repeat+parse_while+then_block.Proof.Common.{parse-repeat-calls, parse-repeat-at}
+use Rattle.blocks.proofs.block.+block_from+body_block+inner_block+last_block+parse_control_flow+parse_do_while+parse_if+parse_repeat+parse_while+then_block.Proof.Common.{parse-repeat-calls, parse-repeat-at}
 
 pub repeat-header-requires : (t : ℕ) → lts.Need-repeat-header-requires (parse-repeat-calls t) (parse-repeat-at t) parse-repeat.Post
 repeat-header-requires t c κs =

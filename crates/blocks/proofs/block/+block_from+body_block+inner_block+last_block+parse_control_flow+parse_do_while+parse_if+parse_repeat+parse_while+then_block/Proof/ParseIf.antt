@@ -7,9 +7,9 @@ use Rattle.blocks.specs.Shapes.{else-part}
 use Rattle.blocks.proofs.Laws.{no-else, with-else}
 use Rattle.parser.proofs.Kit.{node-to, bind-to}
 use Rattle.grammar.specs.Block.{parse-block, parse-if}
-use Rattle.blocks.proofs.block.+body_block+inner_block+last_block+parse_block+parse_control_flow+parse_do_while+parse_if+parse_repeat+parse_while+then_block.Lts-parse_if as lts
+use Rattle.blocks.proofs.block.+block_from+body_block+inner_block+last_block+parse_control_flow+parse_do_while+parse_if+parse_repeat+parse_while+then_block.Lts-parse_if as lts
 use Rattle.blocks.proofs.block.parse_if.Reads as parse-if
-use Rattle.blocks.proofs.block.+body_block+inner_block+last_block+parse_block+parse_control_flow+parse_do_while+parse_if+parse_repeat+parse_while+then_block.Proof.Common.{parse-if-calls, parse-if-at}
+use Rattle.blocks.proofs.block.+block_from+body_block+inner_block+last_block+parse_control_flow+parse_do_while+parse_if+parse_repeat+parse_while+then_block.Proof.Common.{parse-if-calls, parse-if-at}
 
 pub if-header-requires : (t : ℕ) → lts.Need-if-header-requires (parse-if-calls t) (parse-if-at t) parse-if.Post
 if-header-requires t c κs =

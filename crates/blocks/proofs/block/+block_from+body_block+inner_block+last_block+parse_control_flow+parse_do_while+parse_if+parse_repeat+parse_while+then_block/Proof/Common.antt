@@ -4,36 +4,36 @@ use lib.ListN.{length}
 use borrow.Fn.Kinds.{In}
 use borrow.Fn.PlainCycle.{Measures, is, falls, and}
 use Rattle.blocks.proofs.Laws.{Going}
+use Rattle.blocks.proofs.block.block_from.Reads as block-from
+use Rattle.blocks.proofs.block.block_from.Kinds as block-from-kinds
+use Rattle.blocks.proofs.block.+block_from+body_block+inner_block+last_block+parse_control_flow+parse_do_while+parse_if+parse_repeat+parse_while+then_block.Lts-block_from as block-from-lts
 use Rattle.blocks.proofs.block.body_block.Reads as body-block
 use Rattle.blocks.proofs.block.body_block.Kinds as body-block-kinds
-use Rattle.blocks.proofs.block.+body_block+inner_block+last_block+parse_block+parse_control_flow+parse_do_while+parse_if+parse_repeat+parse_while+then_block.Lts-body_block as body-block-lts
+use Rattle.blocks.proofs.block.+block_from+body_block+inner_block+last_block+parse_control_flow+parse_do_while+parse_if+parse_repeat+parse_while+then_block.Lts-body_block as body-block-lts
 use Rattle.blocks.proofs.block.inner_block.Reads as inner-block
 use Rattle.blocks.proofs.block.inner_block.Kinds as inner-block-kinds
-use Rattle.blocks.proofs.block.+body_block+inner_block+last_block+parse_block+parse_control_flow+parse_do_while+parse_if+parse_repeat+parse_while+then_block.Lts-inner_block as inner-block-lts
+use Rattle.blocks.proofs.block.+block_from+body_block+inner_block+last_block+parse_control_flow+parse_do_while+parse_if+parse_repeat+parse_while+then_block.Lts-inner_block as inner-block-lts
 use Rattle.blocks.proofs.block.last_block.Reads as last-block
 use Rattle.blocks.proofs.block.last_block.Kinds as last-block-kinds
-use Rattle.blocks.proofs.block.+body_block+inner_block+last_block+parse_block+parse_control_flow+parse_do_while+parse_if+parse_repeat+parse_while+then_block.Lts-last_block as last-block-lts
-use Rattle.blocks.proofs.block.parse_block.Reads as parse-block
-use Rattle.blocks.proofs.block.parse_block.Kinds as parse-block-kinds
-use Rattle.blocks.proofs.block.+body_block+inner_block+last_block+parse_block+parse_control_flow+parse_do_while+parse_if+parse_repeat+parse_while+then_block.Lts-parse_block as parse-block-lts
+use Rattle.blocks.proofs.block.+block_from+body_block+inner_block+last_block+parse_control_flow+parse_do_while+parse_if+parse_repeat+parse_while+then_block.Lts-last_block as last-block-lts
 use Rattle.blocks.proofs.block.parse_control_flow.Reads as parse-control-flow
 use Rattle.blocks.proofs.block.parse_control_flow.Kinds as parse-control-flow-kinds
-use Rattle.blocks.proofs.block.+body_block+inner_block+last_block+parse_block+parse_control_flow+parse_do_while+parse_if+parse_repeat+parse_while+then_block.Lts-parse_control_flow as parse-control-flow-lts
+use Rattle.blocks.proofs.block.+block_from+body_block+inner_block+last_block+parse_control_flow+parse_do_while+parse_if+parse_repeat+parse_while+then_block.Lts-parse_control_flow as parse-control-flow-lts
 use Rattle.blocks.proofs.block.parse_do_while.Reads as parse-do-while
 use Rattle.blocks.proofs.block.parse_do_while.Kinds as parse-do-while-kinds
-use Rattle.blocks.proofs.block.+body_block+inner_block+last_block+parse_block+parse_control_flow+parse_do_while+parse_if+parse_repeat+parse_while+then_block.Lts-parse_do_while as parse-do-while-lts
+use Rattle.blocks.proofs.block.+block_from+body_block+inner_block+last_block+parse_control_flow+parse_do_while+parse_if+parse_repeat+parse_while+then_block.Lts-parse_do_while as parse-do-while-lts
 use Rattle.blocks.proofs.block.parse_if.Reads as parse-if
 use Rattle.blocks.proofs.block.parse_if.Kinds as parse-if-kinds
-use Rattle.blocks.proofs.block.+body_block+inner_block+last_block+parse_block+parse_control_flow+parse_do_while+parse_if+parse_repeat+parse_while+then_block.Lts-parse_if as parse-if-lts
+use Rattle.blocks.proofs.block.+block_from+body_block+inner_block+last_block+parse_control_flow+parse_do_while+parse_if+parse_repeat+parse_while+then_block.Lts-parse_if as parse-if-lts
 use Rattle.blocks.proofs.block.parse_repeat.Reads as parse-repeat
 use Rattle.blocks.proofs.block.parse_repeat.Kinds as parse-repeat-kinds
-use Rattle.blocks.proofs.block.+body_block+inner_block+last_block+parse_block+parse_control_flow+parse_do_while+parse_if+parse_repeat+parse_while+then_block.Lts-parse_repeat as parse-repeat-lts
+use Rattle.blocks.proofs.block.+block_from+body_block+inner_block+last_block+parse_control_flow+parse_do_while+parse_if+parse_repeat+parse_while+then_block.Lts-parse_repeat as parse-repeat-lts
 use Rattle.blocks.proofs.block.parse_while.Reads as parse-while
 use Rattle.blocks.proofs.block.parse_while.Kinds as parse-while-kinds
-use Rattle.blocks.proofs.block.+body_block+inner_block+last_block+parse_block+parse_control_flow+parse_do_while+parse_if+parse_repeat+parse_while+then_block.Lts-parse_while as parse-while-lts
+use Rattle.blocks.proofs.block.+block_from+body_block+inner_block+last_block+parse_control_flow+parse_do_while+parse_if+parse_repeat+parse_while+then_block.Lts-parse_while as parse-while-lts
 use Rattle.blocks.proofs.block.then_block.Reads as then-block
 use Rattle.blocks.proofs.block.then_block.Kinds as then-block-kinds
-use Rattle.blocks.proofs.block.+body_block+inner_block+last_block+parse_block+parse_control_flow+parse_do_while+parse_if+parse_repeat+parse_while+then_block.Lts-then_block as then-block-lts
+use Rattle.blocks.proofs.block.+block_from+body_block+inner_block+last_block+parse_control_flow+parse_do_while+parse_if+parse_repeat+parse_while+then_block.Lts-then_block as then-block-lts
 use Rattle.blocks.proofs.close.ended_file.Reads as ended-file-reads
 use Rattle.blocks.proofs.close.finish.Reads as finish-reads
 use Rattle.blocks.proofs.close.found_terminator.Reads as found-terminator-reads
@@ -47,6 +47,9 @@ use Rattle.blocks.proofs.header.while_line.Reads as while-line-reads
 use Rattle.blocks.proofs.rounds.first_rounds.Reads as first-rounds-reads
 use Rattle.blocks.proofs.rounds.next_rounds.Reads as next-rounds-reads
 
+abbrev pub μ-block-from : Measures 4 block-from-kinds.ps ℕ
+μ-block-from κs a = 5 * (length (a .0 .now) - a .1 .1 .1 .1 .0 .c .pos) + 2
+
 abbrev pub μ-body-block : Measures 4 body-block-kinds.ps ℕ
 μ-body-block κs a = 5 * (length (a .0 .now) - a .1 .1 .1 .1 .0 .pos) + 4
 
@@ -55,9 +58,6 @@ abbrev pub μ-inner-block : Measures 4 inner-block-kinds.ps ℕ
 
 abbrev pub μ-last-block : Measures 4 last-block-kinds.ps ℕ
 μ-last-block κs a = 5 * (length (a .0 .now) - a .1 .1 .1 .1 .0 .pos) + 4
-
-abbrev pub μ-parse-block : Measures 4 parse-block-kinds.ps ℕ
-μ-parse-block κs a = 5 * (length (a .0 .now) - a .1 .1 .1 .1 .0 .pos) + 2
 
 abbrev pub μ-parse-control-flow : Measures 4 parse-control-flow-kinds.ps ℕ
 μ-parse-control-flow κs a = 5 * (length (a .0 .now) - a .1 .1 .1 .1 .0 .pos) + 1
@@ -77,6 +77,12 @@ abbrev pub μ-parse-while : Measures 4 parse-while-kinds.ps ℕ
 abbrev pub μ-then-block : Measures 4 then-block-kinds.ps ℕ
 μ-then-block κs a = 5 * (length (a .0 .now) - a .1 .1 .1 .1 .0 .pos) + 4
 
+abbrev pub block-from-at : ℕ → In 4 block-from-kinds.ps
+block-from-at t = and 4 block-from-kinds.ps (is 4 block-from-kinds.ps μ-block-from t) block-from.Pre
+
+abbrev pub block-from-below : ℕ → In 4 block-from-kinds.ps
+block-from-below t = and 4 block-from-kinds.ps (falls 4 block-from-kinds.ps _<_ μ-block-from t) block-from.Pre
+
 abbrev pub body-block-at : ℕ → In 4 body-block-kinds.ps
 body-block-at t = and 4 body-block-kinds.ps (is 4 body-block-kinds.ps μ-body-block t) body-block.Pre
 
@@ -94,12 +100,6 @@ last-block-at t = and 4 last-block-kinds.ps (is 4 last-block-kinds.ps μ-last-bl
 
 abbrev pub last-block-below : ℕ → In 4 last-block-kinds.ps
 last-block-below t = and 4 last-block-kinds.ps (falls 4 last-block-kinds.ps _<_ μ-last-block t) last-block.Pre
-
-abbrev pub parse-block-at : ℕ → In 4 parse-block-kinds.ps
-parse-block-at t = and 4 parse-block-kinds.ps (is 4 parse-block-kinds.ps μ-parse-block t) parse-block.Pre
-
-abbrev pub parse-block-below : ℕ → In 4 parse-block-kinds.ps
-parse-block-below t = and 4 parse-block-kinds.ps (falls 4 parse-block-kinds.ps _<_ μ-parse-block t) parse-block.Pre
 
 abbrev pub parse-control-flow-at : ℕ → In 4 parse-control-flow-kinds.ps
 parse-control-flow-at t = and 4 parse-control-flow-kinds.ps (is 4 parse-control-flow-kinds.ps μ-parse-control-flow t) parse-control-flow.Pre
@@ -137,6 +137,19 @@ then-block-at t = and 4 then-block-kinds.ps (is 4 then-block-kinds.ps μ-then-bl
 abbrev pub then-block-below : ℕ → In 4 then-block-kinds.ps
 then-block-below t = and 4 then-block-kinds.ps (falls 4 then-block-kinds.ps _<_ μ-then-block t) then-block.Pre
 
+-- what is asked and learnt at the calls of `block_from`
+abbrev pub block-from-calls : ℕ → block-from-lts.Claims
+block-from-calls t = (
+  first-rounds-reads.Asked,
+  first-rounds-reads.Learnt,
+  parse-control-flow-below t,
+  parse-control-flow.Post,
+  ended-file-reads.Asked,
+  ended-file-reads.Learnt,
+  next-rounds-reads.Asked,
+  next-rounds-reads.Learnt,
+)
+
 -- what is asked and learnt at the calls of `body_block`
 abbrev pub body-block-calls : ℕ → body-block-lts.Claims
 body-block-calls t = (
@@ -153,8 +166,8 @@ body-block-calls t = (
 -- what is asked and learnt at the calls of `inner_block`
 abbrev pub inner-block-calls : ℕ → inner-block-lts.Claims
 inner-block-calls t = (
-  parse-block-below t,
-  parse-block.Post,
+  block-from-below t,
+  block-from.Post,
 )
 
 -- what is asked and learnt at the calls of `last_block`
@@ -164,19 +177,6 @@ last-block-calls t = (
   inner-block.Post,
   finish-reads.Asked,
   finish-reads.Learnt,
-)
-
--- what is asked and learnt at the calls of `parse_block`
-abbrev pub parse-block-calls : ℕ → parse-block-lts.Claims
-parse-block-calls t = (
-  first-rounds-reads.Asked,
-  first-rounds-reads.Learnt,
-  parse-control-flow-below t,
-  parse-control-flow.Post,
-  ended-file-reads.Asked,
-  ended-file-reads.Learnt,
-  next-rounds-reads.Asked,
-  next-rounds-reads.Learnt,
 )
 
 -- what is asked and learnt at the calls of `parse_control_flow`
@@ -245,8 +245,8 @@ then-block-calls t = (
   finish-reads.Learnt,
 )
 
-abbrev pub parse-block-Inv-loop : parse-block-lts.InvT-loop
-parse-block-Inv-loop kinds ev₀ dm₀ ds₀ owner terminators depth s₀ ev dm ds s = Going kinds owner terminators depth ev₀ dm₀ ds₀ s₀ ev dm ds s
+abbrev pub block-from-Inv-loop : block-from-lts.InvT-loop
+block-from-Inv-loop kinds ev₀ dm₀ ds₀ place depth s₀ ev dm ds s = Going kinds (place .owner) (place .terminators) (place .depth) ev₀ dm₀ ds₀ s₀ ev dm ds s
 
-abbrev pub parse-block-μ-loop : parse-block-lts.MeasureT-loop
-parse-block-μ-loop kinds ev₀ dm₀ ds₀ owner terminators depth s₀ ev dm ds s = length kinds - s .c .pos
+abbrev pub block-from-μ-loop : block-from-lts.MeasureT-loop
+block-from-μ-loop kinds ev₀ dm₀ ds₀ place depth s₀ ev dm ds s = length kinds - s .c .pos

@@ -7,9 +7,9 @@ use Rattle.blocks.proofs.Laws.{repeat-here}
 use Rattle.parser.proofs.Kit.{yes-to, no-to}
 use Rattle.grammar.specs.Block.{parse-control-flow}
 use Rattle.parser.proofs.Ahead.{at-here, at-not}
-use Rattle.blocks.proofs.block.+body_block+inner_block+last_block+parse_block+parse_control_flow+parse_do_while+parse_if+parse_repeat+parse_while+then_block.Lts-parse_control_flow as lts
+use Rattle.blocks.proofs.block.+block_from+body_block+inner_block+last_block+parse_control_flow+parse_do_while+parse_if+parse_repeat+parse_while+then_block.Lts-parse_control_flow as lts
 use Rattle.blocks.proofs.block.parse_control_flow.Reads as parse-control-flow
-use Rattle.blocks.proofs.block.+body_block+inner_block+last_block+parse_block+parse_control_flow+parse_do_while+parse_if+parse_repeat+parse_while+then_block.Proof.Common.{parse-control-flow-calls, parse-control-flow-at}
+use Rattle.blocks.proofs.block.+block_from+body_block+inner_block+last_block+parse_control_flow+parse_do_while+parse_if+parse_repeat+parse_while+then_block.Proof.Common.{parse-control-flow-calls, parse-control-flow-at}
 
 pub parse-if-requires : (t : ℕ) → lts.Need-parse-if-requires (parse-control-flow-calls t) (parse-control-flow-at t) parse-control-flow.Post
 parse-if-requires t c κs =

@@ -1,31 +1,36 @@
--- `blocks::block::inner_block`: what parse_block says. Assumes nothing.
+-- `blocks::block::inner_block`: what block_from says. Assumes nothing.
 use Prim.Native.Nat.{ℕ}
 use native.Mathlib.Omega.{arith}
-use Rattle.blocks.proofs.block.+body_block+inner_block+last_block+parse_block+parse_control_flow+parse_do_while+parse_if+parse_repeat+parse_while+then_block.Lts-inner_block as lts
+use Rattle.blocks.proofs.block.+block_from+body_block+inner_block+last_block+parse_control_flow+parse_do_while+parse_if+parse_repeat+parse_while+then_block.Lts-inner_block as lts
 use Rattle.blocks.proofs.block.inner_block.Reads as inner-block
-use Rattle.blocks.proofs.block.+body_block+inner_block+last_block+parse_block+parse_control_flow+parse_do_while+parse_if+parse_repeat+parse_while+then_block.Proof.Common.{inner-block-calls, inner-block-at}
+use Rattle.blocks.proofs.block.+block_from+body_block+inner_block+last_block+parse_control_flow+parse_do_while+parse_if+parse_repeat+parse_while+then_block.Proof.Common.{inner-block-calls, inner-block-at}
 
-pub parse-block-requires : (t : ℕ) → lts.Need-parse-block-requires (inner-block-calls t) (inner-block-at t) inner-block.Post
-parse-block-requires t c κs =
+pub cast-t11 : (t : ℕ) → lts.Need-cast-t11 (inner-block-calls t) (inner-block-at t) inner-block.Post
+cast-t11 t c =
+    let c₁ = c .before .before .before .before in
+    omega (arith, c₁ .pre)
+
+pub block-from-requires : (t : ℕ) → lts.Need-block-from-requires (inner-block-calls t) (inner-block-at t) inner-block.Post
+block-from-requires t c κs =
     let c₁ = c .before .before .before .before .before .before .before in
     omega (arith, c₁ .pre)
 
 pub same-length : (t : ℕ) → lts.Need-same-length (inner-block-calls t) (inner-block-at t) inner-block.Post
 same-length t c =
     let c₁ = c .before .before .before .before .before .before in
-    c₁ .parse-block .kept .1 .0
+    c₁ .block-from .kept .1 .0
 
 pub same-length-2 : (t : ℕ) → lts.Need-same-length-2 (inner-block-calls t) (inner-block-at t) inner-block.Post
 same-length-2 t c =
     let c₁ = c .before .before .before .before .before .before in
-    c₁ .parse-block .kept .1 .1 .0
+    c₁ .block-from .kept .1 .1 .0
 
 pub same-length-3 : (t : ℕ) → lts.Need-same-length-3 (inner-block-calls t) (inner-block-at t) inner-block.Post
 same-length-3 t c =
     let c₁ = c .before .before .before .before .before .before in
-    c₁ .parse-block .kept .1 .1 .1 .0
+    c₁ .block-from .kept .1 .1 .1 .0
 
 pub returns : (t : ℕ) → lts.Need-returns (inner-block-calls t) (inner-block-at t) inner-block.Post
 returns t c =
     let c₁ = c .before .before .before .before .before .before in
-    c₁ .parse-block .ensures
+    c₁ .block-from .ensures

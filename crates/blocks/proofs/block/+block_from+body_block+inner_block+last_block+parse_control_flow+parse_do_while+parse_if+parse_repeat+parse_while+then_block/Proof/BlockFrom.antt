@@ -1,4 +1,4 @@
--- `blocks::block::parse_block`: its loop, form by form. Assumes nothing.
+-- `blocks::block::block_from`: its loop, form by form. Assumes nothing.
 use Prim.Native.Nat.{ℕ}
 use mathlib.Core.Path.{refl, sym, _∙_}
 use native.Mathlib.Omega.{arith}
@@ -8,66 +8,71 @@ use Rattle.blocks.specs.Arms.{by-arm}
 use Rattle.blocks.proofs.Laws.{meant, deeper, round, said-no-item, gives, from-form, ahead}
 use Rattle.parser.proofs.Kit.{on-to, off-to, node-to, bind-to}
 use Rattle.grammar.specs.Block.{parse-block}
-use Rattle.blocks.proofs.block.+body_block+inner_block+last_block+parse_block+parse_control_flow+parse_do_while+parse_if+parse_repeat+parse_while+then_block.Lts-parse_block as lts
-use Rattle.blocks.proofs.block.parse_block.Reads as parse-block
-use Rattle.blocks.proofs.block.+body_block+inner_block+last_block+parse_block+parse_control_flow+parse_do_while+parse_if+parse_repeat+parse_while+then_block.Proof.Common.{parse-block-calls, parse-block-at, parse-block-Inv-loop, parse-block-μ-loop}
+use Rattle.blocks.proofs.block.+block_from+body_block+inner_block+last_block+parse_control_flow+parse_do_while+parse_if+parse_repeat+parse_while+then_block.Lts-block_from as lts
+use Rattle.blocks.proofs.block.block_from.Reads as block-from
+use Rattle.blocks.proofs.block.+block_from+body_block+inner_block+last_block+parse_control_flow+parse_do_while+parse_if+parse_repeat+parse_while+then_block.Proof.Common.{block-from-calls, block-from-at, block-from-Inv-loop, block-from-μ-loop}
 
-pub first-rounds-requires : (t : ℕ) → lts.Need-first-rounds-requires (parse-block-calls t) (parse-block-at t) parse-block.Post parse-block-Inv-loop parse-block-μ-loop
-first-rounds-requires t c κs =
+pub cast-depth : (t : ℕ) → lts.Need-cast-depth (block-from-calls t) (block-from-at t) block-from.Post block-from-Inv-loop block-from-μ-loop
+cast-depth t c =
     let c₁ = c .before .before .before .before .before .before .before in
     omega (arith, c₁ .pre)
 
-pub loop-holds : (t : ℕ) → lts.Need-loop-holds (parse-block-calls t) (parse-block-at t) parse-block.Post parse-block-Inv-loop parse-block-μ-loop
-loop-holds t c = record { on = λ w r. r; ev = refl; dm = refl; ds = refl }
-
-pub add-parse-control-flow : (t : ℕ) → lts.Need-add-parse-control-flow (parse-block-calls t) (parse-block-at t) parse-block.Post parse-block-Inv-loop parse-block-μ-loop
-add-parse-control-flow t c =
-    let c₁ = c .before .before .before .before .before .before .before .before .before .before .before .before .before .before .before .before .before .before .before .before in
+pub first-rounds-requires : (t : ℕ) → lts.Need-first-rounds-requires (block-from-calls t) (block-from-at t) block-from.Post block-from-Inv-loop block-from-μ-loop
+first-rounds-requires t c κs =
+    let c₁ = c .before .before .before .before .before .before .before .before .before .before in
     omega (arith, c₁ .pre)
 
-pub parse-control-flow-requires : (t : ℕ) → lts.Need-parse-control-flow-requires (parse-block-calls t) (parse-block-at t) parse-block.Post parse-block-Inv-loop parse-block-μ-loop
+pub loop-holds : (t : ℕ) → lts.Need-loop-holds (block-from-calls t) (block-from-at t) block-from.Post block-from-Inv-loop block-from-μ-loop
+loop-holds t c = record { on = λ w r. r; ev = refl; dm = refl; ds = refl }
+
+pub add-parse-control-flow : (t : ℕ) → lts.Need-add-parse-control-flow (block-from-calls t) (block-from-at t) block-from.Post block-from-Inv-loop block-from-μ-loop
+add-parse-control-flow t c =
+    let c₁ = c .before .before .before .before .before .before .before .before .before .before .before .before .before .before .before .before .before .before .before .before .before .before .before in
+    omega (arith, c₁ .pre)
+
+pub parse-control-flow-requires : (t : ℕ) → lts.Need-parse-control-flow-requires (block-from-calls t) (block-from-at t) block-from.Post block-from-Inv-loop block-from-μ-loop
 parse-control-flow-requires t c κs =
     let c₁ = c .before .before .before .before in
     let c₂ = c₁ .before in
     let c₃ = c₂ .before .before .before .before .before .before .before in
-    let c₄ = c₃ .before .before .before .before .before .before .before .before in
+    let c₄ = c₃ .before .before .before .before .before .before .before .before .before .before .before in
     let begun = c₃ .first-rounds .ensures in
     let here = c₂ .loop .inv .on _ (begun .rounds) .form (c₁ .loop-test .taken) in
-    (omega (arith, c₄ .pre, begun .wrote .pos, begun .events, begun .diags, here .paid), (omega (arith, c₄ .pre, begun .wrote .pos, begun .events, begun .diags, here .paid), here .first, meant (c₄ .args .terminators) _ Arm.Control refl (here .arm), omega (arith, here .below)))
+    (omega (arith, c₄ .pre, begun .wrote .pos, begun .events, begun .diags, here .paid), (omega (arith, c₄ .pre, begun .wrote .pos, begun .events, begun .diags, here .paid), here .first, meant (c₄ .args .start .place .terminators) _ Arm.Control refl (here .arm), omega (arith, here .below)))
 
-pub ended-file-requires : (t : ℕ) → lts.Need-ended-file-requires (parse-block-calls t) (parse-block-at t) parse-block.Post parse-block-Inv-loop parse-block-μ-loop
+pub ended-file-requires : (t : ℕ) → lts.Need-ended-file-requires (block-from-calls t) (block-from-at t) block-from.Post block-from-Inv-loop block-from-μ-loop
 ended-file-requires t c κs =
     let c₁ = c .before .before .before .before .before .before .before .before .before in
     let c₂ = c₁ .before .before .before .before .before in
     let c₃ = c₂ .before in
     let c₄ = c₃ .before .before .before .before .before .before .before in
-    let c₅ = c₄ .before .before .before .before .before .before .before .before in
+    let c₅ = c₄ .before .before .before .before .before .before .before .before .before .before .before in
     let begun = c₄ .first-rounds .ensures in
     let here = c₃ .loop .inv .on _ (begun .rounds) .form (c₂ .loop-test .taken) in
     omega (arith, c₅ .pre, begun .wrote .pos, begun .events, begun .diags, here .paid, c₁ .parse-control-flow .ensures .0 .paid)
 
-pub same-length : (t : ℕ) → lts.Need-same-length (parse-block-calls t) (parse-block-at t) parse-block.Post parse-block-Inv-loop parse-block-μ-loop
+pub same-length : (t : ℕ) → lts.Need-same-length (block-from-calls t) (block-from-at t) block-from.Post block-from-Inv-loop block-from-μ-loop
 same-length t c =
     let c₁ = c .before .before .before .before .before .before .before .before .before .before .before .before in
     let c₂ = c₁ .before .before .before .before .before .before in
     let c₃ = c₂ .before .before .before .before .before .before .before in
     c .before .before .ended-file .kept .0 ∙ c₁ .parse-control-flow .kept .1 .0 ∙ c₂ .loop .inv .ev ∙ c₃ .first-rounds .kept .1 .0
 
-pub same-length-2 : (t : ℕ) → lts.Need-same-length-2 (parse-block-calls t) (parse-block-at t) parse-block.Post parse-block-Inv-loop parse-block-μ-loop
+pub same-length-2 : (t : ℕ) → lts.Need-same-length-2 (block-from-calls t) (block-from-at t) block-from.Post block-from-Inv-loop block-from-μ-loop
 same-length-2 t c =
     let c₁ = c .before .before .before .before .before .before .before .before .before .before .before .before in
     let c₂ = c₁ .before .before .before .before .before .before in
     let c₃ = c₂ .before .before .before .before .before .before .before in
     c₁ .parse-control-flow .kept .1 .1 .0 ∙ c₂ .loop .inv .dm ∙ c₃ .first-rounds .kept .1 .1 .0
 
-pub same-length-3 : (t : ℕ) → lts.Need-same-length-3 (parse-block-calls t) (parse-block-at t) parse-block.Post parse-block-Inv-loop parse-block-μ-loop
+pub same-length-3 : (t : ℕ) → lts.Need-same-length-3 (block-from-calls t) (block-from-at t) block-from.Post block-from-Inv-loop block-from-μ-loop
 same-length-3 t c =
     let c₁ = c .before .before .before .before .before .before .before .before .before .before .before .before in
     let c₂ = c₁ .before .before .before .before .before .before in
     let c₃ = c₂ .before .before .before .before .before .before .before in
     c₁ .parse-control-flow .kept .1 .1 .1 .0 ∙ c₂ .loop .inv .ds ∙ c₃ .first-rounds .kept .1 .1 .1 .0
 
-pub returns : (t : ℕ) → lts.Need-returns (parse-block-calls t) (parse-block-at t) parse-block.Post parse-block-Inv-loop parse-block-μ-loop
+pub returns : (t : ℕ) → lts.Need-returns (block-from-calls t) (block-from-at t) block-from.Post block-from-Inv-loop block-from-μ-loop
 unfolding parse-block by-arm
 returns t c =
     let c₁ = c .before .before .before .before in
@@ -75,12 +80,12 @@ returns t c =
     let c₃ = c₂ .before .before .before .before .before in
     let c₄ = c₃ .before in
     let c₅ = c₄ .before .before .before .before .before .before .before in
-    let c₆ = c₅ .before .before .before .before .before .before .before .before in
+    let c₆ = c₅ .before .before .before .before .before .before .before .before .before .before .before in
     let begun = c₅ .first-rounds .ensures in
     let here = c₄ .loop .inv .on _ (begun .rounds) .form (c₃ .loop-test .taken) in
-    let form = deeper (c₆ .args .depth) (c₂ .parse-control-flow .ensures .0 .went) in
+    let form = deeper (c₆ .args .start .place .depth) (c₂ .parse-control-flow .ensures .0 .went) in
     let rest = bind-to _ form (on-to _ (c₁ .if1 .taken) (gives (c .before .before .ended-file .ensures .1))) in
-    let inside = here .on _ _ (round (c₆ .args .owner) (c₆ .args .terminators) (c₆ .args .depth) Arm.Control (sym (here .arm)) refl (off-to _ (lt-leb 256 (c₆ .args .depth) (here .below)) rest)) in (
+    let inside = here .on _ _ (round (c₆ .args .start .place .owner) (c₆ .args .start .place .terminators) (c₆ .args .start .place .depth) Arm.Control (sym (here .arm)) refl (off-to _ (lt-leb 256 (c₆ .args .start .place .depth) (here .below)) rest)) in (
       record {
         paid = omega (arith, c₆ .pre, begun .wrote .pos, begun .events, begun .diags, here .paid, c₂ .parse-control-flow .ensures .0 .paid, c .before .before .ended-file .ensures .0);
         went = node-to _ (begun .wrote) inside (c .before .before .ended-file .ensures .0 .wrote (c₆ .args .kinds .now) _ _);
@@ -88,24 +93,24 @@ returns t c =
       said-no-item (c .before .before .ended-file .ensures .2),
     )
 
-pub next-rounds-requires : (t : ℕ) → lts.Need-next-rounds-requires (parse-block-calls t) (parse-block-at t) parse-block.Post parse-block-Inv-loop parse-block-μ-loop
+pub next-rounds-requires : (t : ℕ) → lts.Need-next-rounds-requires (block-from-calls t) (block-from-at t) block-from.Post block-from-Inv-loop block-from-μ-loop
 next-rounds-requires t c κs =
     let c₁ = c .before .before .before .before .before .before .before .before .before .before .before in
     let c₂ = c₁ .before .before .before .before .before in
     let c₃ = c₂ .before in
     let c₄ = c₃ .before .before .before .before .before .before .before in
-    let c₅ = c₄ .before .before .before .before .before .before .before .before in
+    let c₅ = c₄ .before .before .before .before .before .before .before .before .before .before .before in
     let begun = c₄ .first-rounds .ensures in
     let here = c₃ .loop .inv .on _ (begun .rounds) .form (c₂ .loop-test .taken) in
     (omega (arith, c₅ .pre, begun .wrote .pos, begun .events, begun .diags, here .paid, c₁ .parse-control-flow .ensures .0 .paid), c₁ .parse-control-flow .ensures .1)
 
-pub loop-less : (t : ℕ) → lts.Need-loop-less (parse-block-calls t) (parse-block-at t) parse-block.Post parse-block-Inv-loop parse-block-μ-loop
+pub loop-less : (t : ℕ) → lts.Need-loop-less (block-from-calls t) (block-from-at t) block-from.Post block-from-Inv-loop block-from-μ-loop
 loop-less t c =
     let c₁ = c .before .before .before .before .before .before in
     let c₂ = c₁ .before .before .before .before .before .before .before .before .before .before .before .before in
     omega (arith, c₂ .parse-control-flow .ensures .2, c₂ .parse-control-flow .ensures .0 .paid, ahead (c₁ .next-rounds .ensures))
 
-pub loop-again : (t : ℕ) → lts.Need-loop-again (parse-block-calls t) (parse-block-at t) parse-block.Post parse-block-Inv-loop parse-block-μ-loop
+pub loop-again : (t : ℕ) → lts.Need-loop-again (block-from-calls t) (block-from-at t) block-from.Post block-from-Inv-loop block-from-μ-loop
 unfolding by-arm
 loop-again t c =
     let c₁ = c .before .before .before .before .before .before in
@@ -113,36 +118,36 @@ loop-again t c =
     let c₃ = c₂ .before .before .before .before .before .before .before .before in
     let c₄ = c₃ .before .before .before .before .before in
     let c₅ = c₄ .before in
-    let c₆ = c₅ .before .before .before .before .before .before .before .before .before .before .before .before .before .before .before in
-    let form = deeper (c₆ .args .depth) (c₃ .parse-control-flow .ensures .0 .went) in
+    let c₆ = c₅ .before .before .before .before .before .before .before .before .before .before .before .before .before .before .before .before .before .before in
+    let form = deeper (c₆ .args .start .place .depth) (c₃ .parse-control-flow .ensures .0 .went) in
     let i = c₅ .loop .inv in
     record {
-      on = λ w r. let here = i .on w r .form (c₄ .loop-test .taken) in from-form here (λ u x h. round (c₆ .args .owner) (c₆ .args .terminators) (c₆ .args .depth) Arm.Control (sym (here .arm)) refl (off-to _ (lt-leb 256 (c₆ .args .depth) (here .below)) (bind-to _ form (off-to _ (c₂ .if1 .left) h)))) (omega (arith, c₃ .parse-control-flow .ensures .0 .paid)) (c₁ .next-rounds .ensures);
+      on = λ w r. let here = i .on w r .form (c₄ .loop-test .taken) in from-form here (λ u x h. round (c₆ .args .start .place .owner) (c₆ .args .start .place .terminators) (c₆ .args .start .place .depth) Arm.Control (sym (here .arm)) refl (off-to _ (lt-leb 256 (c₆ .args .start .place .depth) (here .below)) (bind-to _ form (off-to _ (c₂ .if1 .left) h)))) (omega (arith, c₃ .parse-control-flow .ensures .0 .paid)) (c₁ .next-rounds .ensures);
       ev = c₁ .next-rounds .kept .1 .0 ∙ c₃ .parse-control-flow .kept .1 .0 ∙ i .ev;
       dm = c₁ .next-rounds .kept .1 .1 .0 ∙ c₃ .parse-control-flow .kept .1 .1 .0 ∙ i .dm;
       ds = c₁ .next-rounds .kept .1 .1 .1 .0 ∙ c₃ .parse-control-flow .kept .1 .1 .1 .0 ∙ i .ds;
     }
 
-pub same-length-4 : (t : ℕ) → lts.Need-same-length-4 (parse-block-calls t) (parse-block-at t) parse-block.Post parse-block-Inv-loop parse-block-μ-loop
+pub same-length-4 : (t : ℕ) → lts.Need-same-length-4 (block-from-calls t) (block-from-at t) block-from.Post block-from-Inv-loop block-from-μ-loop
 same-length-4 t c =
     let c₁ = c .before .before .before .before .before .before .before .before .before in
     c .before .before .loop .inv .ev ∙ c₁ .first-rounds .kept .1 .0
 
-pub same-length-5 : (t : ℕ) → lts.Need-same-length-5 (parse-block-calls t) (parse-block-at t) parse-block.Post parse-block-Inv-loop parse-block-μ-loop
+pub same-length-5 : (t : ℕ) → lts.Need-same-length-5 (block-from-calls t) (block-from-at t) block-from.Post block-from-Inv-loop block-from-μ-loop
 same-length-5 t c =
     let c₁ = c .before .before .before .before .before .before .before .before .before in
     c .before .before .loop .inv .dm ∙ c₁ .first-rounds .kept .1 .1 .0
 
-pub same-length-6 : (t : ℕ) → lts.Need-same-length-6 (parse-block-calls t) (parse-block-at t) parse-block.Post parse-block-Inv-loop parse-block-μ-loop
+pub same-length-6 : (t : ℕ) → lts.Need-same-length-6 (block-from-calls t) (block-from-at t) block-from.Post block-from-Inv-loop block-from-μ-loop
 same-length-6 t c =
     let c₁ = c .before .before .before .before .before .before .before .before .before in
     c .before .before .loop .inv .ds ∙ c₁ .first-rounds .kept .1 .1 .1 .0
 
-pub returns-2 : (t : ℕ) → lts.Need-returns-2 (parse-block-calls t) (parse-block-at t) parse-block.Post parse-block-Inv-loop parse-block-μ-loop
+pub returns-2 : (t : ℕ) → lts.Need-returns-2 (block-from-calls t) (block-from-at t) block-from.Post block-from-Inv-loop block-from-μ-loop
 unfolding parse-block
 returns-2 t c =
     let c₁ = c .before .before .before .before .before .before .before .before .before in
-    let c₂ = c₁ .before .before .before .before .before .before .before .before in
+    let c₂ = c₁ .before .before .before .before .before .before .before .before .before .before .before in
     let begun = c₁ .first-rounds .ensures in
     let over = c .before .before .loop .inv .on _ (begun .rounds) .over (c .before .loop-test .left) in (
       record {

@@ -7,9 +7,9 @@ use Rattle.grammar.specs.declared.block.BlockOwner.{BlockOwner}
 use Rattle.blocks.proofs.Laws.{no-condition, condition}
 use Rattle.parser.proofs.Kit.{node-to, bind-to}
 use Rattle.grammar.specs.Block.{ended, do-condition, parse-block, parse-do-while}
-use Rattle.blocks.proofs.block.+body_block+inner_block+last_block+parse_block+parse_control_flow+parse_do_while+parse_if+parse_repeat+parse_while+then_block.Lts-parse_do_while as lts
+use Rattle.blocks.proofs.block.+block_from+body_block+inner_block+last_block+parse_control_flow+parse_do_while+parse_if+parse_repeat+parse_while+then_block.Lts-parse_do_while as lts
 use Rattle.blocks.proofs.block.parse_do_while.Reads as parse-do-while
-use Rattle.blocks.proofs.block.+body_block+inner_block+last_block+parse_block+parse_control_flow+parse_do_while+parse_if+parse_repeat+parse_while+then_block.Proof.Common.{parse-do-while-calls, parse-do-while-at}
+use Rattle.blocks.proofs.block.+block_from+body_block+inner_block+last_block+parse_control_flow+parse_do_while+parse_if+parse_repeat+parse_while+then_block.Proof.Common.{parse-do-while-calls, parse-do-while-at}
 
 pub do-header-requires : (t : ℕ) → lts.Need-do-header-requires (parse-do-while-calls t) (parse-do-while-at t) parse-do-while.Post
 do-header-requires t c κs =

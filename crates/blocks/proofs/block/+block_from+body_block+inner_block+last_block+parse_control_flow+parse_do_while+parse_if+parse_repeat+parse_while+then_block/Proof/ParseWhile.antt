@@ -5,9 +5,9 @@ use native.Mathlib.Omega.{arith}
 use Rattle.grammar.specs.declared.block.BlockOwner.{BlockOwner}
 use Rattle.parser.proofs.Kit.{node-to, bind-to}
 use Rattle.grammar.specs.Block.{ended, parse-while}
-use Rattle.blocks.proofs.block.+body_block+inner_block+last_block+parse_block+parse_control_flow+parse_do_while+parse_if+parse_repeat+parse_while+then_block.Lts-parse_while as lts
+use Rattle.blocks.proofs.block.+block_from+body_block+inner_block+last_block+parse_control_flow+parse_do_while+parse_if+parse_repeat+parse_while+then_block.Lts-parse_while as lts
 use Rattle.blocks.proofs.block.parse_while.Reads as parse-while
-use Rattle.blocks.proofs.block.+body_block+inner_block+last_block+parse_block+parse_control_flow+parse_do_while+parse_if+parse_repeat+parse_while+then_block.Proof.Common.{parse-while-calls, parse-while-at}
+use Rattle.blocks.proofs.block.+block_from+body_block+inner_block+last_block+parse_control_flow+parse_do_while+parse_if+parse_repeat+parse_while+then_block.Proof.Common.{parse-while-calls, parse-while-at}
 
 pub while-header-requires : (t : ℕ) → lts.Need-while-header-requires (parse-while-calls t) (parse-while-at t) parse-while.Post
 while-header-requires t c κs =
