@@ -1,5 +1,5 @@
 # The front door. Each target is one command; `make test` is the gate.
-.PHONY: fold check test differ large calls growth speed store samples
+.PHONY: fold check test differ large calls growth speed store samples economy
 
 # Build everything and show a sample script folded; FILE is another one.
 FILE ?= examples/wallet.masm
@@ -56,3 +56,8 @@ store:
 # Writes the reference's answers that the grammar's definitions are held to.
 samples:
 	cd tests && cargo run --offline --release --bin samples 300 > ../crates/grammar/specs/Samples.antt
+
+# The table of lines and seconds in docs/PROOFS.md, from a log of the gate.
+LOG ?= gate.log
+economy:
+	tests/economy/run $(LOG)

@@ -141,3 +141,9 @@ module _
         (omega (arith, token-count a b j, ga .t-is, gb .t-is, gj .t-is))
         (omega (arith, event-count a b j, ga .e-is, gb .e-is, gj .e-is))
         (omega (arith, place-count a b j well, ga .d-is, gb .d-is, gj .d-is)))
+
+-- Slices that just fit do fit.
+pub just-fit : (s : Slices) (counts ca cb : List ℕ) → length (s .kinds) ≡ T ca + T cb → length (s .ends) ≡ T ca + T cb
+    → length (s .events) + 2 ≡ E ca + E cb → length (s .messages) ≡ D ca + D cb → length (s .starts) ≡ D ca + D cb → length (s .stops) ≡ D ca + D cb
+    → length counts ≡ 3 → Fits s counts ca cb
+just-fit s counts ca cb k e v m b d w = record { tokens = omega arith; events = omega arith; diagnostics = omega arith; words = omega arith }
