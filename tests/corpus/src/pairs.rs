@@ -29,7 +29,8 @@ pub const STARTS: [&str; 16] = [
 ];
 
 pub fn pair(random: &mut Random) -> Pair {
-    let first = ended(random.pick(&LAST), before(random));
+    let first = before(random);
+    let first = ended(random.pick(&LAST), first);
     let start = random.pick(&STARTS);
     (first, started(start, before(random)))
 }
