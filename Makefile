@@ -1,5 +1,5 @@
 # The front door. Each target is one command; `make test` is the gate.
-.PHONY: fold check test differ large calls growth speed store samples economy
+.PHONY: fold check test differ large calls fuzz growth speed store samples economy
 
 # Build everything and show a sample script folded; FILE is another one.
 FILE ?= examples/wallet.masm
@@ -35,6 +35,16 @@ calls:
 	rt staticlib cst
 	cd tests && cargo run --offline --release --bin differ calls
 	tests/c/run
+
+# The exported call against the reference for a chosen time: guided by coverage, with JOBS processes, and as
+# long again from SEED. Needs clang.
+SECONDS ?= 60
+JOBS ?= 1
+SEED ?= 1
+fuzz:
+	rt staticlib cst
+	tests/fuzz/run $(SECONDS) $(JOBS)
+	cd tests && cargo run --offline --release --bin fuzz -- --seed $(SEED) --seconds $(SECONDS)
 
 # Instructions on sources of n and 2n bytes, 32 families (docs/PERFORMANCE.md). Needs valgrind.
 growth:

@@ -5,7 +5,7 @@ use crate::{any_source, random::Random, script, sequences};
 pub type Pair = (Vec<u8>, Vec<u8>);
 
 /// Last items of a first file. The last four do not close as demand 3 asks.
-const LAST: [&str; 14] = [
+pub const LAST: [&str; 14] = [
     "begin end\n",
     "proc a end\n",
     "begin add end\r\n",
@@ -23,17 +23,27 @@ const LAST: [&str; 14] = [
 ];
 
 /// Starts of a second file.
-const STARTS: [&str; 16] = [
+pub const STARTS: [&str; 16] = [
     "", "end\n", "else ", "x ", "( ", "] ", ") ", "#! d\n", "# c\n\n", "\n", " ", "pub ", ":: ",
     "-> ", "\"u", "é",
 ];
 
 pub fn pair(random: &mut Random) -> Pair {
-    let mut first = before(random);
-    first.extend(random.pick(&LAST).bytes());
-    let mut second = random.pick(&STARTS).as_bytes().to_vec();
-    second.extend(before(random));
-    (first, second)
+    let first = before(random);
+    let first = ended(random.pick(&LAST), first);
+    let start = random.pick(&STARTS);
+    (first, started(start, before(random)))
+}
+
+/// A first file with its last item.
+pub fn ended(last: &str, mut source: Vec<u8>) -> Vec<u8> {
+    source.extend(last.bytes());
+    source
+}
+
+/// A second file with its start.
+pub fn started(start: &str, source: Vec<u8>) -> Vec<u8> {
+    [start.as_bytes(), &source].concat()
 }
 
 pub fn joined(random: &mut Random) -> Vec<u8> {

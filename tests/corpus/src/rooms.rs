@@ -72,6 +72,16 @@ impl Plan {
         ends: Room::Ample,
     };
 
+    pub const EXACT: Self = Self {
+        counts: 3,
+        token_kinds: Room::Exact,
+        token_ends: Room::Exact,
+        events: Room::Exact,
+        messages: Room::Exact,
+        starts: Room::Exact,
+        ends: Room::Exact,
+    };
+
     /// Ample but for the tokens, or the events, or the diagnostics, or anything at all.
     pub fn odd(random: &mut Random) -> Self {
         let all = [Room::Ample, Room::Exact, Room::OneLess, Room::Half, Room::Zero, Room::One];
@@ -95,15 +105,6 @@ impl Plan {
 
     /// Ample but for one slice, at each of its lengths; and all slices exact.
     pub fn each() -> Vec<Self> {
-        let exact = Self {
-            counts: 3,
-            token_kinds: Room::Exact,
-            token_ends: Room::Exact,
-            events: Room::Exact,
-            messages: Room::Exact,
-            starts: Room::Exact,
-            ends: Room::Exact,
-        };
         let lengths = [Room::Zero, Room::One, Room::OneLess, Room::Exact];
         let short = lengths.into_iter().flat_map(|room| {
             [
@@ -115,7 +116,7 @@ impl Plan {
                 Self { ends: room, ..Self::AMPLE },
             ]
         });
-        short.chain([exact]).collect()
+        short.chain([Self::EXACT]).collect()
     }
 
     /// The lengths; no slice is longer than the largest source can fill.

@@ -1,12 +1,12 @@
 //! The whole reader by its exported call, in this process.
 
 use corpus::{Case, rooms::Needs};
-use reference::{Diagnostic, Parsed, Rooms, Slices, Token, reading};
+use exported::zones::{Call, call};
+use reference::{Slices, reading};
 
 use crate::{
     readings::push_slices,
     run::{Outcome, show},
-    zones::{Call, call},
 };
 
 /// A case that the call answers otherwise than the reference.
@@ -56,30 +56,6 @@ fn text(status: u64, slices: &Slices) -> Vec<u8> {
     let mut text = Vec::new();
     push_slices(&mut text, [status].iter().chain(&slices.counts), slices);
     text
-}
-
-/// What the call gives of a source, if it accepts; the texts of diagnostics are empty.
-pub fn accepted(made: Call, source: &[u8], rooms: Rooms) -> Option<Parsed> {
-    let (status, Some(slices)) = call(made, source, rooms) else { return None };
-    let counts: Vec<usize> = slices.counts.iter().map(|count| *count as usize).collect();
-    let &[tokens, events, diagnostics] = counts.as_slice() else { return None };
-    let token = |at: usize| {
-        Some(Token { kind: *slices.token_kinds.get(at)?, end: *slices.token_ends.get(at)? })
-    };
-    let diagnostic = |at: usize| {
-        Some(Diagnostic {
-            message: *slices.messages.get(at)?,
-            start: *slices.starts.get(at)?,
-            end: *slices.ends.get(at)?,
-            text: String::new(),
-        })
-    };
-    (status == 0).then_some(())?;
-    Some(Parsed {
-        tokens: (0..tokens).map(token).collect::<Option<_>>()?,
-        events: slices.events.get(..events)?.to_vec(),
-        diagnostics: (0..diagnostics).map(diagnostic).collect::<Option<_>>()?,
-    })
 }
 
 #[cfg(test)]

@@ -1,32 +1,10 @@
 //! A call that is right, and calls with one fault, each of which is found. No archive is needed.
 
 use corpus::{Case, Family, Size, cases};
-use exported::Lent;
-use reference::{Answer, Rooms, answer, joined};
+use exported::{Lent, accepted::accepted, imitation::answer_into};
+use reference::joined;
 
-use super::{accepted, compare, run};
-
-/// What the reference says, written into lent slices.
-fn answer_into(source: &[u8], lent: &mut Lent) -> u64 {
-    let rooms = Rooms {
-        counts: lent.counts.len(),
-        token_kinds: lent.token_kinds.len(),
-        token_ends: lent.token_ends.len(),
-        events: lent.events.len(),
-        messages: lent.messages.len(),
-        starts: lent.starts.len(),
-        ends: lent.ends.len(),
-    };
-    let Answer { status, slices, .. } = answer(source, rooms);
-    lent.counts.copy_from_slice(&slices.counts);
-    lent.token_kinds.copy_from_slice(&slices.token_kinds);
-    lent.token_ends.copy_from_slice(&slices.token_ends);
-    lent.events.copy_from_slice(&slices.events);
-    lent.messages.copy_from_slice(&slices.messages);
-    lent.starts.copy_from_slice(&slices.starts);
-    lent.ends.copy_from_slice(&slices.ends);
-    status
-}
+use super::{compare, run};
 
 fn right(source: &[u8], mut lent: Lent) -> u64 {
     answer_into(source, &mut lent)

@@ -7,11 +7,11 @@ mod readings;
 mod run;
 mod store;
 mod trees;
-mod zones;
 
 use std::{env, path::Path, process::ExitCode, time::Duration};
 
 use corpus::{Family, Size, cases, pairs};
+use exported::accepted::accepted;
 use part::Part;
 use readings::{Limits, check_joins};
 use reference::joined;
@@ -85,8 +85,8 @@ fn compare_calls(options: &[&str]) -> Option<ExitCode> {
         println!("{}", exported::MISSING);
         return Some(ExitCode::FAILURE);
     }
-    let accepted = |source: &[u8], rooms| calls::accepted(exported::parse_text, source, rooms);
-    let obeyed = |first: &[u8], second: &[u8]| joined::obeyed_by(accepted, first, second);
+    let read = |source: &[u8], rooms| accepted(exported::parse_text, source, rooms);
+    let obeyed = |first: &[u8], second: &[u8]| joined::obeyed_by(read, first, second);
     let families = chosen(&Family::ALL, family);
     let joins = !families.contains(&Family::Pairs)
         || check_joins("call", pairs(size).step_by(every), obeyed);

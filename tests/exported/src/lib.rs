@@ -1,5 +1,9 @@
 //! The exported call of the proved reader, on slices.
 
+pub mod accepted;
+pub mod imitation;
+pub mod zones;
+
 use reference::Slices;
 
 /// Whether an archive with the call is linked.

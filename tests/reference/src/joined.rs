@@ -15,7 +15,7 @@ pub fn obeyed(first: &[u8], second: &[u8]) -> Option<bool> {
 /// The same of any reader, which is given a source and rooms and answers if it accepts. The join
 /// is read with the least rooms that demand 3 allows.
 pub fn obeyed_by(
-    read: impl Fn(&[u8], Rooms) -> Option<Parsed>,
+    mut read: impl FnMut(&[u8], Rooms) -> Option<Parsed>,
     first: &[u8],
     second: &[u8],
 ) -> Option<bool> {

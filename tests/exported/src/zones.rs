@@ -1,10 +1,11 @@
 //! A call whose slices lie between red zones.
 
-use exported::Lent;
 use reference::{
     Rooms, Slices,
     answer::{FILL_U16, FILL_U32, FILL_U64},
 };
+
+use crate::Lent;
 
 /// The exported call, or one that is faulty on purpose.
 pub type Call = fn(&[u8], Lent) -> u64;
