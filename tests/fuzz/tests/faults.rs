@@ -114,7 +114,10 @@ fn writes_outside_are_found() {
 
 #[test]
 fn a_wrong_count_is_found() {
-    assert!(first_mismatch(wrong_count).unwrap().contains("counts[2] is 3, expected 2"));
+    // Two diagnostics: the name and the `=` are missing.
+    let source = Input::Source(b"const".to_vec());
+    let found = Checker::new(wrong_count).check(&source, &mut Random::new(1));
+    assert!(found.unwrap_err().0.contains("counts[2] is 3, expected 2"));
 }
 
 #[test]
