@@ -53,27 +53,39 @@ static size_t taken(void *(*work)(void *))
     return STACK - clean;
 }
 
-/* `begin`, one piece over and over, and spaces. */
-static void fill(const char *piece)
+/* `begin`, one piece up to `count` times, and spaces. */
+static void fill(const char *piece, size_t count)
 {
     size_t length = strlen(piece), at = strlen("begin");
     memset(source, ' ', LENGTH);
     memcpy(source, "begin", at);
-    for (; at + length <= LENGTH; at += length)
+    for (; count > 0 && at + length <= LENGTH; at += length, count--)
         memcpy(source + at, piece, length);
+}
+
+/* What the call takes beyond a thread that does nothing. */
+static size_t taken_for(const char *piece, size_t count)
+{
+    fill(piece, count);
+    size_t least = taken(nothing), whole = taken(call);
+    return whole > least ? whole - least : 0;
 }
 
 int main(void)
 {
     static const char *const pieces[] = { " if", " while", " do", " repeat", " do while",
                                           " if else", " if while do repeat", "(", "@a(", "\n" };
-    size_t most = 0;
+    size_t most = 0, level = 0;
     for (size_t i = 0; i < sizeof pieces / sizeof pieces[0]; i++) {
-        fill(pieces[i]);
-        size_t least = taken(nothing), whole = taken(call);
-        if (whole > least && whole - least > most)
-            most = whole - least;
+        size_t whole = taken_for(pieces[i], LENGTH);
+        most = whole > most ? whole : most;
+    }
+    /* The four forms alone: what a hundred more levels take. */
+    for (size_t i = 0; i < 4; i++) {
+        size_t each = (taken_for(pieces[i], 200) - taken_for(pieces[i], 100)) / 100;
+        printf("stack_test: %zu bytes a level of%s\n", each, pieces[i]);
+        level = each > level ? each : level;
     }
     printf("stack_test: %zu bytes at most\n", most);
-    return most > 0 && most <= MASM_STACK ? 0 : 1;
+    return most > 0 && most <= MASM_STACK && level < 300 ? 0 : 1;
 }

@@ -3,7 +3,7 @@
 use Prim.Native.Nat.{ℕ, _+_, _≤_}
 use mathlib.Core.Path.{_≡_, refl, sym, ap, ap₂, _∙_}
 use mathlib.Core.Bool.{true}
-use mathlib.Core.List.{List, [], _∷_, _++_, map, map-append, tail, dropLast}
+use mathlib.Core.List.{List, [], _∷_, _++_, map, map-id, map-append, tail, dropLast}
 use native.Mathlib.Omega.{arith}
 use lib.ListN.{length, length-append, length-map}
 use Rattle.utf8.specs.WellFormed.{WellFormed}
@@ -85,14 +85,10 @@ module _ (a b : List ℕ) (j : Joins a (reading a) (reading b)) where
         moved [] = refl
         moved (p ∷ ps) = ap₂ _∷_ (h p) (moved ps)
 
-    same-numbers : (l : List ℕ) → map (λ n. n) l ≡ l
-    same-numbers [] = refl
-    same-numbers (n ∷ l) = ap (λ (r : List ℕ). n ∷ r) (same-numbers l)
-
     messages-are : map (λ p. p .msg) (places-of (a ++ b)) ≡ map (λ p. p .msg) (places-of a) ++ map (λ p. p .msg) (places-of b)
     messages-are =
         by-place (λ p. p .msg) (λ n. n) (λ p. refl)
-        ∙ ap (λ (l : List ℕ). map (λ (p : Place). p .msg) (places-of a) ++ l) (same-numbers (map (λ p. p .msg) (places-of b)))
+        ∙ ap (λ (l : List ℕ). map (λ (p : Place). p .msg) (places-of a) ++ l) (map-id (map (λ p. p .msg) (places-of b)))
 
     pub for-readings : {ca cb cj : List ℕ} {r : ℕ} → r ≡ 0 → T cj ≡ T ca + T cb → E cj + 2 ≡ E ca + E cb → D cj ≡ D ca + D cb
         → Joined (length a) (reading a) (reading b) (reading (a ++ b)) ca cb cj r

@@ -2,7 +2,7 @@
 -- Assumes nothing.
 use Prim.Native.Nat.{ℕ, zero, suc, pred, _+_, _≤_}
 use mathlib.Core.Path.{_≡_, refl, sym, ap, _∙_}
-use mathlib.Core.List.{List, [], _∷_, map}
+use mathlib.Core.List.{List, [], _∷_, map, map-id}
 use native.Mathlib.Omega.{arith}
 use lib.ListN.{length, length-map}
 use Rattle.utf8.specs.Width.{width}
@@ -31,10 +31,6 @@ onto-over f (b ∷ l) (x ∷ xs) = ap (λ (k : List ℕ). f x ∷ k) (onto-over 
 
 pub onto-all : {A : Type 0} (f : A → ℕ) (r : ℕ) (l : List ℕ) (xs : List A) → r ≡ length l → onto f r l xs ≡ over l 0 (map f xs)
 onto-all f r l xs e = rw e (onto-over f l xs)
-
-map-same : (xs : List ℕ) → map (λ x. x) xs ≡ xs
-map-same [] = refl
-map-same (x ∷ xs) = ap (λ (k : List ℕ). x ∷ k) (map-same xs)
 
 last-below : (k m n : ℕ) (s : List ℕ) → m ≤ n → last-from k m n s ≤ n + length s
 unfolding last-from
@@ -71,7 +67,7 @@ module _
       event-count = p .events;
       diagnostic-count = p .diags ∙ sym (length-map said _);
       kinds-are = k ∙ ap (map kindOf) symbols-are ∙ source-unmarked s;
-      events-are = p .ev ∙ onto-all (λ x. x) _ ev (events-of s) refl ∙ ap (over ev 0) (map-same (events-of s));
+      events-are = p .ev ∙ onto-all (λ x. x) _ ev (events-of s) refl ∙ ap (over ev 0) (map-id (events-of s));
       messages-are =
           p .dm
           ∙ onto-all (λ d. d .msg) _ dm said (omega arith)
