@@ -5,6 +5,8 @@ use grammar::nesting::Nesting;
 use grammar::nesting::Significant;
 use parser::cursor::Cursor;
 use parser::cursor::bump;
+use parser::cursor::bump_plain;
+use parser::cursor::event_of;
 use parser::cursor::put;
 use parser::kinds::expects_continuation_operand;
 use parser::kinds::in_set;
@@ -28,7 +30,8 @@ ghost use Rattle.grammar.specs.Look.{at};
 ghost use Rattle.grammar.specs.Run.{scan};
 ghost use Rattle.grammar.specs.Instruction.{is-some, expects-operand, should-continue-instruction-after-whitespace as shouldContinue, should-stop-instruction-before as shouldStop, instruction-round, before-first, parse-instruction};
 ghost use Rattle.parser.specs.Rep.{world, Ready, Ran};
-ghost use Rattle.forms.specs.Instruction.{starts-next, instruction-ends};
+ghost use Rattle.grammar.specs.declared.nesting.Significant.the-variants.{Kind};
+ghost use Rattle.forms.specs.Instruction.{starts-next, instruction-ends, behind, open-behind, Led};
 
 const INSTRUCTION: u16 = 23;
 
@@ -134,19 +137,63 @@ fn at_instruction_end(kinds: &[u16], p: usize, previous: Significant, nesting: N
     false
 }
 
-fn instruction_tokens(
+// The kinds that neither change the counts nor are trivia or Error; and those of them that continue an instruction wherever they stand.
+const PLAIN: u64 = 0xf1e3fff80000000;
+
+const PLAIN_PUNCTUATION: u64 = 0xe161fc000000000;
+
+// Which plain kinds an instruction goes on with behind a token, outside delimiters.
+fn open_behind(k: u16) -> u64
+    ensures { λ r. ⌜ r ≡ open-behind (Kind k) ⌝ }
+{
+    if expects_continuation_operand(k) {
+        return PLAIN;
+    }
+    PLAIN_PUNCTUATION
+}
+
+// Where the first tokens, which are plain, end; and the last of them.
+struct Lead {
+    c: Cursor,
+    previous: Significant,
+}
+
+// The first rounds, for as long as one look at the token tells that it is taken and all that it changes is `previous`.
+fn plain_tokens(kinds: &[u16], ev: &mut [u16], c0: Cursor) -> Lead
+    requires { ⌜ Ready 0 (now kinds) c0 ⌝ }
+    ensures { λ r. ⌜ Led (now (kinds .entry)) (now (ev .entry)) c0 (now (ev .exit)) (r .c) (r .previous) ⌝ }
+{
+    let mut c = c0;
+    let mut previous = Significant::Nothing;
+    let mut mask = PLAIN;
+    while !eof(kinds, c.pos) {
+        let k = current(kinds, c.pos);
+        let v = event_of(k);
+        if !in_set(mask, v) {
+            return Lead { c, previous };
+        }
+        c = bump_plain(kinds, ev, c, v);
+        previous = Significant::Kind(k);
+        mask = open_behind(k);
+    }
+    Lead { c, previous }
+}
+
+// The rounds behind the token `previous0`.
+fn further_tokens(
     kinds: &[u16],
     ev: &mut [u16],
     dm: &mut [u16],
     ds: &mut [u32],
     c0: Cursor,
+    previous0: Significant,
 ) -> Cursor
     requires { ⌜ Ready 0 (now kinds) c0 ⌝ }
-    ensures { λ r. ⌜ Ran 2 0 0 (now (kinds .entry)) (scan instruction-round before-first) (world (now (ev .entry)) (now (dm .entry)) (now (ds .entry)) c0) (world (now (ev .exit)) (now (dm .exit)) (now (ds .exit)) r) ⌝ }
+    ensures { λ r. ⌜ Ran 2 0 0 (now (kinds .entry)) (scan instruction-round (behind previous0)) (world (now (ev .entry)) (now (dm .entry)) (now (ds .entry)) c0) (world (now (ev .exit)) (now (dm .exit)) (now (ds .exit)) r) ⌝ }
 {
     let mut c = c0;
     let mut nesting = Nesting::new();
-    let mut previous = Significant::Nothing;
+    let mut previous = previous0;
     while !eof(kinds, c.pos) {
         if at_instruction_end(kinds, c.pos, previous, nesting) {
             return c;
@@ -163,6 +210,22 @@ fn instruction_tokens(
         c = bump(kinds, ev, dm, ds, d);
     }
     c
+}
+
+fn instruction_tokens(
+    kinds: &[u16],
+    ev: &mut [u16],
+    dm: &mut [u16],
+    ds: &mut [u32],
+    c0: Cursor,
+) -> Cursor
+    requires { ⌜ Ready 0 (now kinds) c0 ⌝ }
+    ensures { λ r. ⌜ Ran 2 0 0 (now (kinds .entry)) (scan instruction-round before-first) (world (now (ev .entry)) (now (dm .entry)) (now (ds .entry)) c0) (world (now (ev .exit)) (now (dm .exit)) (now (ds .exit)) r) ⌝ }
+{
+    let lead = plain_tokens(kinds, ev, c0);
+    let c = lead.c;
+    let previous = lead.previous;
+    further_tokens(kinds, ev, dm, ds, c, previous)
 }
 
 pub fn parse_instruction(

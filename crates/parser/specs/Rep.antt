@@ -94,6 +94,10 @@ pub record Bumped (F : File) (w w′ : World) : Type 0 where
   pub moved : w .c .pos < length F → w′ .c .pos ≡ w .c .pos + 1
   pub paid : Paid 1 0 0 F (w .c) (w′ .c)
 
+-- a token whose event is all that is written
+pub record Took (F : File) (ev : List ℕ) (c : Cursor) (ev′ : List ℕ) (c′ : Cursor) : Type 0 where
+  pub bumped : (dm ds : List ℕ) → Bumped F (world ev dm ds c) (world ev′ dm ds c′)
+
 pub record Ran {A : Type 0} (a n m : ℕ) (F : File) (f : P A) (w w′ : World) : Type 0 where
   pub went : Went F f w w′
   pub paid : Paid a n m F (w .c) (w′ .c)

@@ -1,7 +1,7 @@
 -- Sets of numbers below 64 as the bits of a number. Assumes nothing.
 use Prim.Native.Nat.{ℕ, zero, suc, _+_, _≤_, _<_, _^_, _/_, _%_}
 use mathlib.Core.Path.{_≡_, refl, sym, ap, ap₂, _∙_}
-use mathlib.Core.Bool.{Bool, true, false, cond, _&&_, _||_, or-false, Bool·beq}
+use mathlib.Core.Bool.{Bool, true, false, cond, _&&_, _||_, or-false, false≢true, Bool·beq}
 use mathlib.Core.List.{List, [], _∷_}
 use native.Mathlib.Omega.{arith}
 use native.Mathlib.Nat.{add-zero, zero-add, add-suc, suc-add, le-of-suc-le-suc, not-suc-le-zero}
@@ -46,7 +46,7 @@ abbrev small : List ℕ → Bool
 small [] = true
 small (x ∷ xs) = ltb x 64 && small xs
 
-none-above : (ks : List ℕ) (k : ℕ) → T (small ks) → 64 ≤ k → oneOf ks k ≡ false
+pub none-above : (ks : List ℕ) (k : ℕ) → T (small ks) → 64 ≤ k → oneOf ks k ≡ false
 unfolding oneOf
 none-above [] k t h = refl
 none-above (x ∷ xs) k t h =
@@ -69,6 +69,15 @@ bits-are mask ks k t s = by-test (ltb k 64) refl
 pub bit-is : (mask x k : ℕ) → T (agree (low mask) (oneOf (x ∷ [])) 0 64) → T (small (x ∷ [])) → bit mask k ≡ eqb x k
 unfolding oneOf
 bit-is mask x k t s = bits-are mask (x ∷ []) k t s ∙ or-false (eqb x k)
+
+-- what holds of each number in a set: one computed test over 64 numbers
+pub each-of : (mask : ℕ) (p : ℕ → Bool) (k : ℕ) → T (agree (λ i. low mask i && p i) (low mask) 0 64) → bit mask k ≡ true → p k ≡ true
+unfolding bit
+each-of mask p k t = by-test (ltb k 64) refl
+  where
+    by-test : (u : Bool) → ltb k 64 ≡ u → cond u (low mask k) false ≡ true → p k ≡ true
+    by-test true e h = sym (ap (λ u. u && p k) h) ∙ agree-at (λ i. low mask i && p i) (low mask) 64 k t (ltb-true k 64 e) ∙ h
+    by-test false e h = absurd (false≢true h)
 
 -- the same of words, which stand in the high byte of an Ident
 abbrev pub keys : List ℕ → List ℕ

@@ -3,10 +3,10 @@ use grammar::message::Message;
 use grammar::message::number;
 ghost use mathlib.Core.Path.{_≡_};
 ghost use Prim.Native.Nat.{_≤_, _<_, _^_};
-ghost use lib.ListN.{length};
+ghost use lib.ListN.{length, getD};
 ghost use Rattle.grammar.specs.Message.{number as numberOf};
 ghost use Rattle.grammar.specs.Out.{kind};
-ghost use Rattle.parser.specs.Rep.{world, Put, Said, Bumped};
+ghost use Rattle.parser.specs.Rep.{world, Put, Said, Bumped, Took};
 
 pub struct Cursor {
     pub pos: usize,
@@ -68,7 +68,7 @@ pub fn error_here(dm: &mut [u16], ds: &mut [u32], c: Cursor, m: Message) -> Curs
 }
 
 // A token's event: Error's is 60, and a keyword's is Ident's.
-fn event_of(k: u16) -> u16
+pub fn event_of(k: u16) -> u16
     ensures { λ r. ⌜ r ≡ kind k ⌝ }
 {
     if 256 <= k {
@@ -78,6 +78,20 @@ fn event_of(k: u16) -> u16
         return 60;
     }
     k
+}
+
+// bump at a token that is not Error, and whose event is v.
+pub fn bump_plain(kinds: &[u16], ev: &mut [u16], c: Cursor, v: u16) -> Cursor
+    requires { ⌜ (c .events < 2 ^ 40) × (c .pos < length (now kinds)) × (length (now kinds) ≤ 2 ^ 20) × (getD (now kinds) (c .pos) 0 ≡ 1 → ⊥) × (v ≡ kind (getD (now kinds) (c .pos) 0)) ⌝ }
+    ensures { λ r. ⌜ Took (now (kinds .entry)) (now (ev .entry)) c (now (ev .exit)) r ⌝ }
+{
+    let next = c.pos + 1;
+    let b = put(ev, c, v);
+    Cursor {
+        pos: next,
+        events: b.events,
+        diags: b.diags,
+    }
 }
 
 pub fn bump(kinds: &[u16], ev: &mut [u16], dm: &mut [u16], ds: &mut [u32], c: Cursor) -> Cursor
@@ -97,12 +111,7 @@ pub fn bump(kinds: &[u16], ev: &mut [u16], dm: &mut [u16], ds: &mut [u32], c: Cu
                 diags: b.diags,
             };
         }
-        let b = put(ev, c, event_of(k));
-        return Cursor {
-            pos: next,
-            events: b.events,
-            diags: b.diags,
-        };
+        return bump_plain(kinds, ev, c, event_of(k));
     }
     c
 }

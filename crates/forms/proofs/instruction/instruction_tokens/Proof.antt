@@ -1,213 +1,35 @@
--- `forms::instruction::instruction_tokens`: `scan`, a token at a time; the counts are no more than the tokens taken. Assumes nothing.
-use mathlib.Core.Path.{refl, sym, ap, subst, _∙_}
-use Prim.Native.Nat.{_+_, _-_}
+-- `forms::instruction::instruction_tokens`: the plain tokens, and what goes on behind them. Assumes nothing.
+use mathlib.Core.Path.{refl, _∙_}
 use native.Mathlib.Omega.{arith}
-use lib.ListN.{length}
 use borrow.Author.Needs.{needs}
-use borrow.Author.Tests.{not-true, not-false}
-use Rattle.grammar.specs.Instruction.{Inst, instruction-round, before-first}
-use Rattle.grammar.specs.Look.{oneOf, is-trivia}
-use Rattle.grammar.specs.Nesting.{Below}
-use Rattle.grammar.specs.Run.{scan}
-use Rattle.grammar.specs.declared.nesting.Significant.{Significant}
-use Rattle.parser.specs.Rep.{world}
-use Rattle.forms.proofs.Rounds.{instruction-locals, instruction-next, instruction-stops, instruction-takes, instruction-counts}
-use Rattle.parser.proofs.Counts.{scan-counted, below-le, below-default}
-use Rattle.parser.proofs.Kit.{begins-as, goes-on, scan-stop, scan-end, scan-go, Held}
-use Rattle.parser.proofs.Laws.{eof-within, at-by}
 use Rattle.forms.proofs.instruction.instruction_tokens.Statement.{statement}
 use Rattle.forms.proofs.instruction.instruction_tokens.Tie as tie
 
-abbrev Inv-loop : tie.InvT-loop
-Inv-loop kinds ev₀ dm₀ ds₀ c₀ nesting₀ previous₀ ev dm ds c nesting previous =
-    Held 2 0 0 kinds (scan instruction-round before-first) (world ev₀ dm₀ ds₀ c₀)
-    (scan instruction-round (record { nesting = nesting; previous = previous })) (world ev dm ds c)
-    × Below (c .pos + 1) nesting
+plain-tokens-requires : tie.Need-plain-tokens-requires
+plain-tokens-requires c κs = search needs
 
-abbrev μ-loop : tie.MeasureT-loop
-μ-loop kinds ev₀ dm₀ ds₀ c₀ nesting₀ previous₀ ev dm ds c nesting previous = length kinds - c .pos
+further-tokens-requires : tie.Need-further-tokens-requires
+further-tokens-requires c κs = omega (arith, c .before .before .before .before .before .before .before .before .before .before .before .before .pre, c .before .before .before .before .before .before .plain-tokens .ensures .paid)
 
-new-requires : tie.Need-new-requires Inv-loop μ-loop
-new-requires c κs = search needs
+same-length : tie.Need-same-length
+same-length c = c .before .before .before .before .before .before .further-tokens .kept .1 .0 ∙ c .before .before .before .before .before .before .before .before .before .before .before .before .before .plain-tokens .kept .1 .0
 
-loop-holds : tie.Need-loop-holds Inv-loop μ-loop
-loop-holds c =
-    let c₁ = c .before .before .before .before .before in (
-      record {
-        paid = omega (arith, c₁ .pre);
-        ev = refl;
-        dm = refl;
-        ds = refl;
-        leads = begins-as (ap (λ n. scan instruction-round (record { nesting = n; previous = Significant.Nothing })) (sym (c .new .ensures)));
-      },
-      subst (Below _) (sym (c .new .ensures)) (below-default _ (omega arith)),
-    )
+same-length-2 : tie.Need-same-length-2
+same-length-2 c = search needs
 
-eof-requires : tie.Need-eof-requires Inv-loop μ-loop
-eof-requires c κs = search needs
+same-length-3 : tie.Need-same-length-3
+same-length-3 c = search needs
 
-at-instruction-end-requires : tie.Need-at-instruction-end-requires Inv-loop μ-loop
-at-instruction-end-requires c κs =
-    let c₁ = c .before .before .before .before .before .before .before .before in
-    omega (arith, c₁ .pre, c .before .before .loop .inv .0 .paid)
-
-same-length : tie.Need-same-length Inv-loop μ-loop
-same-length c =
-    let c₁ = c .before .before .before .before in
-    c₁ .loop .inv .0 .ev
-
-same-length-2 : tie.Need-same-length-2 Inv-loop μ-loop
-same-length-2 c =
-    let c₁ = c .before .before .before .before in
-    c₁ .loop .inv .0 .dm
-
-same-length-3 : tie.Need-same-length-3 Inv-loop μ-loop
-same-length-3 c =
-    let c₁ = c .before .before .before .before in
-    c₁ .loop .inv .0 .ds
-
-returns : tie.Need-returns Inv-loop μ-loop
+returns : tie.Need-returns
 returns c =
-    let c₁ = c .before .before .before .before in
-    let c₂ = c₁ .before .before .before .before .before .before in
-    let l : Inst = record { nesting = c₁ .loop .nesting; previous = c₁ .loop .previous } in
+    let c₁ = c .before .before .before .before .before .before in
+    let c₂ = c₁ .before .before .before .before .before .before .before in
+    let f = c₁ .further-tokens .ensures in
+    let l = c₂ .plain-tokens .ensures in
     record {
-      paid = omega (arith, c₂ .pre, c₁ .loop .inv .0 .paid);
-      went = c₁ .loop .inv .0 .leads .on _ _ (scan-stop instruction-round l (instruction-stops l _ (c .before .at-instruction-end .ensures) (c .if2 .taken))) .went;
-    }
-
-current-requires : tie.Need-current-requires Inv-loop μ-loop
-current-requires c κs = search needs
-
-is-trivia-requires : tie.Need-is-trivia-requires Inv-loop μ-loop
-is-trivia-requires c κs = search needs
-
-bump-requires : tie.Need-bump-requires Inv-loop μ-loop
-bump-requires c κs =
-    let c₁ = c .before .before .before .before .before .before .before .before .before .before in
-    let c₂ = c₁ .before .before .before .before .before .before in
-    omega (arith, c₂ .pre, c₁ .loop .inv .0 .paid)
-
-loop-less : tie.Need-loop-less Inv-loop μ-loop
-loop-less c =
-    let c₁ = c .before .before .before .before .before .before in
-    let c₂ = c₁ .before .before .before .before .before .before .before .before .before in
-    let c₃ = c₂ .before in
-    let c₄ = c₃ .before in
-    let c₅ = c₄ .before .before .before .before .before .before in
-    omega (arith, c₁ .bump .ensures .moved (eof-within (c₅ .args .kinds .now) (c₄ .loop .c .pos) (c₃ .eof .ensures) (not-true _ (c₂ .if1 .taken))))
-
-loop-again : tie.Need-loop-again Inv-loop μ-loop
-unfolding oneOf
-loop-again c =
-    let c₁ = c .before .before .before .before .before .before in
-    let c₂ = c₁ .before .before .before .before in
-    let c₃ = c₂ .before in
-    let c₄ = c₃ .before in
-    let c₅ = c₄ .before in
-    let c₆ = c₅ .before in
-    let c₇ = c₆ .before in
-    let c₈ = c₇ .before in
-    let c₉ = c₈ .before in
-    let c₁₀ = c₉ .before .before .before .before .before .before in
-    let l : Inst = record { nesting = c₉ .loop .nesting; previous = c₉ .loop .previous } in
-    let m = c₁ .bump .ensures .moved (eof-within (c₁₀ .args .kinds .now) (c₉ .loop .c .pos) (c₈ .eof .ensures) (not-true _ (c₇ .if1 .taken))) in
-    let z = sym (c₈ .eof .ensures) ∙ not-true _ (c₇ .if1 .taken) in
-    let t = at-by is-trivia _ refl (c₃ .is-trivia .ensures) (c₄ .current .ensures) in
-    let e = instruction-takes l _ (c₆ .at-instruction-end .ensures) (c₅ .if2 .left) (sym t ∙ c₂ .if3 .taken) in
-    let i = c₉ .loop .inv .0 in (
-      record {
-        paid = omega (arith, m, c₁₀ .pre, c₉ .loop .inv .0 .paid, c₁ .bump .ensures .paid);
-        ev = c₁ .bump .kept .1 .0 ∙ i .ev;
-        dm = c₁ .bump .kept .1 .1 .0 ∙ i .dm;
-        ds = c₁ .bump .kept .1 .1 .1 .0 ∙ i .ds;
-        leads = goes-on (i .leads) (λ w′ r k.
-            scan-go instruction-round l l z e (c₁ .bump .ensures .went) k);
-      },
-      below-le (omega (arith, m)) (c₉ .loop .inv .1),
-    )
-
-bump-nesting-requires : tie.Need-bump-nesting-requires Inv-loop μ-loop
-bump-nesting-requires c κs =
-    let c₁ = c .before .before .before .before .before .before .before .before .before in
-    let c₂ = c₁ .before .before .before .before .before .before in (
-      omega (arith, c₂ .pre, c₁ .loop .inv .0 .paid),
-      omega (arith, c₂ .pre, c₁ .loop .inv .0 .paid),
-      below-le (omega (arith, c₂ .pre, c₁ .loop .inv .0 .paid)) (c₁ .loop .inv .1),
-    )
-
-bump-requires-2 : tie.Need-bump-requires-2 Inv-loop μ-loop
-bump-requires-2 c κs =
-    let c₁ = c .before .before .before .before .before .before .before .before .before in
-    let c₂ = c₁ .before .before .before .before .before .before .before .before .before .before in
-    let c₃ = c₂ .before .before .before .before .before .before in
-    omega (arith, c₃ .pre, c₂ .loop .inv .0 .paid, c₁ .bump-nesting .ensures .pos, c₁ .bump-nesting .ensures .events, c₁ .bump-nesting .ensures .diags)
-
-loop-less-2 : tie.Need-loop-less-2 Inv-loop μ-loop
-loop-less-2 c =
-    let c₁ = c .before .before .before .before .before .before in
-    let c₂ = c₁ .before .before .before .before .before .before .before .before .before .before in
-    let c₃ = c₂ .before .before .before .before .before .before .before .before in
-    let c₄ = c₃ .before in
-    let c₅ = c₄ .before in
-    let c₆ = c₅ .before .before .before .before .before .before in
-    let h = eof-within (c₆ .args .kinds .now) (c₅ .loop .c .pos) (c₄ .eof .ensures) (not-true _ (c₃ .if1 .taken)) in
-    let m = c₁ .bump2 .ensures .moved (omega (arith, h, c₂ .bump-nesting .ensures .pos)) in
-    omega (arith, h, m, c₂ .bump-nesting .ensures .pos)
-
-loop-again-2 : tie.Need-loop-again-2 Inv-loop μ-loop
-unfolding oneOf
-loop-again-2 c =
-    let c₁ = c .before .before .before .before .before .before in
-    let c₂ = c₁ .before .before .before .before .before .before .before .before .before .before in
-    let c₃ = c₂ .before .before .before in
-    let c₄ = c₃ .before in
-    let c₅ = c₄ .before in
-    let c₆ = c₅ .before in
-    let c₇ = c₆ .before in
-    let c₈ = c₇ .before in
-    let c₉ = c₈ .before in
-    let c₁₀ = c₉ .before in
-    let c₁₁ = c₁₀ .before .before .before .before .before .before in
-    let l : Inst = record { nesting = c₁₀ .loop .nesting; previous = c₁₀ .loop .previous } in
-    let h = eof-within (c₁₁ .args .kinds .now) (c₁₀ .loop .c .pos) (c₉ .eof .ensures) (not-true _ (c₈ .if1 .taken)) in
-    let m = c₁ .bump2 .ensures .moved (omega (arith, h, c₂ .bump-nesting .ensures .pos)) in
-    let z = sym (c₉ .eof .ensures) ∙ not-true _ (c₈ .if1 .taken) in
-    let t = at-by is-trivia _ refl (c₄ .is-trivia .ensures) (c₅ .current .ensures) in
-    let e = instruction-counts l _ (c₇ .at-instruction-end .ensures) (c₆ .if2 .left) (sym t ∙ c₃ .if3 .left) in
-    let i = c₁₀ .loop .inv .0 in (
-      record {
-        paid = omega (arith, m, c₁₁ .pre, c₁₀ .loop .inv .0 .paid, c₂ .bump-nesting .ensures .pos, c₂ .bump-nesting .ensures .events, c₂ .bump-nesting .ensures .diags, c₁ .bump2 .ensures .paid);
-        ev = c₁ .bump2 .kept .1 .0 ∙ i .ev;
-        dm = c₁ .bump2 .kept .1 .1 .0 ∙ c₂ .bump-nesting .kept .0 ∙ i .dm;
-        ds = c₁ .bump2 .kept .1 .1 .1 .0 ∙ c₂ .bump-nesting .kept .1 .0 ∙ i .ds;
-        leads = goes-on (i .leads) (λ w′ r k.
-            scan-counted instruction-round (instruction-locals l _) l (c₅ .current .ensures) z e (c₂ .bump-nesting .ensures) (c₁ .bump2 .ensures .went)
-            (instruction-next l _ _ _ (c₅ .current .ensures)) k);
-      },
-      below-le (omega (arith, m, c₂ .bump-nesting .ensures .pos)) (c₂ .bump-nesting .ensures .below _ (c₁₀ .loop .inv .1)),
-    )
-
-same-length-4 : tie.Need-same-length-4 Inv-loop μ-loop
-same-length-4 c = c .before .before .loop .inv .0 .ev
-
-same-length-5 : tie.Need-same-length-5 Inv-loop μ-loop
-same-length-5 c = c .before .before .loop .inv .0 .dm
-
-same-length-6 : tie.Need-same-length-6 Inv-loop μ-loop
-same-length-6 c = c .before .before .loop .inv .0 .ds
-
-returns-2 : tie.Need-returns-2 Inv-loop μ-loop
-returns-2 c =
-    let c₁ = c .before .before .before .before .before .before .before .before in
-    record {
-      paid = omega (arith, c₁ .pre, c .before .before .loop .inv .0 .paid);
-      went = c .before .before .loop .inv .0 .leads .on _ _ (scan-end instruction-round _ (sym (c .before .eof .ensures) ∙ not-false _ (c .if1 .left))) .went;
+      went = l .leads _ _ _ _ (record { went = f .went; val = refl }) .went;
+      paid = omega (arith, f .paid, l .paid);
     }
 
 pub instruction-tokens-spec : {M : Type 1} → statement M
-instruction-tokens-spec =
-    tie.close
-    (tie.spec Inv-loop μ-loop new-requires loop-holds eof-requires at-instruction-end-requires same-length same-length-2 same-length-3
-    returns current-requires is-trivia-requires bump-requires loop-less loop-again bump-nesting-requires bump-requires-2 loop-less-2
-    loop-again-2 same-length-4 same-length-5 same-length-6 returns-2)
+instruction-tokens-spec = tie.close (tie.spec plain-tokens-requires further-tokens-requires same-length same-length-2 same-length-3 returns)

@@ -2,7 +2,7 @@
 use mathlib.Core.Path.{refl}
 use native.Mathlib.Omega.{arith}
 use borrow.Author.Needs.{needs}
-use Rattle.parser.proofs.Laws.{bump-bad, bump-plain, take-end}
+use Rattle.parser.proofs.Laws.{bump-bad, take-end}
 use Rattle.parser.proofs.cursor.bump.Statement.{statement}
 use Rattle.parser.proofs.cursor.bump.Tie as tie
 
@@ -46,24 +46,14 @@ returns c =
 event-of-requires : tie.Need-event-of-requires
 event-of-requires c κs = search needs
 
-put-requires-2 : tie.Need-put-requires-2
-put-requires-2 c κs = search needs
+bump-plain-requires : tie.Need-bump-plain-requires
+bump-plain-requires c κs = search needs
 
 same-length-4 : tie.Need-same-length-4
 same-length-4 c = search needs
 
 returns-2 : tie.Need-returns-2
-returns-2 c =
-    let put2ᶜ = c .before .before .put2 in
-    let event-ofᶜ = c .before .before .before .event-of in
-    let if2ᶜ = c .before .before .before .before .before .if2 in
-    let if1ᶜ = c .before .before .before .before .before .before .before .if1 in
-    let argsᶜ = c .before .before .before .before .before .before .before .before .before .before .before .before .args in
-    record {
-      went = bump-plain _ (if1ᶜ .taken) (if2ᶜ .left) (event-ofᶜ .ensures) (put2ᶜ .ensures .wrote (argsᶜ .kinds .now) _ _);
-      moved = λ h. refl;
-      paid = omega (arith, put2ᶜ .ensures);
-    }
+returns-2 c = c .before .before .bump-plain .ensures .bumped _ _
 
 returns-3 : tie.Need-returns-3
 returns-3 c = record { went = take-end (c .if1 .left); moved = λ h. omega arith; paid = omega arith }
@@ -71,4 +61,4 @@ returns-3 c = record { went = take-end (c .if1 .left); moved = λ h. omega arith
 pub bump-spec : {M : Type 1} → statement M
 bump-spec =
     tie.close
-    (tie.spec mul-k shared-slice-read-k add-next error-here-requires put-requires same-length same-length-2 same-length-3 returns event-of-requires put-requires-2 same-length-4 returns-2 returns-3)
+    (tie.spec mul-k shared-slice-read-k add-next error-here-requires put-requires same-length same-length-2 same-length-3 returns event-of-requires bump-plain-requires same-length-4 returns-2 returns-3)
