@@ -7,7 +7,7 @@ use native.Mathlib.Omega.{arith}
 use lib.ListN.{length}
 use Rattle.lexer.specs.Syntax
 use Rattle.grammar.specs.Words.{Sym, File, from, is, DO, ELSE, END, IF, REPEAT, WHILE}
-use Rattle.grammar.specs.Look.{oneOf, at, eof, current, regular-trivia, at-bare-while, control-flow, starts-instruction, at-terminator, at-stray-else, at-regular-trivia, is-top-level-starter, at-top-level-form-starter-in-block}
+use Rattle.grammar.specs.Look.{oneOf, at, eof, current, name-like, regular-trivia, at-prefixed-keyword, at-bare-while, control-flow, starts-instruction, at-terminator, at-stray-else, at-regular-trivia, is-top-level-starter, at-top-level-form-starter-in-block}
 use Rattle.grammar.specs.Run.{P, Block, pure, peek, inNode, pick, take, _>>=_, _>>_, if_then_else_}
 use Rattle.grammar.specs.State.{run}
 use Rattle.grammar.specs.declared.message.Message.{Message}
@@ -35,6 +35,18 @@ use Rattle.blocks.specs.Shapes.{keyword-line, else-line, else-part, behi
 -- a test of its number
 pub at-number : (t : Sym → Bool) (r : List Sym) → t Syntax.Tombstone ≡ false → {k : Sym} {x b : Bool} → k ≡ current r → x ≡ t k → x ≡ b → at t r ≡ b
 at-number t r n e f h = sym (at-current t r n) ∙ ap t (sym e) ∙ sym f ∙ h
+
+-- at an Ident that is no word
+ident-here : (terminators : Terminators) (r : List Sym) → arm-of terminators (Syntax.Ident ∷ r) ≡ Arm.Takes Taken.Instruction
+unfolding arm-of inner-arm oneOf at eof name-like starts-instruction is-top-level-starter at-prefixed-keyword at-top-level-form-starter-in-block at-bare-while at-terminator at-stray-else
+ident-here Terminators.End r = refl
+ident-here Terminators.ElseEnd r = refl
+ident-here Terminators.While r = refl
+
+pub ident-arm : (terminators : Terminators) (r : List Sym) {k : Sym} → k ≡ current r → k ≡ Syntax.Ident → Arm.Takes Taken.Instruction ≡ arm-of terminators r
+unfolding current
+ident-arm terminators [] c e = absurd (omega (arith, c, e))
+ident-arm terminators (s ∷ r) c e = sym (ident-here terminators r) ∙ ap (λ i. arm-of terminators (i ∷ r)) (sym e ∙ c)
 
 pub at-or : (s t : Sym → Bool) (r : List Sym) → at (λ k. s k || t k) r ≡ (at s r || at t r)
 unfolding at

@@ -46,6 +46,8 @@ pub struct Seen {
     pub known: Remembered,
 }
 
+const IDENT: u16 = 31;
+
 // The words `do`, `if`, `repeat` and `while`, as bits.
 const CONTROL_FLOW: u64 = 0x14110;
 
@@ -104,7 +106,8 @@ fn inner_arm(kinds: &[u16], p: usize, known: Remembered, item: bool) -> Seen
     }
 }
 
-// The tests of a round. Trivia is met most, and is neither the end of the file nor a terminator, so it is tested first.
+// The tests of a round. Trivia and identifiers that are no words are met most, and are neither the end of the file nor a
+// terminator nor a form's or an item's start, so they are tested first.
 pub fn arm_here(
     kinds: &[u16],
     p: usize,
@@ -115,9 +118,16 @@ pub fn arm_here(
     requires { ⌜ (p ≤ length (now kinds)) × (DocKnown (now kinds) p known) × (ItemAt (now kinds) p item) ⌝ }
     ensures { λ r. ⌜ (r .arm ≡ arm-of terminators (drop p (now (kinds .entry)))) × (DocKnown (now (kinds .entry)) p (r .known)) ⌝ }
 {
-    if is_regular_trivia(current(kinds, p)) {
+    let k = current(kinds, p);
+    if is_regular_trivia(k) {
         return Seen {
             arm: Arm::Takes(Taken::Trivia),
+            known: known,
+        };
+    }
+    if k == IDENT {
+        return Seen {
+            arm: Arm::Takes(Taken::Instruction),
             known: known,
         };
     }
