@@ -15,6 +15,7 @@ pub mod shapes;
 pub mod spellings;
 pub mod spread;
 pub mod utf8;
+pub mod written;
 
 use random::Random;
 use reference::MAX_SOURCE;

@@ -1,6 +1,7 @@
-//! What is read: scripts of three sizes; for the lexers 1 MiB, for the readers 64 KiB of one thing.
+//! What is read: scripts of three sizes, as people write them and dense ones from a generator; for the
+//! lexers 1 MiB, for the readers 64 KiB of one thing.
 
-use corpus::shapes;
+use corpus::{shapes, written};
 
 pub struct Input {
     pub name: &'static str,
@@ -33,8 +34,11 @@ pub fn for_readers() -> impl Iterator<Item = Input> {
     scripts().chain(shapes::SHAPES.iter().map(sized))
 }
 
-fn scripts() -> impl Iterator<Item = Input> {
-    [("script 4 KiB", 4 * KIB), ("script 64 KiB", 64 * KIB), ("script 1 MiB", MIB)]
-        .into_iter()
-        .map(|(name, size)| Input { name, bytes: shapes::script(size) })
+pub fn scripts() -> impl Iterator<Item = Input> {
+    let written =
+        [("written 4 KiB", 4 * KIB), ("written 64 KiB", 64 * KIB), ("written 1 MiB", MIB)];
+    let dense = [("dense 4 KiB", 4 * KIB), ("dense 64 KiB", 64 * KIB), ("dense 1 MiB", MIB)];
+    let written = written.map(|(name, size)| Input { name, bytes: written::written(size) });
+    let dense = dense.map(|(name, size)| Input { name, bytes: shapes::script(size) });
+    written.into_iter().chain(dense)
 }
