@@ -30,17 +30,33 @@ next-byte s at h = rw (add-one, drop-cons s at 0)
 
 -- advance_while, at the end, at a byte that goes on and at another
 module _ (p : ℕ → Bool) (s : List ℕ) (at : ℕ) where
-  pub run-none : length s ≤ at → advance-while p (drop at s) ≡ 0
+  run-none : length s ≤ at → advance-while p (drop at s) ≡ 0
   unfolding advance-while
   run-none h = rw (drop-of-length-le s h)
 
-  pub run-more : at < length s → p (getD s at 0) ≡ true → advance-while p (drop at s) ≡ suc (advance-while p (drop (at + 1) s))
+  run-more : at < length s → p (getD s at 0) ≡ true → advance-while p (drop at s) ≡ suc (advance-while p (drop (at + 1) s))
   unfolding advance-while
   run-more h e = rw (next-byte s at h, e)
 
-  pub run-stop : at < length s → p (getD s at 0) ≡ false → advance-while p (drop at s) ≡ 0
+  run-stop : at < length s → p (getD s at 0) ≡ false → advance-while p (drop at s) ≡ 0
   unfolding advance-while
   run-stop h e = rw (next-byte s at h, e)
+
+-- the run from `a` on comes to `at`
+pub record Reaches (p : ℕ → Bool) (s : List ℕ) (a at : ℕ) : Type 0 where
+  pub within : at ≤ length s
+  pub goes : a + advance-while p (drop a s) ≡ at + advance-while p (drop at s)
+
+pub reaches-all : {p : ℕ → Bool} {s : List ℕ} {a at : ℕ} → Reaches p s a at → length s ≤ at → at ≡ a + advance-while p (drop a s)
+reaches-all {p} {s} {a} {at} g h = omega (arith, run-none p s at h)
+
+-- a byte further, and the end of the run
+module _ {p : ℕ → Bool} {s : List ℕ} {a at : ℕ} (g : Reaches p s a at) (h : at < length s) where
+  pub reaches-next : {n : ℕ} → n ≡ at + 1 → p (getD s at 0) ≡ true → Reaches p s a n
+  reaches-next {n} q e = rw q (record { within = omega arith; goes = omega (arith, run-more p s at h e) })
+
+  pub reaches-end : p (getD s at 0) ≡ false → at ≡ a + advance-while p (drop a s)
+  reaches-end e = omega (arith, run-stop p s at h e)
 
 -- current_char, at the end and before it
 module _ (x : ℕ) (s : List ℕ) (at : ℕ) where
@@ -88,9 +104,12 @@ pub placed-no : (x : ℕ) (f g : Lex) (n : ℕ) (r : List ℕ) → starts x r �
 placed-no x f g n r e = ap (placed n) (sym (follow-no x f g r e))
 
 -- a run goes over bytes that all hold
-pub run-over : (p : ℕ → Bool) (s : List ℕ) (n at : ℕ) → at + n ≤ length s → AllHold p s at n → advance-while p (drop at s) ≡ n + advance-while p (drop (at + n) s)
+run-over : (p : ℕ → Bool) (s : List ℕ) (n at : ℕ) → at + n ≤ length s → AllHold p s at n → advance-while p (drop at s) ≡ n + advance-while p (drop (at + n) s)
 run-over p s zero at h all = rw (add-zero, zero-add)
 run-over p s (suc n) at h all =
     let e = run-more p s at (omega arith) (rw add-zero at (all 0 (omega arith))) in
     let i = run-over p s n (at + 1) (omega arith) (λ k l. rw (add-assoc, one-add) (all (suc k) (omega arith))) in
     e ∙ ap suc i ∙ rw (add-assoc, one-add, suc-add)
+
+pub reaches-over : {p : ℕ → Bool} {s : List ℕ} {a at : ℕ} → Reaches p s a at → (n : ℕ) → at + n ≤ length s → AllHold p s at n → Reaches p s a (at + n)
+reaches-over {p} {s} {a} {at} g n h all = record { within = h; goes = omega (arith, run-over p s n at h all) }

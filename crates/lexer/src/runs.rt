@@ -56,7 +56,7 @@ pub fn line_rest(source: &[u8], from: usize) -> usize
 }
 
 // Where the word from `from` on ends: advance_while over letters, digits and '_', one load a byte.
-pub fn word_end(table: &[u8; 256], source: &[u8], from: usize) -> usize
+fn word_tail(table: &[u8; 256], source: &[u8], from: usize) -> usize
     requires { ⌜ (now table ≡ class-table) × (from ≤ length (now source)) ⌝ }
     ensures { λ r. ⌜ r ≡ from + advance-while word (drop from (now (source .entry))) ⌝ }
 {
@@ -68,6 +68,30 @@ pub fn word_end(table: &[u8; 256], source: &[u8], from: usize) -> usize
         at += 1;
     }
     at
+}
+
+// The same, with one test of the length for four bytes.
+pub fn word_end(table: &[u8; 256], source: &[u8], from: usize) -> usize
+    requires { ⌜ (now table ≡ class-table) × (from ≤ length (now source)) ⌝ }
+    ensures { λ r. ⌜ r ≡ from + advance-while word (drop from (now (source .entry))) ⌝ }
+{
+    let mut at = from;
+    while 4 <= source.len() - at {
+        if !is_word(table, source[at]) {
+            return at;
+        }
+        if !is_word(table, source[at + 1]) {
+            return at + 1;
+        }
+        if !is_word(table, source[at + 2]) {
+            return at + 2;
+        }
+        if !is_word(table, source[at + 3]) {
+            return at + 3;
+        }
+        at += 4;
+    }
+    word_tail(table, source, at)
 }
 
 // current_char() == Some(x)

@@ -1,12 +1,15 @@
 -- What the pass over the tokens keeps: at each index, the tokens that are left. Assumes nothing.
 use Prim.Native.Nat.{ℕ, _+_, _*_, _-_, _≤_, _<_}
 use mathlib.Core.Path.{_≡_, refl, sym, ap, _∙_}
-use mathlib.Core.Bool.{Bool, true, false}
+use mathlib.Core.Bool.{Bool, true, false, cond}
 use mathlib.Core.List.{List, [], _∷_, map}
 use native.Mathlib.Omega.{arith}
+use native.Mathlib.Nat.{add-zero}
 use borrow.Author.Tests.{lt-ltb}
-use lib.ListN.{length, getD, take, drop, set, length-set, length-map, length-append, length-drop}
-use lib.Seq.{drop-set-lt, drop-drop, drop-append-seam, take-append-seam, map-set-same}
+use lib.Dec.{eqb}
+use lib.ListN.{length, getD, take, drop, set, length-set, length-map, length-append, length-drop, List·getD-append}
+use lib.Seq.{drop-set-lt, drop-drop, drop-append-seam, take-append-seam, map-set-same, getD-drop, set-getD}
+use Rattle.lexer.specs.Syntax.{Ident}
 use Rattle.lexer.specs.Lexer.{Token, tokenize}
 use Rattle.lexer.specs.Over.{over, over-all}
 use Rattle.lexer.specs.Tokens.{ends, token-kinds, token-ends}
@@ -18,7 +21,8 @@ use Rattle.grammar.specs.Source.{syms}
 use Rattle.marks.specs.Marks.{is-refused, first-refused}
 use Rattle.marks.specs.Kinds.{low-kinds}
 use Rattle.marks.specs.Laws.{kind-of-sym}
-use Rattle.marks.specs.Code.{number-of, kept, refused, Passed}
+use Rattle.marks.specs.Code.{number, number-of, kept, refused, Passed}
+use Rattle.marks.specs.Filter.{Unnumbered}
 use Rattle.marks.proofs.Lists.{head-is, tail-is, inside}
 
 -- token i starts at `start`, and `rest` is left
@@ -54,6 +58,15 @@ begins s kinds ends′ k e = record {
   filled = every-filled s;
 }
 
+-- a text with no number has none at any kind
+unnumbered : (kind : ℕ) (text : List ℕ) → number text ≡ 0 → number-of kind text ≡ 0
+unfolding number-of
+unnumbered kind text e = by-kind (eqb Ident kind)
+  where
+    by-kind : (u : Bool) → cond u (number text) 0 ≡ 0
+    by-kind true = e
+    by-kind false = refl
+
 -- within the kinds a token is left
 pub record Here (s kinds₀ ends′ kinds : List ℕ) (start i : ℕ) : Type 0 where
   pub token : Token
@@ -86,6 +99,9 @@ module _ {s kinds₀ ends′ kinds : List ℕ} {start i : ℕ} {t : Token} {ts :
   text-is =
       let n : getD ends′ i 0 - start ≡ length (t .text) = omega (arith, end-is) in
       ap (λ (m : ℕ). take m (drop start s)) n ∙ ap (take (length (t .text))) (g .bytes-left) ∙ take-append-seam (t .text) (bytes ts)
+
+  byte-is : (k : ℕ) → k < length (t .text) → getD s (start + k) 0 ≡ getD (t .text) k 0
+  byte-is k h = sym (getD-drop start s k 0) ∙ ap (λ (l : List ℕ). getD l k 0) (g .bytes-left) ∙ List·getD-append (t .text) (bytes ts) 0 k h
 
   -- by the number of the text: the token is refused
   module _ (n : ℕ) (e : n ≡ number-of (getD kinds i 0) (take (getD ends′ i 0 - start) (drop start s))) where
@@ -139,6 +155,19 @@ module _ {s kinds₀ ends′ kinds : List ℕ} {start i : ℕ} {t : Token} {ts :
         same-kind v q =
             ap kindOf q ∙ kind-of-sym (t .kind) (t .text) (g .low .0)
             ∙ sym (ap kindOf kind-is ∙ kind-of-kind (t .kind) (g .low .0))
+
+  -- a token that is no word by its first byte, its last byte and its length stays as it is
+  module _ (u : Unnumbered (getD s start 0) (getD s (getD ends′ i 0 - 1) 0) (getD ends′ i 0 - start)) where
+    no-word : number (t .text) ≡ 0
+    no-word =
+        let f = g .filled .0 in
+        let e = end-is in
+        let b = byte-is 0 f in
+        let z = byte-is (length (t .text) - 1) (omega arith) in
+        u (t .text) (sym b ∙ ap (λ (k : ℕ). getD s k 0) (add-zero start)) (sym z ∙ ap (λ (k : ℕ). getD s k 0) (omega arith)) (omega arith)
+
+    pub skips : Going s kinds₀ ends′ kinds (getD ends′ i 0) (i + 1) ts
+    skips = rw (add-zero, set-getD) at (goes-on 0 (sym (ap (number-of (getD kinds i 0)) text-is ∙ unnumbered (getD kinds i 0) (t .text) no-word)) (omega arith))
 
 pub ended : {s kinds₀ ends′ kinds : List ℕ} {start i : ℕ} {rest : List Token} → Going s kinds₀ ends′ kinds start i rest → length kinds ≤ i
     → kinds₀ ≡ token-kinds s → Passed s kinds₀ Nothing kinds

@@ -3,3 +3,4 @@ pub mod Marks
 pub mod Kinds
 pub mod Laws
 pub mod Code
+pub mod Filter

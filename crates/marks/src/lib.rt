@@ -8,6 +8,7 @@ ghost use Rattle.grammar.specs.Words.{kindOf};
 ghost use Rattle.marks.specs.Marks.{Marked};
 ghost use Rattle.marks.specs.Code.{number-of, Passed};
 
+mod filter;
 mod word;
 
 // Where the first Ident `use` or `extern` starts, if there is one.
@@ -27,21 +28,25 @@ fn number_of(kind: u16, text: &[u8]) -> u16
     0
 }
 
-// Marks the kinds up to the first refused token.
+// Marks the kinds up to the first refused token. Most tokens do not pass the filter, and their kinds stay.
 fn pass(source: &[u8], kinds: &mut [u16], ends: &[u32]) -> Refusal
     requires { ⌜ (now kinds ≡ token-kinds (now source)) × (now ends ≡ token-ends (now source)) ⌝ }
     ensures { λ r. ⌜ Passed (now (source .entry)) (now (kinds .entry)) r (now (kinds .exit)) ⌝ }
 {
+    let first = filter::FIRST;
+    let last = filter::LAST;
     let mut start = 0;
     let mut i = 0;
     while i < kinds.len() {
         let end = ends[i] as usize;
-        let kind = kinds[i];
-        let number = number_of(kind, &source[start..end]);
-        if 16 < number {
-            return Refusal::At(start);
+        if filter::may_be(&first, &last, source[start], source[end - 1], end - start) {
+            let kind = kinds[i];
+            let number = number_of(kind, &source[start..end]);
+            if 16 < number {
+                return Refusal::At(start);
+            }
+            kinds[i] = kind + 256 * number;
         }
-        kinds[i] = kind + 256 * number;
         start = end;
         i += 1;
     }

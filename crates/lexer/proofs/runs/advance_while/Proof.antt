@@ -1,26 +1,23 @@
 -- `lexer::runs::advance_while` meets its contract: what the run takes from its start is what it takes from the cursor on.
 -- Assumes nothing.
-use Prim.Native.Nat.{_≤_, _+_, _-_}
-use mathlib.Core.Path.{_≡_, sym, _∙_}
-use native.Mathlib.Omega.{arith}
+use Prim.Native.Nat.{_-_}
+use mathlib.Core.Path.{refl, sym, _∙_}
 use borrow.Author.Needs.{needs}
 use borrow.Author.Tests.{not-true, not-false}
-use lib.ListN.{length, drop}
+use lib.ListN.{length}
 use Rattle.lexer.specs.Chars.{holds}
-use Rattle.lexer.specs.Lexer.{advance-while}
-use Rattle.lexer.proofs.Laws.{run-none, run-more, run-stop}
+use Rattle.lexer.proofs.Laws.{Reaches, reaches-all, reaches-next, reaches-end}
 use Rattle.lexer.proofs.runs.advance_while.Statement.{statement}
 use Rattle.lexer.proofs.runs.advance_while.Tie as tie
 
 abbrev Inv-loop : tie.InvT-loop
-Inv-loop run source from at₀ at =
-    (at ≤ length source) × (from + advance-while (holds run) (drop from source) ≡ at + advance-while (holds run) (drop at source))
+Inv-loop run source from at₀ at = Reaches (holds run) source from at
 
 abbrev μ-loop : tie.MeasureT-loop
 μ-loop run source from at₀ at = length source - at
 
 loop-holds : tie.Need-loop-holds Inv-loop μ-loop
-loop-holds c = search needs
+loop-holds c = record { within = search needs; goes = refl }
 
 shared-slice-read-goes-on : tie.Need-shared-slice-read-goes-on Inv-loop μ-loop
 shared-slice-read-goes-on c = search needs
@@ -29,10 +26,7 @@ goes-on-requires : tie.Need-goes-on-requires Inv-loop μ-loop
 goes-on-requires c κs = search needs
 
 returns : tie.Need-returns Inv-loop μ-loop
-returns c =
-    let l = c .before .before .before .before .loop in
-    let a = c .before .before .before .before .before .before .args in
-    omega (arith, l .inv .1, run-stop (holds (a .run)) (a .source .now) (l .at) (search needs) (sym (c .before .goes-on .ensures) ∙ not-true _ (c .if1 .taken)))
+returns c = reaches-end (c .before .before .before .before .loop .inv) (search needs) (sym (c .before .goes-on .ensures) ∙ not-true _ (c .if1 .taken))
 
 add-at : tie.Need-add-at Inv-loop μ-loop
 add-at c = search needs
@@ -41,16 +35,10 @@ loop-less : tie.Need-loop-less Inv-loop μ-loop
 loop-less c = search needs
 
 loop-again : tie.Need-loop-again Inv-loop μ-loop
-loop-again c =
-    let l = c .before .before .before .before .loop in
-    let a = c .before .before .before .before .before .before .args in
-    (search needs, omega (arith, l .inv .1, run-more (holds (a .run)) (a .source .now) (l .at) (search needs) (sym (c .before .goes-on .ensures) ∙ not-false _ (c .if1 .left))))
+loop-again c = reaches-next (c .before .before .before .before .loop .inv) (search needs) refl (sym (c .before .goes-on .ensures) ∙ not-false _ (c .if1 .left))
 
 returns-2 : tie.Need-returns-2 Inv-loop μ-loop
-returns-2 c =
-    let l = c .before .loop in
-    let a = c .before .before .before .args in
-    omega (arith, l .inv .1, run-none (holds (a .run)) (a .source .now) (l .at) (search needs))
+returns-2 c = reaches-all (c .before .loop .inv) (search needs)
 
 pub advance-while-spec : {M : Type 1} → statement M
 advance-while-spec =

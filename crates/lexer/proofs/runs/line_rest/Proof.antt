@@ -1,23 +1,22 @@
 -- `lexer::runs::line_rest` meets its contract: a block with no line end is passed whole. Assumes nothing.
-use Prim.Native.Nat.{_+_, _-_, _≤_}
-use mathlib.Core.Path.{_≡_, sym, _∙_}
+use Prim.Native.Nat.{_-_}
+use mathlib.Core.Path.{refl, sym, _∙_}
 use native.Mathlib.Omega.{arith}
 use borrow.Author.Needs.{needs}
-use lib.ListN.{length, drop}
-use Rattle.lexer.specs.Lexer.{advance-while, in-line}
-use Rattle.lexer.proofs.Laws.{run-over}
+use lib.ListN.{length}
+use Rattle.lexer.specs.Lexer.{in-line}
+use Rattle.lexer.proofs.Laws.{Reaches, reaches-over}
 use Rattle.lexer.proofs.runs.line_rest.Statement.{statement}
 use Rattle.lexer.proofs.runs.line_rest.Tie as tie
 
 abbrev Inv-loop : tie.InvT-loop
-Inv-loop source from at₀ at =
-    (at ≤ length source) × (from + advance-while in-line (drop from source) ≡ at + advance-while in-line (drop at source))
+Inv-loop source from at₀ at = Reaches in-line source from at
 
 abbrev μ-loop : tie.MeasureT-loop
 μ-loop source from at₀ at = length source - at
 
 loop-holds : tie.Need-loop-holds Inv-loop μ-loop
-loop-holds c = search needs
+loop-holds c = record { within = search needs; goes = refl }
 
 sub-loop : tie.Need-sub-loop Inv-loop μ-loop
 sub-loop c = search needs
@@ -29,7 +28,7 @@ advance-while-requires : tie.Need-advance-while-requires Inv-loop μ-loop
 advance-while-requires c κs = search needs
 
 returns : tie.Need-returns Inv-loop μ-loop
-returns c = c .advance-while .ensures ∙ sym (c .before .before .before .before .loop .inv .1)
+returns c = c .advance-while .ensures ∙ sym (c .before .before .before .before .loop .inv .goes)
 
 add-at : tie.Need-add-at Inv-loop μ-loop
 add-at c = search needs
@@ -38,16 +37,13 @@ loop-less : tie.Need-loop-less Inv-loop μ-loop
 loop-less c = search needs
 
 loop-again : tie.Need-loop-again Inv-loop μ-loop
-loop-again c =
-    let l = c .before .before .before .loop in
-    let s = c .before .before .before .before .before .args .source .now in
-    (omega arith, omega (arith, l .inv .1, run-over in-line s 16 (l .at) (omega arith) (c .before .line-end-within .ensures (c .if1 .left))))
+loop-again c = reaches-over (c .before .before .before .loop .inv) 16 (omega arith) (c .before .line-end-within .ensures (c .if1 .left))
 
 advance-while-requires-2 : tie.Need-advance-while-requires-2 Inv-loop μ-loop
 advance-while-requires-2 c κs = search needs
 
 returns-2 : tie.Need-returns-2 Inv-loop μ-loop
-returns-2 c = c .advance-while2 .ensures ∙ sym (c .before .before .loop .inv .1)
+returns-2 c = c .advance-while2 .ensures ∙ sym (c .before .before .loop .inv .goes)
 
 pub line-rest-spec : {M : Type 1} → statement M
 line-rest-spec =

@@ -1,26 +1,39 @@
--- `lexer::runs::word_end` meets its contract, as `advance_while` does.
--- Assumes nothing.
-use Prim.Native.Nat.{_≤_, _+_, _-_}
-use mathlib.Core.Path.{_≡_, sym, _∙_}
+-- `lexer::runs::word_end` meets its contract: each byte that goes on is one step. Assumes nothing.
+use Prim.Native.Nat.{ℕ, _+_, _-_}
+use mathlib.Core.Path.{refl, sym, _∙_}
 use native.Mathlib.Omega.{arith}
 use borrow.Author.Needs.{needs}
 use borrow.Author.Tests.{not-true, not-false}
-use lib.ListN.{length, drop}
+use lib.ListN.{length}
 use Rattle.lexer.specs.Chars.{word}
-use Rattle.lexer.specs.Lexer.{advance-while}
-use Rattle.lexer.proofs.Laws.{run-none, run-more, run-stop}
+use Rattle.lexer.proofs.Laws.{Reaches, reaches-next, reaches-end}
 use Rattle.lexer.proofs.runs.word_end.Statement.{statement}
 use Rattle.lexer.proofs.runs.word_end.Tie as tie
 
 abbrev Inv-loop : tie.InvT-loop
-Inv-loop table source from at₀ at =
-    (at ≤ length source) × (from + advance-while word (drop from source) ≡ at + advance-while word (drop at source))
+Inv-loop table source from at₀ at = Reaches word source from at
 
 abbrev μ-loop : tie.MeasureT-loop
 μ-loop table source from at₀ at = length source - at
 
+-- the run comes to n bytes behind the cursor
+abbrev To : tie.In-loop Inv-loop μ-loop → ℕ → Type 0
+To c n = Reaches word (c .before .before .before .args .source .now) (c .before .before .before .args .from) (c .before .loop .at + n)
+
+one : (c : tie.Else1 Inv-loop μ-loop) → To (c .before .before .before) 1
+one c = reaches-next (c .before .before .before .before .loop .inv) (omega arith) (omega arith) (sym (c .before .is-word .ensures) ∙ not-false _ (c .if1 .left))
+
+two : (c : tie.Else2 Inv-loop μ-loop) → To (c .before .before .before .before .before .before) 2
+two c = reaches-next (one (c .before .before .before)) (omega arith) (omega arith) (sym (c .before .is-word2 .ensures) ∙ not-false _ (c .if2 .left))
+
+three : (c : tie.Else3 Inv-loop μ-loop) → To (c .before .before .before .before .before .before .before .before .before) 3
+three c = reaches-next (two (c .before .before .before)) (omega arith) (omega arith) (sym (c .before .is-word3 .ensures) ∙ not-false _ (c .if3 .left))
+
 loop-holds : tie.Need-loop-holds Inv-loop μ-loop
-loop-holds c = search needs
+loop-holds c = record { within = search needs; goes = refl }
+
+sub-loop : tie.Need-sub-loop Inv-loop μ-loop
+sub-loop c = search needs
 
 shared-slice-read-is-word : tie.Need-shared-slice-read-is-word Inv-loop μ-loop
 shared-slice-read-is-word c = search needs
@@ -29,10 +42,52 @@ is-word-requires : tie.Need-is-word-requires Inv-loop μ-loop
 is-word-requires c κs = search needs
 
 returns : tie.Need-returns Inv-loop μ-loop
-returns c =
-    let l = c .before .before .before .before .loop in
-    let a = c .before .before .before .before .before .before .args in
-    omega (arith, l .inv .1, run-stop word (a .source .now) (l .at) (search needs) (sym (c .before .is-word .ensures) ∙ not-true _ (c .if1 .taken)))
+returns c = reaches-end (c .before .before .before .before .loop .inv) (omega arith) (sym (c .before .is-word .ensures) ∙ not-true _ (c .if1 .taken))
+
+add-is-word : tie.Need-add-is-word Inv-loop μ-loop
+add-is-word c = search needs
+
+shared-slice-read-is-word-2 : tie.Need-shared-slice-read-is-word-2 Inv-loop μ-loop
+shared-slice-read-is-word-2 c = search needs
+
+is-word-requires-2 : tie.Need-is-word-requires-2 Inv-loop μ-loop
+is-word-requires-2 c κs = search needs
+
+add-result : tie.Need-add-result Inv-loop μ-loop
+add-result c = search needs
+
+returns-2 : tie.Need-returns-2 Inv-loop μ-loop
+returns-2 c = reaches-end (one (c .before .before .before)) (omega arith) (sym (c .before .is-word2 .ensures) ∙ not-true _ (c .if2 .taken))
+
+add-is-word-2 : tie.Need-add-is-word-2 Inv-loop μ-loop
+add-is-word-2 c = search needs
+
+shared-slice-read-is-word-3 : tie.Need-shared-slice-read-is-word-3 Inv-loop μ-loop
+shared-slice-read-is-word-3 c = search needs
+
+is-word-requires-3 : tie.Need-is-word-requires-3 Inv-loop μ-loop
+is-word-requires-3 c κs = search needs
+
+add-result-2 : tie.Need-add-result-2 Inv-loop μ-loop
+add-result-2 c = search needs
+
+returns-3 : tie.Need-returns-3 Inv-loop μ-loop
+returns-3 c = reaches-end (two (c .before .before .before)) (omega arith) (sym (c .before .is-word3 .ensures) ∙ not-true _ (c .if3 .taken))
+
+add-is-word-3 : tie.Need-add-is-word-3 Inv-loop μ-loop
+add-is-word-3 c = search needs
+
+shared-slice-read-is-word-4 : tie.Need-shared-slice-read-is-word-4 Inv-loop μ-loop
+shared-slice-read-is-word-4 c = search needs
+
+is-word-requires-4 : tie.Need-is-word-requires-4 Inv-loop μ-loop
+is-word-requires-4 c κs = search needs
+
+add-result-3 : tie.Need-add-result-3 Inv-loop μ-loop
+add-result-3 c = search needs
+
+returns-4 : tie.Need-returns-4 Inv-loop μ-loop
+returns-4 c = reaches-end (three (c .before .before .before)) (omega arith) (sym (c .before .is-word4 .ensures) ∙ not-true _ (c .if4 .taken))
 
 add-at : tie.Need-add-at Inv-loop μ-loop
 add-at c = search needs
@@ -41,16 +96,13 @@ loop-less : tie.Need-loop-less Inv-loop μ-loop
 loop-less c = search needs
 
 loop-again : tie.Need-loop-again Inv-loop μ-loop
-loop-again c =
-    let l = c .before .before .before .before .loop in
-    let a = c .before .before .before .before .before .before .args in
-    (search needs, omega (arith, l .inv .1, run-more word (a .source .now) (l .at) (search needs) (sym (c .before .is-word .ensures) ∙ not-false _ (c .if1 .left))))
+loop-again c = reaches-next (three (c .before .before .before)) (omega arith) (omega arith) (sym (c .before .is-word4 .ensures) ∙ not-false _ (c .if4 .left))
 
-returns-2 : tie.Need-returns-2 Inv-loop μ-loop
-returns-2 c =
-    let l = c .before .loop in
-    let a = c .before .before .before .args in
-    omega (arith, l .inv .1, run-none word (a .source .now) (l .at) (search needs))
+word-tail-requires : tie.Need-word-tail-requires Inv-loop μ-loop
+word-tail-requires c κs = search needs
+
+returns-5 : tie.Need-returns-5 Inv-loop μ-loop
+returns-5 c = c .word-tail .ensures ∙ sym (c .before .before .loop .inv .goes)
 
 pub word-end-spec : {M : Type 1} → statement M
 word-end-spec =
@@ -59,10 +111,27 @@ word-end-spec =
     Inv-loop
     μ-loop
     loop-holds
+    sub-loop
     shared-slice-read-is-word
     is-word-requires
     returns
+    add-is-word
+    shared-slice-read-is-word-2
+    is-word-requires-2
+    add-result
+    returns-2
+    add-is-word-2
+    shared-slice-read-is-word-3
+    is-word-requires-3
+    add-result-2
+    returns-3
+    add-is-word-3
+    shared-slice-read-is-word-4
+    is-word-requires-4
+    add-result-3
+    returns-4
     add-at
     loop-less
     loop-again
-    returns-2)
+    word-tail-requires
+    returns-5)
