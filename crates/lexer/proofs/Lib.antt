@@ -1,4 +1,5 @@
 -- What the functions' proofs share.
 pub mod Tests
 pub mod Laws
+pub mod Quotes
 pub mod Rest

@@ -6,7 +6,7 @@ use mathlib.Core.Bool.{Bool, not, _&&_, _||_, cond}
 use mathlib.Core.List.{List, [], _∷_}
 use lib.Dec.{eqb, leb}
 use Rattle.lexer.specs.declared.chars.Run.{Run}
-use Rattle.lexer.specs.declared.chars.Run.the-variants.{Blank, InLine, Hex, Binary, Decimal}
+use Rattle.lexer.specs.declared.chars.Run.the-variants.{Blank, InLine, Hex, Binary, Decimal, Graphic, Inside}
 use Rattle.lexer.specs.Syntax.{Error, Whitespace, Newline, Comment, Ident, SpecialIdent, Number, QuotedIdent, At, Bang, Colon, Comma, Dot, Equal, LAngle, LBrace, LBracket, LParen, Minus, Plus, RAngle, RBrace, RBracket, RParen, Semicolon, Slash, Star}
 
 -- a ..= z
@@ -49,13 +49,19 @@ word b = letter b || decimal b
 abbrev pub graphic : ℕ → Bool
 graphic b = within 33 126 b
 
--- The predicates that lexer.rs hands to advance_while, but for the one of words.
+-- neither a quote nor a backslash
+abbrev pub inside : ℕ → Bool
+inside b = not (eqb b 34) && not (eqb b 92)
+
+-- The predicates that lexer.rs hands to advance_while, but for the one of words; and those that a quote passes over.
 abbrev pub holds : Run → ℕ → Bool
 holds Blank b = blank b
 holds InLine b = not (line-end b)
 holds Hex b = hex b
 holds Binary b = binary b
 holds Decimal b = decimal b
+holds Graphic b = graphic b && inside b
+holds Inside b = not (line-end b) && inside b
 
 -- CR starts a newline that may be longer: it has a class of its own, a number that no token has as its kind.
 abbrev pub Cr : ℕ

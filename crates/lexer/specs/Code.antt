@@ -37,6 +37,9 @@ pub record Ends (q : Quoted) (t : Token) : Type 0 where
   pub kind-is : quote-kind (q .ending) (q .«identifier_like») ≡ t .kind
   pub end-is : q .at ≡ t .end
 
+abbrev pub other-than : ℕ → ℕ → Bool
+other-than x b = not (eqb b x)
+
 -- p holds of the n bytes from `at` on
 abbrev pub AllHold : (ℕ → Bool) → List ℕ → ℕ → ℕ → Type 0
 AllHold p s at n = (k : ℕ) → k < n → p (getD s (at + k) 0) ≡ true

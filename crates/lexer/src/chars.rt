@@ -1,14 +1,18 @@
 // Tests on a byte, and the runs that they make.
 ghost use mathlib.Core.Path.{_≡_};
-ghost use Rattle.lexer.specs.Chars.{holds, within, blank, line-end, hex-letter, hex, binary, graphic};
+ghost use Rattle.lexer.specs.declared.chars.Run.the-variants.{Graphic, Inside};
+ghost use Rattle.lexer.specs.Chars.{holds, within, blank, line-end, hex-letter, hex, binary, graphic, inside};
 
-// The predicates that lexer.rs hands to advance_while, but for the one of words.
+// The predicates that lexer.rs hands to advance_while, but for the one of words; and those of bytes that a quote passes over,
+// while it is identifier-like and after.
 pub enum Run {
     Blank,
     InLine,
     Hex,
     Binary,
     Decimal,
+    Graphic,
+    Inside,
 }
 
 fn is_blank(b: u8) -> bool
@@ -53,6 +57,25 @@ pub fn is_graphic(b: u8) -> bool
     is_within(33, 126, b)
 }
 
+// Neither a quote nor a backslash.
+fn is_inside(b: u8) -> bool
+    ensures { λ r. ⌜ r ≡ inside b ⌝ }
+{
+    b != 34 && b != 92
+}
+
+fn is_graphic_inside(b: u8) -> bool
+    ensures { λ r. ⌜ r ≡ holds Graphic b ⌝ }
+{
+    is_graphic(b) && is_inside(b)
+}
+
+fn is_line_inside(b: u8) -> bool
+    ensures { λ r. ⌜ r ≡ holds Inside b ⌝ }
+{
+    !is_line_end(b) && is_inside(b)
+}
+
 pub fn goes_on(run: Run, b: u8) -> bool
     ensures { λ r. ⌜ r ≡ holds run b ⌝ }
 {
@@ -62,5 +85,7 @@ pub fn goes_on(run: Run, b: u8) -> bool
         Run::Hex => is_hex(b),
         Run::Binary => is_binary(b),
         Run::Decimal => is_within(48, 57, b),
+        Run::Graphic => is_graphic_inside(b),
+        Run::Inside => is_line_inside(b),
     }
 }

@@ -1,7 +1,9 @@
 // lex_quoted: a loop that yields its ending by break, with the cursor and the flags carried along.
+use crate::chars::Run;
 use crate::chars::is_graphic;
 use crate::chars::is_line_end;
 use crate::lexer::Token;
+use crate::runs::advance_while;
 use crate::syntax::ERROR;
 use crate::syntax::QUOTED_IDENT;
 use crate::syntax::QUOTED_STRING;
@@ -31,6 +33,21 @@ fn keeps(identifier_like: bool, b: u8) -> bool
     identifier_like && (is_graphic(b) && b != 92)
 }
 
+// The next byte that needs a look: a quote, a line end or a backslash, or a byte that ends being identifier-like; behind a
+// backslash, any.
+fn ahead(source: &[u8], at: usize, taken: bool, identifier_like: bool) -> usize
+    requires { ⌜ at ≤ length (now source) ⌝ }
+    ensures { λ r. ⌜ (at ≤ r) × (r ≤ length (now (source .entry))) × (placed at (quoted taken «identifier_like» (drop at (now (source .entry)))) ≡ placed r (quoted taken «identifier_like» (drop r (now (source .entry))))) ⌝ }
+{
+    if taken {
+        return at;
+    }
+    if identifier_like {
+        return advance_while(Run::Graphic, source, at);
+    }
+    advance_while(Run::Inside, source, at)
+}
+
 // What a quote whose body starts at `from` comes to.
 fn quote(source: &[u8], from: usize) -> Quoted
     requires { ⌜ from ≤ length (now source) ⌝ }
@@ -40,6 +57,7 @@ fn quote(source: &[u8], from: usize) -> Quoted
     let mut taken = false;
     let mut identifier_like = true;
     let ending = loop {
+        at = ahead(source, at, taken, identifier_like);
         if source.len() <= at {
             break Ending::File;
         }

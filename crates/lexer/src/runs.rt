@@ -1,15 +1,14 @@
 // Runs of bytes, and what stands at an offset.
 use crate::chars::Run;
 use crate::chars::goes_on;
-use crate::chars::is_line_end;
 use crate::class::is_word;
 ghost use mathlib.Core.Path.{_≡_};
-ghost use mathlib.Core.Bool.{false};
+ghost use mathlib.Core.Bool.{true};
 ghost use Prim.Native.Nat.{_+_, _≤_};
 ghost use lib.ListN.{length, drop};
 ghost use Rattle.lexer.specs.Chars.{class-table, holds, word};
 ghost use Rattle.lexer.specs.Lexer.{advance-while, in-line, same as sameOf};
-ghost use Rattle.lexer.specs.Code.{starts, AllHold};
+ghost use Rattle.lexer.specs.Code.{starts, other-than, AllHold};
 
 // Where the run from `from` on ends.
 pub fn advance_while(run: Run, source: &[u8], from: usize) -> usize
@@ -26,18 +25,26 @@ pub fn advance_while(run: Run, source: &[u8], from: usize) -> usize
     at
 }
 
-// Whether a line end is among the 16 bytes from `at` on. All are looked at, so that the compiler makes wide comparisons of it.
-fn line_end_within(source: &[u8], at: usize) -> bool
+// Whether x is none of the 16 bytes from `at` on. All are looked at, so that the compiler makes one wide comparison of it.
+fn none_within(source: &[u8], at: usize, x: u8) -> bool
     requires { ⌜ at + 16 ≤ length (now source) ⌝ }
-    ensures { λ r. ⌜ (r ≡ false → AllHold in-line (now (source .entry)) at 16) ⌝ }
+    ensures { λ r. ⌜ (r ≡ true → AllHold (other-than x) (now (source .entry)) at 16) ⌝ }
 {
-    let mut found = false;
+    let mut none = true;
     for i in 0usize..16 {
-        if is_line_end(source[at + i]) {
-            found = true;
+        if source[at + i] == x {
+            none = false;
         }
     }
-    found
+    none
+}
+
+// Whether the 16 bytes from `at` on have no line end.
+fn in_line_within(source: &[u8], at: usize) -> bool
+    requires { ⌜ at + 16 ≤ length (now source) ⌝ }
+    ensures { λ r. ⌜ (r ≡ true → AllHold in-line (now (source .entry)) at 16) ⌝ }
+{
+    none_within(source, at, 10) && none_within(source, at, 13)
 }
 
 // Where the line that `from` stands in ends: advance_while up to a line end, 16 bytes at a time.
@@ -47,7 +54,7 @@ pub fn line_rest(source: &[u8], from: usize) -> usize
 {
     let mut at = from;
     while 16 <= source.len() - at {
-        if line_end_within(source, at) {
+        if !in_line_within(source, at) {
             return advance_while(Run::InLine, source, at);
         }
         at += 16;

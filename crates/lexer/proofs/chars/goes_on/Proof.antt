@@ -37,6 +37,18 @@ enum-told-5 c = search needs
 is-within-requires : tie.Need-is-within-requires
 is-within-requires c κs = search needs
 
+enum-told-6 : tie.Need-enum-told-6
+enum-told-6 c = search needs
+
+is-graphic-inside-requires : tie.Need-is-graphic-inside-requires
+is-graphic-inside-requires c κs = search needs
+
+enum-told-7 : tie.Need-enum-told-7
+enum-told-7 c = search needs
+
+is-line-inside-requires : tie.Need-is-line-inside-requires
+is-line-inside-requires c κs = search needs
+
 returns : tie.Need-returns
 returns c = c .is-blank .ensures ∙ ap (λ (run : Run). holds run (c .before .before .before .args .b)) (sym (c .before .enum-told .given .1))
 
@@ -52,6 +64,12 @@ returns-4 c = c .is-binary .ensures ∙ ap (λ (run : Run). holds run (c .before
 returns-5 : tie.Need-returns-5
 returns-5 c = c .is-within .ensures ∙ ap (λ (run : Run). holds run (c .before .before .before .args .b)) (sym (c .before .enum-told5 .given .1))
 
+returns-6 : tie.Need-returns-6
+returns-6 c = c .is-graphic-inside .ensures ∙ ap (λ (run : Run). holds run (c .before .before .before .args .b)) (sym (c .before .enum-told6 .given .1))
+
+returns-7 : tie.Need-returns-7
+returns-7 c = c .is-line-inside .ensures ∙ ap (λ (run : Run). holds run (c .before .before .before .args .b)) (sym (c .before .enum-told7 .given .1))
+
 pub goes-on-spec : {M : Type 1} → statement M
 goes-on-spec =
     tie.close
@@ -66,8 +84,14 @@ goes-on-spec =
     is-binary-requires
     enum-told-5
     is-within-requires
+    enum-told-6
+    is-graphic-inside-requires
+    enum-told-7
+    is-line-inside-requires
     returns
     returns-2
     returns-3
     returns-4
-    returns-5)
+    returns-5
+    returns-6
+    returns-7)

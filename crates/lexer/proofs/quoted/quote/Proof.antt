@@ -11,14 +11,12 @@ use lib.ListN.{length, drop, getD, drop-of-length-le}
 use Rattle.lexer.specs.declared.lexer.Token.{Token}
 use Rattle.lexer.specs.Syntax.{Error, QuotedIdent, QuotedString}
 use Rattle.lexer.specs.Chars.{line-end}
-use Rattle.lexer.specs.Lexer.{Lexeme, later, quoted}
+use Rattle.lexer.specs.Lexer.{Lexeme, quoted}
 use Rattle.lexer.specs.Code.{placed, kept}
 use Rattle.lexer.proofs.Laws.{next-byte}
+use Rattle.lexer.proofs.Quotes.{moved}
 use Rattle.lexer.proofs.quoted.quote.Statement.{statement}
 use Rattle.lexer.proofs.quoted.quote.Tie as tie
-
-moved : (at : ℕ) (t : Lexeme) → placed at (later t) ≡ placed (at + 1) t
-moved at t = ap (λ (n : ℕ). record { kind = t .kind; end = n }) (omega arith)
 
 -- what the definition gives at an offset, by cases
 module _ (s : List ℕ) (at : ℕ) (i : Bool) where
@@ -58,6 +56,9 @@ abbrev μ-loop : tie.MeasureT-loop
 loop-holds : tie.Need-loop-holds Inv-loop μ-loop
 loop-holds c = search needs
 
+ahead-requires : tie.Need-ahead-requires Inv-loop μ-loop
+ahead-requires c κs = search needs
+
 shared-slice-read-b : tie.Need-shared-slice-read-b Inv-loop μ-loop
 shared-slice-read-b c = search needs
 
@@ -69,9 +70,10 @@ loop-less c = search needs
 
 loop-again : tie.Need-loop-again Inv-loop μ-loop
 loop-again c =
-    let l = c .before .before .before .loop in
-    let s = c .before .before .before .before .before .args .source .now in
-    (search needs, l .inv .1 ∙ ap (λ (t : Bool). placed (l .at) (quoted t (l .identifier-like) (drop (l .at) s))) (c .if2 .taken) ∙ takes s (l .at) (l .identifier-like) (search needs))
+    let a = c .before .before .before .ahead in
+    let l = c .before .before .before .before .loop in
+    let s = c .before .before .before .before .before .before .args .source .now in
+    (search needs, l .inv .1 ∙ a .ensures .2 ∙ ap (λ (t : Bool). placed (a .result) (quoted t (l .identifier-like) (drop (a .result) s))) (c .if2 .taken) ∙ takes s (a .result) (l .identifier-like) (search needs))
 
 is-line-end-requires : tie.Need-is-line-end-requires Inv-loop μ-loop
 is-line-end-requires c κs = search needs
@@ -90,13 +92,14 @@ loop-less-2 c = search needs
 
 loop-again-2 : tie.Need-loop-again-2 Inv-loop μ-loop
 loop-again-2 c =
-    let l = c .before .before .before .before .before .before .before .loop in
-    let s = c .before .before .before .before .before .before .before .before .before .args .source .now in (
+    let a = c .before .before .before .before .before .before .before .ahead in
+    let l = c .before .before .before .before .before .before .before .before .loop in
+    let s = c .before .before .before .before .before .before .before .before .before .before .args .source .now in (
       search needs,
-      l .inv .1
-          ∙ ap (λ (t : Bool). placed (l .at) (quoted t (l .identifier-like) (drop (l .at) s))) (c .before .before .before .before .if2 .left)
-          ∙ goes s (l .at) (l .identifier-like) (search needs) (sym (c .before .before .before .is-line-end .ensures) ∙ c .before .before .if3 .left) (ne-eqb _ _ (c .before .if4 .left))
-          ∙ ap (λ (i : Bool). placed (l .at + 1) (quoted (eqb (getD s (l .at) 0) 92) i (drop (l .at + 1) s))) (sym (c .keeps .ensures)),
+      l .inv .1 ∙ a .ensures .2
+          ∙ ap (λ (t : Bool). placed (a .result) (quoted t (l .identifier-like) (drop (a .result) s))) (c .before .before .before .before .if2 .left)
+          ∙ goes s (a .result) (l .identifier-like) (search needs) (sym (c .before .before .before .is-line-end .ensures) ∙ c .before .before .if3 .left) (ne-eqb _ _ (c .before .if4 .left))
+          ∙ ap (λ (i : Bool). placed (a .result + 1) (quoted (eqb (getD s (a .result) 0) 92) i (drop (a .result + 1) s))) (sym (c .keeps .ensures)),
     )
 
 -- how the quote ended, from the rest at the cursor
@@ -107,29 +110,32 @@ ends-with s from at taken i t p q = p ∙ ap (placed at) q
 
 returns : tie.Need-returns Inv-loop μ-loop
 returns c =
-    let l = c .before .loop in
-    let s = c .before .before .before .args .source .now in
-    let e = ends-with s _ (l .at) (l .taken) (l .identifier-like) _ (l .inv .1) (ended s (l .at) (l .identifier-like) (l .taken) (c .if1 .taken)) in
+    let a = c .before .ahead in
+    let l = c .before .before .loop in
+    let s = c .before .before .before .before .args .source .now in
+    let e = ends-with s _ (a .result) (l .taken) (l .identifier-like) _ (l .inv .1 ∙ a .ensures .2) (ended s (a .result) (l .identifier-like) (l .taken) (c .if1 .taken)) in
     record { kind-is = sym (ap (λ (t : Token). t .kind) e); end-is = omega (arith, ap (λ (t : Token). t .end) e) }
 
 returns-2 : tie.Need-returns-2 Inv-loop μ-loop
 returns-2 c =
-    let l = c .before .before .before .before .before .loop in
-    let s = c .before .before .before .before .before .before .before .args .source .now in
+    let a = c .before .before .before .before .before .ahead in
+    let l = c .before .before .before .before .before .before .loop in
+    let s = c .before .before .before .before .before .before .before .before .args .source .now in
     let e =
-    ends-with s _ (l .at) false (l .identifier-like) _
-    (l .inv .1 ∙ ap (λ (t : Bool). placed (l .at) (quoted t (l .identifier-like) (drop (l .at) s))) (c .before .before .if2 .left))
-    (breaks s (l .at) (l .identifier-like) (search needs) (sym (c .before .is-line-end .ensures) ∙ c .if3 .taken)) in
+    ends-with s _ (a .result) false (l .identifier-like) _
+    (l .inv .1 ∙ a .ensures .2 ∙ ap (λ (t : Bool). placed (a .result) (quoted t (l .identifier-like) (drop (a .result) s))) (c .before .before .if2 .left))
+    (breaks s (a .result) (l .identifier-like) (search needs) (sym (c .before .is-line-end .ensures) ∙ c .if3 .taken)) in
     record { kind-is = sym (ap (λ (t : Token). t .kind) e); end-is = omega (arith, ap (λ (t : Token). t .end) e) }
 
 returns-3 : tie.Need-returns-3 Inv-loop μ-loop
 returns-3 c =
-    let l = c .before .before .before .before .before .before .loop in
-    let s = c .before .before .before .before .before .before .before .before .args .source .now in
+    let a = c .before .before .before .before .before .before .ahead in
+    let l = c .before .before .before .before .before .before .before .loop in
+    let s = c .before .before .before .before .before .before .before .before .before .args .source .now in
     let e =
-    ends-with s _ (l .at) false (l .identifier-like) _
-    (l .inv .1 ∙ ap (λ (t : Bool). placed (l .at) (quoted t (l .identifier-like) (drop (l .at) s))) (c .before .before .before .if2 .left))
-    (closes s (l .at) (l .identifier-like) (search needs) (sym (c .before .before .is-line-end .ensures) ∙ c .before .if3 .left) (eq-eqb _ _ (c .if4 .taken))) in
+    ends-with s _ (a .result) false (l .identifier-like) _
+    (l .inv .1 ∙ a .ensures .2 ∙ ap (λ (t : Bool). placed (a .result) (quoted t (l .identifier-like) (drop (a .result) s))) (c .before .before .before .if2 .left))
+    (closes s (a .result) (l .identifier-like) (search needs) (sym (c .before .before .is-line-end .ensures) ∙ c .before .if3 .left) (eq-eqb _ _ (c .if4 .taken))) in
     record { kind-is = sym (ap (λ (t : Token). t .kind) e); end-is = sym (ap (λ (t : Token). t .end) e) }
 
 pub quote-spec : {M : Type 1} → statement M
@@ -139,6 +145,7 @@ quote-spec =
     Inv-loop
     μ-loop
     loop-holds
+    ahead-requires
     shared-slice-read-b
     add-at
     loop-less

@@ -3,6 +3,7 @@ use Prim.Native.Nat.{_-_}
 use mathlib.Core.Path.{refl, sym, _∙_}
 use native.Mathlib.Omega.{arith}
 use borrow.Author.Needs.{needs}
+use borrow.Author.Tests.{not-false}
 use lib.ListN.{length}
 use Rattle.lexer.specs.Lexer.{in-line}
 use Rattle.lexer.proofs.Laws.{Reaches, reaches-over}
@@ -21,8 +22,8 @@ loop-holds c = record { within = search needs; goes = refl }
 sub-loop : tie.Need-sub-loop Inv-loop μ-loop
 sub-loop c = search needs
 
-line-end-within-requires : tie.Need-line-end-within-requires Inv-loop μ-loop
-line-end-within-requires c κs = search needs
+in-line-within-requires : tie.Need-in-line-within-requires Inv-loop μ-loop
+in-line-within-requires c κs = search needs
 
 advance-while-requires : tie.Need-advance-while-requires Inv-loop μ-loop
 advance-while-requires c κs = search needs
@@ -37,7 +38,7 @@ loop-less : tie.Need-loop-less Inv-loop μ-loop
 loop-less c = search needs
 
 loop-again : tie.Need-loop-again Inv-loop μ-loop
-loop-again c = reaches-over (c .before .before .before .loop .inv) 16 (omega arith) (c .before .line-end-within .ensures (c .if1 .left))
+loop-again c = reaches-over (c .before .before .before .loop .inv) 16 (omega arith) (c .before .in-line-within .ensures (not-false _ (c .if1 .left)))
 
 advance-while-requires-2 : tie.Need-advance-while-requires-2 Inv-loop μ-loop
 advance-while-requires-2 c κs = search needs
@@ -53,7 +54,7 @@ line-rest-spec =
     μ-loop
     loop-holds
     sub-loop
-    line-end-within-requires
+    in-line-within-requires
     advance-while-requires
     returns
     add-at
