@@ -1,5 +1,5 @@
 # The front door. Each target is one command; `make test` is the gate.
-.PHONY: fold check test differ large calls fuzz growth speed store samples economy
+.PHONY: fold check test differ large calls fuzz growth speed store samples economy index
 
 # Build everything and show a sample script folded; FILE is another one.
 FILE ?= examples/wallet.masm
@@ -71,3 +71,7 @@ samples:
 LOG ?= gate.log
 economy:
 	tests/economy/run $(LOG)
+
+# The table of docs/FUNCTIONS.md against the Rust sources and the files that it names. Needs python3.
+index:
+	tests/index/run
