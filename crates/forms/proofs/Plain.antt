@@ -15,7 +15,7 @@ use Rattle.grammar.specs.Nesting.{default, is-root, bump-by, bump-nesting, coun
 use Rattle.grammar.specs.Instruction.{Inst, instruction-round, is-some, expects-operand, should-stop-instruction-before}
 use Rattle.grammar.specs.declared.nesting.Significant.{Significant}
 use Rattle.parser.specs.Sets.{bit, each-of, none-above}
-use Rattle.forms.specs.Instruction.{instruction-ends, behind, open-behind}
+use Rattle.forms.specs.Instruction.{instruction-ends, behind, plain-kinds, plain-punctuation, open-behind}
 use Rattle.forms.proofs.Rounds.{instruction-locals, instruction-counts}
 
 -- what holds of the event's kind, where that is not Error's, and of words, holds of the token
@@ -42,18 +42,18 @@ word-ordinary k h = ap not (none-above special k tt (omega arith))
 
 open-ordinary : (previous : Significant) (k : Sym) → bit (open-behind previous) (kind k) ≡ true → ordinary k ≡ true
 unfolding open-behind oneOf bit
-open-ordinary Significant.Nothing k b = by-event 0xf1e3fff80000000 ordinary (λ i. each-of 0xf1e3fff80000000 ordinary i tt) refl (λ i h c. word-ordinary i h) k b
+open-ordinary Significant.Nothing k b = by-event plain-kinds ordinary (λ i. each-of plain-kinds ordinary i tt) refl (λ i h c. word-ordinary i h) k b
 open-ordinary (Significant.Kind p) k b = by-test (expects-continuation-operand p) b
   where
-    by-test : (u : Bool) → bit (cond u 0xf1e3fff80000000 0xe161fc000000000) (kind k) ≡ true → ordinary k ≡ true
-    by-test true b = by-event 0xf1e3fff80000000 ordinary (λ i. each-of 0xf1e3fff80000000 ordinary i tt) refl (λ i h c. word-ordinary i h) k b
-    by-test false b = by-event 0xe161fc000000000 ordinary (λ i. each-of 0xe161fc000000000 ordinary i tt) refl (λ i h c. word-ordinary i h) k b
+    by-test : (u : Bool) → bit (cond u plain-kinds plain-punctuation) (kind k) ≡ true → ordinary k ≡ true
+    by-test true b = by-event plain-kinds ordinary (λ i. each-of plain-kinds ordinary i tt) refl (λ i h c. word-ordinary i h) k b
+    by-test false b = by-event plain-punctuation ordinary (λ i. each-of plain-punctuation ordinary i tt) refl (λ i h c. word-ordinary i h) k b
 
 -- behind a token that expects no operand
-open-continues : (k : Sym) → bit 0xe161fc000000000 (kind k) ≡ true → punctuation-continues-instruction k ≡ true
+open-continues : (k : Sym) → bit plain-punctuation (kind k) ≡ true → punctuation-continues-instruction k ≡ true
 unfolding oneOf bit
 open-continues k b =
-    by-event 0xe161fc000000000 punctuation-continues-instruction (λ i. each-of 0xe161fc000000000 punctuation-continues-instruction i tt) refl (λ i h c. absurd (false≢true c)) k b
+    by-event plain-punctuation punctuation-continues-instruction (λ i. each-of plain-punctuation punctuation-continues-instruction i tt) refl (λ i h c. absurd (false≢true c)) k b
 
 -- a kind that is special, and one that is not
 apart : (x k : Sym) → ordinary x ≡ false → ordinary k ≡ true → is x k ≡ false
@@ -74,7 +74,7 @@ module _ (k : Sym) (o : ordinary k ≡ true) where
   goes-on-by Significant.Nothing r b = rw (apart Whitespace k refl o, apart Newline k refl o, apart Comment k refl o, apart DocComment k refl o)
   goes-on-by (Significant.Kind p) r b = by-test (expects-continuation-operand p) refl b
     where
-      by-test : (u : Bool) → expects-continuation-operand p ≡ u → bit (cond u 0xf1e3fff80000000 0xe161fc000000000) (kind k) ≡ true
+      by-test : (u : Bool) → expects-continuation-operand p ≡ u → bit (cond u plain-kinds plain-punctuation) (kind k) ≡ true
           → instruction-ends (Significant.Kind p) default (k ∷ r) ≡ false
       by-test true e b = rw (apart Whitespace k refl o, apart Newline k refl o, apart Comment k refl o, apart DocComment k refl o, e)
       by-test false e b = rw (apart Whitespace k refl o, apart Newline k refl o, apart Comment k refl o, apart DocComment k refl o, e, open-continues k b)

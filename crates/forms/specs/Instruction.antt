@@ -29,10 +29,17 @@ instruction-ends previous n r =
 abbrev pub behind : Significant → Inst
 behind previous = record { nesting = default; previous = previous }
 
--- the plain kinds, as bits, that an instruction goes on with behind `previous`, outside delimiters
+-- as bits: the kinds that neither change the counts nor are trivia or Error, and those of them that continue an instruction wherever they stand
+abbrev pub plain-kinds : ℕ
+plain-kinds = 0xf1e3fff80000000
+
+abbrev pub plain-punctuation : ℕ
+plain-punctuation = 0xe161fc000000000
+
+-- the plain kinds that an instruction goes on with behind `previous`, outside delimiters
 unfoldable pub open-behind : Significant → ℕ
-open-behind Significant.Nothing = 0xf1e3fff80000000
-open-behind (Significant.Kind k) = cond (expects-continuation-operand k) 0xf1e3fff80000000 0xe161fc000000000
+open-behind Significant.Nothing = plain-kinds
+open-behind (Significant.Kind k) = cond (expects-continuation-operand k) plain-kinds plain-punctuation
 
 -- The loop's first rounds, from c to c′, leave the counts as they were: what goes on behind them goes on from the start.
 pub record Led (F : File) (ev : List ℕ) (c : Cursor) (ev′ : List ℕ) (c′ : Cursor) (previous : Significant) : Type 0 where

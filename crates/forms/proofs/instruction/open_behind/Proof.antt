@@ -2,7 +2,7 @@
 use mathlib.Core.Bool.{Bool, cond}
 use mathlib.Core.Path.{sym, ap, _∙_}
 use borrow.Author.Needs.{needs}
-use Rattle.forms.specs.Instruction.{open-behind}
+use Rattle.forms.specs.Instruction.{plain-kinds, plain-punctuation, open-behind}
 use Rattle.forms.proofs.instruction.open_behind.Statement.{statement}
 use Rattle.forms.proofs.instruction.open_behind.Tie as tie
 
@@ -11,11 +11,11 @@ expects-continuation-operand-requires c κs = search needs
 
 returns : tie.Need-returns
 unfolding open-behind
-returns c = ap (λ (u : Bool). cond u 0xf1e3fff80000000 0xe161fc000000000) (sym (c .if1 .taken) ∙ c .before .expects-continuation-operand .ensures)
+returns c = ap (λ (u : Bool). cond u plain-kinds plain-punctuation) (sym (c .if1 .taken) ∙ c .before .expects-continuation-operand .ensures)
 
 returns-2 : tie.Need-returns-2
 unfolding open-behind
-returns-2 c = ap (λ (u : Bool). cond u 0xf1e3fff80000000 0xe161fc000000000) (sym (c .if1 .left) ∙ c .before .expects-continuation-operand .ensures)
+returns-2 c = ap (λ (u : Bool). cond u plain-kinds plain-punctuation) (sym (c .if1 .left) ∙ c .before .expects-continuation-operand .ensures)
 
 pub open-behind-spec : {M : Type 1} → statement M
 open-behind-spec = tie.close (tie.spec expects-continuation-operand-requires returns returns-2)
