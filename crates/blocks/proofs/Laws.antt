@@ -8,22 +8,22 @@ use lib.ListN.{length}
 use Rattle.lexer.specs.Syntax
 use Rattle.grammar.specs.Words.{Sym, File, from, is, DO, ELSE, END, IF, REPEAT, WHILE}
 use Rattle.grammar.specs.Look.{oneOf, at, eof, current, name-like, regular-trivia, at-prefixed-keyword, at-bare-while, control-flow, starts-instruction, at-terminator, at-stray-else, at-regular-trivia, is-top-level-starter, at-top-level-form-starter-in-block}
-use Rattle.grammar.specs.Run.{P, Block, pure, peek, inNode, pick, take, _>>=_, _>>_, if_then_else_}
+use Rattle.grammar.specs.Run.{P, Block, leaf, pure, peek, inNode, pick, take, scan, _>>=_, _>>_, if_then_else_}
 use Rattle.grammar.specs.State.{run}
 use Rattle.grammar.specs.declared.message.Message.{Message}
 use Rattle.grammar.specs.declared.block.BlockOwner.{BlockOwner}
 use Rattle.grammar.specs.declared.block.Terminators.{Terminators}
 use Rattle.grammar.specs.declared.block.BlockParseOutcome.{BlockParseOutcome}
 use Rattle.grammar.specs.Block.{block-in, parse-block, parse-control-flow, found-terminator, reached-eof, closing, ended, do-condition}
-use Rattle.grammar.specs.Bump.{nop, expect-kind}
+use Rattle.grammar.specs.Bump.{nop, bump-while, while-round, expect-kind}
 use Rattle.grammar.specs.Laws.Here.{is-not, none, oneOf-not, expect-here}
 use Rattle.grammar.specs.Laws.Live.{some, eats-take}
 use Rattle.grammar.specs.Laws.LiveLine.{eats-error-token, eats-instruction}
 use Rattle.grammar.specs.Laws.LiveBlock.{bare-while, repeat-left}
 use Rattle.grammar.specs.Laws.Stops.{stops-block}
 use Rattle.parser.specs.Rep.{World, world, Wrote, Went, WentTo, Paid}
-use Rattle.parser.proofs.Kit.{Leads, answers, like, like-to, yes-to, no-to, done-to, bind-to}
-use Rattle.parser.proofs.Laws.{at-current}
+use Rattle.parser.proofs.Kit.{Leads, answers, like, like-to, yes-to, no-to, done-to, bind-to, _then-to_}
+use Rattle.parser.proofs.Laws.{at-current, at-some}
 use Rattle.blocks.specs.declared.arm.Taken.{Taken}
 use Rattle.blocks.specs.declared.arm.Closing.{Closing}
 use Rattle.blocks.specs.declared.arm.Arm.{Arm}
@@ -156,6 +156,27 @@ takes Taken.Trivia r h = eats-take .eats r (some-of r h)
 takes Taken.Doc r h = eats-error-token _ .eats r (some-of r h)
 takes Taken.Instruction r h = eats-instruction .eats r h
 takes Taken.Bad r h = eats-error-token _ .eats r (some-of r h)
+
+-- ---- trivia before the rest of a block
+trivia-arm : (t : Terminators) (r : List Sym) → at regular-trivia r ≡ true → Arm.Takes Taken.Trivia ≡ arm-of t r
+unfolding arm-of
+trivia-arm t r e = rw (at-some regular-trivia r e, trivia-no-end t r e, e)
+
+module _ (limit : ℕ) (owner : BlockOwner) (t : Terminators) (depth : ℕ) where
+  trivia-first : (r : List Sym) → block-in limit owner t depth r ≡ (bump-while regular-trivia >> block-in limit owner t depth) r
+  unfolding bump-while while-round scan _>>=_ at by-arm taking take
+  trivia-first [] = refl
+  trivia-first (s ∷ r) = by-test (regular-trivia s) refl (trivia-first r)
+    where
+      by-test : (u : Bool) → regular-trivia s ≡ u → block-in limit owner t depth r ≡ (bump-while regular-trivia >> block-in limit owner t depth) r
+          → block-in limit owner t depth (s ∷ r) ≡ (bump-while regular-trivia >> block-in limit owner t depth) (s ∷ r)
+      by-test true e h =
+          rw e (block-by limit owner t depth (s ∷ r) (Arm.Takes Taken.Trivia) (trivia-arm t (s ∷ r) e)
+          ∙ ap (λ x. record { rest = x .rest; out = leaf s (x .out); val = x .val }) h)
+      by-test false e h = rw e refl
+
+  pub absorbs : {F : File} {w v w′ : World} {r : BlockParseOutcome} → Went F (bump-while regular-trivia) w v → WentTo F (block-in limit owner t depth) v w′ r → WentTo F (block-in limit owner t depth) w w′ r
+  absorbs h k = like-to (bump-while regular-trivia >> block-in limit owner t depth) (trivia-first _) (h then-to k)
 
 -- ---- simulation
 module _ {F : File} {w w′ : World} where

@@ -7,6 +7,7 @@ use crate::step::take;
 use grammar::block::BlockOwner;
 use grammar::block::BlockParseOutcome;
 use grammar::block::Terminators;
+use parser::bump::bump_regular_trivia;
 use parser::cursor::Cursor;
 use parser::cursor::put;
 use parser::look::Remembered;
@@ -66,6 +67,7 @@ fn form_here(
     }
 }
 
+// Trivia behind what a round took is taken at once, without its tests.
 // Where `item0` holds, a form before this ended at an item that starts here. A lookahead remembered before a form holds only
 // of trivia before it, so nothing is remembered over a form.
 fn rounds(
@@ -95,7 +97,8 @@ fn rounds(
         known = seen.known;
         match a {
             Arm::Takes(t) => {
-                c = take(kinds, ev, dm, ds, c, t);
+                let d = take(kinds, ev, dm, ds, c, t);
+                c = bump_regular_trivia(kinds, ev, dm, ds, d);
                 item = false;
                 continue;
             }

@@ -1,5 +1,6 @@
 // The whole file.
 use crate::item::parse_source_item;
+use parser::bump::bump_regular_trivia;
 use parser::cursor::Cursor;
 use parser::cursor::put;
 use parser::look::eof;
@@ -11,14 +12,15 @@ ghost use Rattle.items.specs.Entry.{base, Parsed};
 
 const SOURCE_FILE: u16 = 2;
 
-// parse's loop. An item writes at most 15 more than 7 for each of its tokens, and it takes one: 22 for each pay for all.
+// parse's loop; trivia behind an item is taken at once. An item writes at most 15 more than 7 for each of its tokens, and it takes one: 22 for each pay for all.
 fn source_items(kinds: &[u16], ev: &mut [u16], dm: &mut [u16], ds: &mut [u32], c0: Cursor) -> Cursor
     requires { ⌜ Ready (2 ^ 25) (now kinds) c0 ⌝ }
     ensures { λ r. ⌜ Ran 22 0 0 (now (kinds .entry)) (items-in 256) (world (now (ev .entry)) (now (dm .entry)) (now (ds .entry)) c0) (world (now (ev .exit)) (now (dm .exit)) (now (ds .exit)) r) ⌝ }
 {
     let mut c = c0;
     while !eof(kinds, c.pos) {
-        c = parse_source_item(kinds, ev, dm, ds, c);
+        let d = parse_source_item(kinds, ev, dm, ds, c);
+        c = bump_regular_trivia(kinds, ev, dm, ds, d);
     }
     c
 }

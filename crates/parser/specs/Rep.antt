@@ -105,3 +105,7 @@ pub record Ran {A : Type 0} (a n m : ℕ) (F : File) (f : P A) (w w′ : World) 
 pub record RanTo {A : Type 0} (a n m : ℕ) (F : File) (f : P A) (w w′ : World) (r : A) : Type 0 where
   pub went : WentTo F f w w′ r
   pub paid : Paid a n m F (w .c) (w′ .c)
+
+-- a run of tokens whose events are all that is written
+pub record TookAll {A : Type 0} (F : File) (f : P A) (ev : List ℕ) (c : Cursor) (ev′ : List ℕ) (c′ : Cursor) : Type 0 where
+  pub ran : (dm ds : List ℕ) → Ran 1 0 0 F f (world ev dm ds c) (world ev′ dm ds c′)

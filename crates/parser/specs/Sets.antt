@@ -1,7 +1,7 @@
 -- Sets of numbers below 64 as the bits of a number. Assumes nothing.
 use Prim.Native.Nat.{ℕ, zero, suc, _+_, _≤_, _<_, _^_, _/_, _%_}
 use mathlib.Core.Path.{_≡_, refl, sym, ap, ap₂, _∙_}
-use mathlib.Core.Bool.{Bool, true, false, cond, _&&_, _||_, or-false, false≢true, Bool·beq}
+use mathlib.Core.Bool.{Bool, true, false, cond, not, _&&_, _||_, or-false, false≢true, Bool·beq}
 use mathlib.Core.List.{List, [], _∷_}
 use native.Mathlib.Omega.{arith}
 use native.Mathlib.Nat.{add-zero, zero-add, add-suc, suc-add, le-of-suc-le-suc, not-suc-le-zero}
@@ -9,6 +9,7 @@ use borrow.Author.Tests.{ltb-true, ltb-false, eq-eqb, ne-eqb, eqb-true, eqb-fals
 use lib.Dec.{T, eqb, ltb, ltb→lt}
 use Rattle.grammar.specs.Words.{key}
 use Rattle.grammar.specs.Look.{oneOf}
+use Rattle.grammar.specs.Out.{kind}
 
 unfoldable pub bit : ℕ → ℕ → Bool
 bit mask k = cond (ltb k 64) (eqb ((mask / 2 ^ k) % 2) 1) false
@@ -78,6 +79,28 @@ each-of mask p k t = by-test (ltb k 64) refl
     by-test : (u : Bool) → ltb k 64 ≡ u → cond u (low mask k) false ≡ true → p k ≡ true
     by-test true e h = sym (ap (λ u. u && p k) h) ∙ agree-at (λ i. low mask i && p i) (low mask) 64 k t (ltb-true k 64 e) ∙ h
     by-test false e h = absurd (false≢true h)
+
+-- each number in the set is the event of the token that it is, and none is Error
+abbrev pub OwnEvents : ℕ → Type 0
+OwnEvents mask = (k : ℕ) → bit mask k ≡ true → (k ≡ kind k) × (k ≡ 1 → ⊥)
+
+abbrev own : ℕ → Bool
+own k = eqb k (kind k) && not (eqb k 1)
+
+pub own-events : (mask : ℕ) → T (agree (λ i. low mask i && own i) (low mask) 0 64) → OwnEvents mask
+own-events mask t k h = by-test (eqb k (kind k)) (eqb k 1) refl refl (each-of mask own k t h)
+  where
+    by-test : (u v : Bool) → eqb k (kind k) ≡ u → eqb k 1 ≡ v → u && not v ≡ true → (k ≡ kind k) × (k ≡ 1 → ⊥)
+    by-test true false e f g = (eqb-true k (kind k) e, eqb-false k 1 f)
+    by-test true true e f g = absurd (false≢true g)
+    by-test false v e f g = absurd (false≢true g)
+
+pub no-tombstone : (mask : ℕ) → OwnEvents mask → bit mask 0 ≡ false
+no-tombstone mask o = by-test (bit mask 0) refl
+  where
+    by-test : (u : Bool) → bit mask 0 ≡ u → u ≡ false
+    by-test true e = let z = o 0 e .0 in absurd (omega arith)
+    by-test false e = refl
 
 -- the same of words, which stand in the high byte of an Ident
 abbrev pub keys : List ℕ → List ℕ

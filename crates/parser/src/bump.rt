@@ -2,6 +2,7 @@
 use crate::cursor::Cursor;
 use crate::cursor::Flow;
 use crate::cursor::bump;
+use crate::cursor::bump_plain;
 use crate::cursor::error_here;
 use crate::cursor::put;
 use crate::kinds::NON_COMMENT_TRIVIA;
@@ -12,31 +13,23 @@ use crate::kinds::is_name_like;
 use crate::look::at_kind;
 use crate::look::current;
 use grammar::message::Message;
-ghost use mathlib.Core.Bool.{false};
-ghost use mathlib.Core.Path.{_≡_};
-ghost use Rattle.lexer.specs.Syntax.{Tombstone, Whitespace};
+ghost use Rattle.lexer.specs.Syntax.{Whitespace};
 ghost use Rattle.grammar.specs.Words.{is};
 ghost use Rattle.grammar.specs.Look.{at, regular-trivia, non-comment-trivia};
 ghost use Rattle.grammar.specs.Run.{if_then_else_, take};
 ghost use Rattle.grammar.specs.Bump.{nop, bump-while, expect-kind, expect-name, error-token};
-ghost use Rattle.parser.specs.Sets.{bit};
-ghost use Rattle.parser.specs.Rep.{world, Ready, Ran, RanTo};
+ghost use Rattle.parser.specs.Sets.{bit, OwnEvents};
+ghost use Rattle.parser.specs.Rep.{world, Ready, Ran, RanTo, TookAll};
 
-// while the token is in the set { bump }. Past the last token `current` is 0, which no set holds.
-fn bump_while(
-    kinds: &[u16],
-    ev: &mut [u16],
-    dm: &mut [u16],
-    ds: &mut [u32],
-    c0: Cursor,
-    mask: u64,
-) -> Cursor
-    requires { ⌜ (Ready 0 (now kinds) c0) × (bit mask Tombstone ≡ false) ⌝ }
-    ensures { λ r. ⌜ Ran 1 0 0 (now (kinds .entry)) (bump-while (bit mask)) (world (now (ev .entry)) (now (dm .entry)) (now (ds .entry)) c0) (world (now (ev .exit)) (now (dm .exit)) (now (ds .exit)) r) ⌝ }
+// while the token is in the set { bump }. Each kind of the set is its own event; `current` past the last token, 0, is not.
+fn bump_while(kinds: &[u16], ev: &mut [u16], c0: Cursor, mask: u64) -> Cursor
+    requires { ⌜ (Ready 0 (now kinds) c0) × OwnEvents mask ⌝ }
+    ensures { λ r. ⌜ TookAll (now (kinds .entry)) (bump-while (bit mask)) (now (ev .entry)) c0 (now (ev .exit)) r ⌝ }
 {
     let mut c = c0;
     while in_set(mask, current(kinds, c.pos)) {
-        c = bump(kinds, ev, dm, ds, c);
+        let k = current(kinds, c.pos);
+        c = bump_plain(kinds, ev, c, k);
     }
     c
 }
@@ -51,7 +44,7 @@ pub fn bump_regular_trivia(
     requires { ⌜ Ready 0 (now kinds) c0 ⌝ }
     ensures { λ r. ⌜ Ran 1 0 0 (now (kinds .entry)) (bump-while regular-trivia) (world (now (ev .entry)) (now (dm .entry)) (now (ds .entry)) c0) (world (now (ev .exit)) (now (dm .exit)) (now (ds .exit)) r) ⌝ }
 {
-    bump_while(kinds, ev, dm, ds, c0, REGULAR_TRIVIA)
+    bump_while(kinds, ev, c0, REGULAR_TRIVIA)
 }
 
 pub fn bump_non_comment_trivia(
@@ -64,7 +57,7 @@ pub fn bump_non_comment_trivia(
     requires { ⌜ Ready 0 (now kinds) c0 ⌝ }
     ensures { λ r. ⌜ Ran 1 0 0 (now (kinds .entry)) (bump-while non-comment-trivia) (world (now (ev .entry)) (now (dm .entry)) (now (ds .entry)) c0) (world (now (ev .exit)) (now (dm .exit)) (now (ds .exit)) r) ⌝ }
 {
-    bump_while(kinds, ev, dm, ds, c0, NON_COMMENT_TRIVIA)
+    bump_while(kinds, ev, c0, NON_COMMENT_TRIVIA)
 }
 
 pub fn bump_inline_whitespace(
@@ -77,7 +70,7 @@ pub fn bump_inline_whitespace(
     requires { ⌜ Ready 0 (now kinds) c0 ⌝ }
     ensures { λ r. ⌜ Ran 1 0 0 (now (kinds .entry)) (bump-while (is Whitespace)) (world (now (ev .entry)) (now (dm .entry)) (now (ds .entry)) c0) (world (now (ev .exit)) (now (dm .exit)) (now (ds .exit)) r) ⌝ }
 {
-    bump_while(kinds, ev, dm, ds, c0, SPACE)
+    bump_while(kinds, ev, c0, SPACE)
 }
 
 // expect_kind and expect_keyword

@@ -7,7 +7,7 @@ use Rattle.grammar.specs.Look.{at-top-level-form-starter-in-block}
 use Rattle.blocks.specs.declared.arm.Arm.{Arm}
 use Rattle.blocks.specs.declared.arm.Closing.{Closing}
 use Rattle.blocks.specs.Arms.{by-arm}
-use Rattle.blocks.proofs.Laws.{meant, takes, round, no-item, from-here}
+use Rattle.blocks.proofs.Laws.{meant, takes, round, absorbs, no-item, from-here}
 use Rattle.parser.proofs.Ahead.{remembers-none, remembers-later}
 use Rattle.parser.proofs.Kit.{_then-to_, begins, goes-on, Held}
 use Rattle.parser.proofs.Laws.{past-here}
@@ -46,33 +46,50 @@ take-requires c κs =
     let c₂ = c₁ .before .before .before .before .before .before in
     omega (arith, c₂ .pre, c₁ .loop .inv .0 .paid)
 
+bump-regular-trivia-requires : tie.Need-bump-regular-trivia-requires Inv-loop μ-loop
+bump-regular-trivia-requires c κs =
+    let c₁ = c .before .before .before .before .before .before .before .before .before in
+    let c₂ = c₁ .before .before .before .before .before in
+    let c₃ = c₂ .before .before .before in
+    let c₄ = c₃ .before in
+    let c₅ = c₄ .before .before .before .before .before .before in
+    let moved = past-here (c₁ .take .ensures .went) (takes _ _ (meant (c₅ .args .place .terminators) _ (Arm.Takes _) (c₃ .arm-here .ensures .0) (c₂ .a .given .1))) in
+    omega (arith, c₅ .pre, c₄ .loop .inv .0 .paid, c₁ .take .ensures .paid, moved)
+
 loop-less : tie.Need-loop-less Inv-loop μ-loop
 loop-less c =
-    let c₁ = c .before .before .before .before .before .before in
+    let b = c .before .before .before .before .before .before in
+    let c₁ = b .before .before .before .before .before .before .before .before .before .before in
     let c₂ = c₁ .before .before .before .before .before in
     let c₃ = c₂ .before .before .before in
     let c₄ = c₃ .before .before .before .before .before .before .before in
     let moved = past-here (c₁ .take .ensures .went) (takes _ _ (meant (c₄ .args .place .terminators) _ (Arm.Takes _) (c₃ .arm-here .ensures .0) (c₂ .a .given .1))) in
-    omega (arith, moved, c₁ .take .ensures .paid)
+    omega (arith, moved, c₁ .take .ensures .paid, b .bump-regular-trivia .ensures .paid)
 
 loop-again : tie.Need-loop-again Inv-loop μ-loop
 unfolding by-arm
 loop-again c =
-    let c₁ = c .before .before .before .before .before .before in
+    let b = c .before .before .before .before .before .before in
+    let c₁ = b .before .before .before .before .before .before .before .before .before .before in
     let c₂ = c₁ .before .before .before .before .before in
     let c₃ = c₂ .before .before .before in
     let c₄ = c₃ .before in
     let c₅ = c₄ .before .before .before .before .before .before in
     let i = c₄ .loop .inv .0 in
-    let moved = past-here (c₁ .take .ensures .went) (takes _ _ (meant (c₅ .args .place .terminators) _ (Arm.Takes _) (c₃ .arm-here .ensures .0) (c₂ .a .given .1))) in (
+    let t = c₁ .take in
+    let v = b .bump-regular-trivia in
+    let p = c₅ .args .place in
+    let moved = past-here (t .ensures .went) (takes _ _ (meant (p .terminators) _ (Arm.Takes _) (c₃ .arm-here .ensures .0) (c₂ .a .given .1))) in (
       record {
-        paid = omega (arith, c₅ .pre, c₄ .loop .inv .0 .paid, c₁ .take .ensures .paid, moved);
-        ev = c₁ .take .kept .1 .0 ∙ i .ev;
-        dm = c₁ .take .kept .1 .1 .0 ∙ i .dm;
-        ds = c₁ .take .kept .1 .1 .1 .0 ∙ i .ds;
-        leads = goes-on (i .leads) (λ w′ r k. round (c₅ .args .place .owner) (c₅ .args .place .terminators) (c₅ .args .place .depth) (Arm.Takes _) (c₃ .arm-here .ensures .0) (c₂ .a .given .1) (c₁ .take .ensures .went then-to k));
+        paid = omega (arith, c₅ .pre, i .paid, t .ensures .paid, v .ensures .paid, moved);
+        ev = v .kept .1 .0 ∙ t .kept .1 .0 ∙ i .ev;
+        dm = v .kept .1 .1 .0 ∙ t .kept .1 .1 .0 ∙ i .dm;
+        ds = v .kept .1 .1 .1 .0 ∙ t .kept .1 .1 .1 .0 ∙ i .ds;
+        leads = goes-on (i .leads) (λ w′ r k.
+            round (p .owner) (p .terminators) (p .depth) (Arm.Takes _) (c₃ .arm-here .ensures .0) (c₂ .a .given .1)
+            (t .ensures .went then-to absorbs 256 (p .owner) (p .terminators) (p .depth) (v .ensures .went) k));
       },
-      remembers-later _ (c₁ .take .ensures .paid .ahead) (c₃ .arm-here .ensures .1),
+      remembers-later _ (omega (arith, t .ensures .paid .ahead, v .ensures .paid .ahead)) (c₃ .arm-here .ensures .1),
       no-item,
     )
 
@@ -164,4 +181,4 @@ returns-2 c =
     from-here (c₄ .loop .inv .0 .leads) (c₄ .loop .inv .0 .paid) here
 
 pub rounds-spec : {M : Type 1} → statement M
-rounds-spec = tie.close (tie.spec Inv-loop μ-loop cast-depth loop-holds arm-here-requires enum-known-a take-requires loop-less loop-again enum-known-a-2 close-requires same-length same-length-2 same-length-3 returns enum-told form-here-requires same-length-4 same-length-5 same-length-6 returns-2)
+rounds-spec = tie.close (tie.spec Inv-loop μ-loop cast-depth loop-holds arm-here-requires enum-known-a take-requires bump-regular-trivia-requires loop-less loop-again enum-known-a-2 close-requires same-length same-length-2 same-length-3 returns enum-told form-here-requires same-length-4 same-length-5 same-length-6 returns-2)

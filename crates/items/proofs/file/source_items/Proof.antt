@@ -1,7 +1,7 @@
 -- `items::file::source_items`: the items' loop without fuel; each round takes a token. Assumes nothing.
 use mathlib.Core.Bool.{Bool, true, false, false≢true}
 use mathlib.Core.List.{List, [], _∷_}
-use mathlib.Core.Path.{_≡_, refl, sym, _∙_}
+use mathlib.Core.Path.{_≡_, refl, sym, ap, _∙_}
 use Prim.Native.Nat.{_-_, _<_}
 use native.Mathlib.Omega.{arith}
 use lib.ListN.{length}
@@ -9,11 +9,14 @@ use borrow.Author.Needs.{needs}
 use borrow.Author.Tests.{not-true, not-false}
 use Rattle.grammar.specs.Block.{parse-block}
 use Rattle.grammar.specs.Item.{parse-source-item, items-in}
-use Rattle.grammar.specs.Look.{eof}
-use Rattle.grammar.specs.Run.{pure, _>>_, if_then_else_, P}
+use Rattle.lexer.specs.Syntax.{DocComment}
+use Rattle.grammar.specs.Bump.{bump-while, while-round}
+use Rattle.grammar.specs.Laws.Here.{is-not}
+use Rattle.grammar.specs.Look.{oneOf, at, eof, regular-trivia}
+use Rattle.grammar.specs.Run.{leaf, pure, peek, take, scan, _>>=_, _>>_, if_then_else_, P}
 use Rattle.grammar.specs.Theorems.NoFuel.{items-eq}
 use Rattle.grammar.specs.Theorems.Rounds.{round-takes}
-use Rattle.grammar.specs.Words.{File, from, Sym}
+use Rattle.grammar.specs.Words.{File, from, Sym, is}
 use Rattle.items.specs.Entry.{limit}
 use Rattle.parser.specs.Rep.{World, world, Went, WentTo}
 use Rattle.parser.proofs.Kit.{like-to, yes-to, no-to, done-to, _then_, _then-to_, begins, goes-on, Held}
@@ -38,6 +41,29 @@ unfolding eof
 takes [] e = absurd (false≢true (sym e))
 takes (s ∷ r) e = round-takes limit s r
 
+not-doc : (s : Sym) → regular-trivia s ≡ true → is DocComment s ≡ false
+unfolding oneOf
+not-doc s e = is-not regular-trivia DocComment s refl e
+
+-- trivia is an item by itself
+trivia-round : (s : Sym) (r : List Sym) → regular-trivia s ≡ true → round (s ∷ r) ≡ record { rest = items-in limit r .rest; out = leaf s (items-in limit r .out); val = items-in limit r .val }
+unfolding parse-source-item _>>=_ peek at eof take
+trivia-round s r e = rw (not-doc s e, e)
+
+trivia-first : (r : List Sym) → items-in limit r ≡ (bump-while regular-trivia >> items-in limit) r
+unfolding bump-while while-round scan _>>=_ at
+trivia-first [] = refl
+trivia-first (s ∷ r) = by-test (regular-trivia s) refl (trivia-first r)
+  where
+    by-test : (u : Bool) → regular-trivia s ≡ u → items-in limit r ≡ (bump-while regular-trivia >> items-in limit) r
+        → items-in limit (s ∷ r) ≡ (bump-while regular-trivia >> items-in limit) (s ∷ r)
+    by-test true e h =
+        rw e (items-eq limit (s ∷ r) ∙ trivia-round s r e ∙ ap (λ x. record { rest = x .rest; out = leaf s (x .out); val = x .val }) h)
+    by-test false e h = rw e refl
+
+absorbs : {F : File} {w v w′ : World} {r : Bool} → Went F (bump-while regular-trivia) w v → WentTo F (items-in limit) v w′ r → WentTo F (items-in limit) w w′ r
+absorbs h k = like-to (bump-while regular-trivia >> items-in limit) (trivia-first _) (h then-to k)
+
 abbrev Inv-loop : tie.InvT-loop
 Inv-loop kinds ev₀ dm₀ ds₀ c₀ ev dm ds c = Held 22 0 0 kinds (items-in limit) (world ev₀ dm₀ ds₀ c₀) (items-in limit) (world ev dm ds c)
 
@@ -58,29 +84,44 @@ parse-source-item-requires c κs =
     let c₂ = c₁ .before .before .before .before .before in
     omega (arith, c₂ .pre, c₁ .loop .inv .paid)
 
+bump-regular-trivia-requires : tie.Need-bump-regular-trivia-requires Inv-loop μ-loop
+bump-regular-trivia-requires c κs =
+    let c₁ = c .before .before .before .before .before .before .before .before .before in
+    let c₂ = c₁ .before .before .before .before in
+    let c₃ = c₂ .before in
+    let c₄ = c₃ .before in
+    let c₅ = c₄ .before .before .before .before .before in
+    let m = past-here (c₁ .parse-source-item .ensures .went) (takes _ (sym (c₃ .eof .ensures) ∙ not-true _ (c₂ .if1 .taken))) in
+    omega (arith, m, c₅ .pre, c₄ .loop .inv .paid, c₁ .parse-source-item .ensures .paid)
+
 loop-less : tie.Need-loop-less Inv-loop μ-loop
 loop-less c =
-    let c₁ = c .before .before .before .before .before .before in
+    let b = c .before .before .before .before .before .before in
+    let c₁ = b .before .before .before .before .before .before .before .before .before .before in
     let c₂ = c₁ .before .before .before .before in
     let c₃ = c₂ .before in
     let m = past-here (c₁ .parse-source-item .ensures .went) (takes _ (sym (c₃ .eof .ensures) ∙ not-true _ (c₂ .if1 .taken))) in
-    omega (arith, m, c₁ .parse-source-item .ensures .paid)
+    omega (arith, m, c₁ .parse-source-item .ensures .paid, b .bump-regular-trivia .ensures .paid)
 
 loop-again : tie.Need-loop-again Inv-loop μ-loop
 loop-again c =
-    let c₁ = c .before .before .before .before .before .before in
+    let b = c .before .before .before .before .before .before in
+    let c₁ = b .before .before .before .before .before .before .before .before .before .before in
     let c₂ = c₁ .before .before .before .before in
     let c₃ = c₂ .before in
     let c₄ = c₃ .before in
     let c₅ = c₄ .before .before .before .before .before in
     let z = sym (c₃ .eof .ensures) ∙ not-true _ (c₂ .if1 .taken) in
     let m = past-here (c₁ .parse-source-item .ensures .went) (takes _ z) in
+    let t = c₁ .parse-source-item in
+    let v = b .bump-regular-trivia in
+    let i = c₄ .loop .inv in
     record {
-      paid = omega (arith, m, c₅ .pre, c₄ .loop .inv .paid, c₁ .parse-source-item .ensures .paid);
-      ev = c₁ .parse-source-item .kept .1 .0 ∙ c₄ .loop .inv .ev;
-      dm = c₁ .parse-source-item .kept .1 .1 .0 ∙ c₄ .loop .inv .dm;
-      ds = c₁ .parse-source-item .kept .1 .1 .1 .0 ∙ c₄ .loop .inv .ds;
-      leads = goes-on (c₄ .loop .inv .leads) (λ w′ r k. next z (c₁ .parse-source-item .ensures .went) k);
+      paid = omega (arith, m, c₅ .pre, i .paid, t .ensures .paid, v .ensures .paid);
+      ev = v .kept .1 .0 ∙ t .kept .1 .0 ∙ i .ev;
+      dm = v .kept .1 .1 .0 ∙ t .kept .1 .1 .0 ∙ i .dm;
+      ds = v .kept .1 .1 .1 .0 ∙ t .kept .1 .1 .1 .0 ∙ i .ds;
+      leads = goes-on (i .leads) (λ w′ r k. next z (t .ensures .went) (absorbs (v .ensures .went) k));
     }
 
 same-length : tie.Need-same-length Inv-loop μ-loop
@@ -103,5 +144,5 @@ returns c =
 pub source-items-spec : {M : Type 1} → statement M
 source-items-spec =
     tie.close
-    (tie.spec Inv-loop μ-loop loop-holds eof-requires parse-source-item-requires loop-less loop-again same-length same-length-2 same-length-3
+    (tie.spec Inv-loop μ-loop loop-holds eof-requires parse-source-item-requires bump-regular-trivia-requires loop-less loop-again same-length same-length-2 same-length-3
     returns)

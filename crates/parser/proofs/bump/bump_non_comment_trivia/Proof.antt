@@ -2,39 +2,27 @@
 use mathlib.Core.List.{[], _∷_}
 use mathlib.Core.Path.{refl}
 use native.Mathlib.Omega.{arith}
+use borrow.Author.Needs.{needs}
 use Rattle.grammar.specs.Look.{oneOf}
 use Rattle.lexer.specs.Syntax.{Whitespace, Newline}
-use Rattle.parser.specs.Sets.{bit, bits-are}
+use Rattle.parser.specs.Sets.{bits-are, own-events}
 use Rattle.parser.proofs.Kit.{of-set}
 use Rattle.parser.proofs.bump.bump_non_comment_trivia.Statement.{statement}
 use Rattle.parser.proofs.bump.bump_non_comment_trivia.Tie as tie
 
 bump-while-requires : tie.Need-bump-while-requires
-unfolding bit
 bump-while-requires c κs =
-    let c₁ = c .before .before .before .before .before .before .before in
-    (omega (arith, c₁ .pre), refl)
+    let c₁ = c .before .before .before .before .before in
+    (omega (arith, c₁ .pre), own-events _ tt)
 
 same-length : tie.Need-same-length
-same-length c =
-    let c₁ = c .before .before .before .before .before .before in
-    c₁ .bump-while .kept .1 .0
-
-same-length-2 : tie.Need-same-length-2
-same-length-2 c =
-    let c₁ = c .before .before .before .before .before .before in
-    c₁ .bump-while .kept .1 .1 .0
-
-same-length-3 : tie.Need-same-length-3
-same-length-3 c =
-    let c₁ = c .before .before .before .before .before .before in
-    c₁ .bump-while .kept .1 .1 .1 .0
+same-length c = search needs
 
 returns : tie.Need-returns
 unfolding oneOf
 returns c =
-    let c₁ = c .before .before .before .before .before .before in
-    of-set (λ k. bits-are _ (Whitespace ∷ Newline ∷ []) k tt tt) (c₁ .bump-while .ensures)
+    let c₁ = c .before .before in
+    of-set (λ k. bits-are _ (Whitespace ∷ Newline ∷ []) k tt tt) (c₁ .bump-while .ensures .ran _ _)
 
 pub bump-non-comment-trivia-spec : {M : Type 1} → statement M
-bump-non-comment-trivia-spec = tie.close (tie.spec bump-while-requires same-length same-length-2 same-length-3 returns)
+bump-non-comment-trivia-spec = tie.close (tie.spec bump-while-requires same-length returns)
