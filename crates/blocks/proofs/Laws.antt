@@ -16,7 +16,7 @@ use Rattle.grammar.specs.declared.block.Terminators.{Terminators}
 use Rattle.grammar.specs.declared.block.BlockParseOutcome.{BlockParseOutcome}
 use Rattle.grammar.specs.Block.{block-in, parse-block, parse-control-flow, found-terminator, reached-eof, closing, ended, do-condition}
 use Rattle.grammar.specs.Bump.{nop, bump-while, while-round, expect-kind}
-use Rattle.grammar.specs.Laws.Here.{is-not, none, oneOf-not, expect-here}
+use Rattle.grammar.specs.Laws.Here.{is-not, none, oneOf-not}
 use Rattle.grammar.specs.Laws.Live.{some, eats-take}
 use Rattle.grammar.specs.Laws.LiveLine.{eats-error-token, eats-instruction}
 use Rattle.grammar.specs.Laws.LiveBlock.{bare-while, repeat-left}
@@ -86,24 +86,6 @@ trivia-no-end Terminators.While (s ∷ r) e = rw (is-not regular-trivia WHILE s 
 pub plain-starter : (r : List Sym) → at (is Syntax.DocComment) r ≡ false → at-top-level-form-starter-in-block r ≡ is-top-level-starter r
 unfolding at-top-level-form-starter-in-block
 plain-starter r e = rw (at-top-level-form-starter-in-block, e)
-
--- at its kind, expect_kind takes the token
-expect-take : (k : Sym) (m : Message) → regular-trivia k ≡ false → (r : List Sym) → at (is k) r ≡ true → expect-kind k m r ≡ take r
-unfolding at take
-expect-take k m t [] e = absurd (false≢true e)
-expect-take k m t (s ∷ r) e = expect-here k m t s r e
-
-take-says : (k : Sym) (r : List Sym) → at (is k) r ≡ true → take r .val ≡ true
-unfolding at take
-take-says k [] e = absurd (false≢true e)
-take-says k (s ∷ r) e = refl
-
-module _ {F : File} {w w′ : World} (k : Sym) (m : Message) (t : regular-trivia k ≡ false) (e : at (is k) (from F (w .c .pos)) ≡ true) where
-  pub expected : Went F take w w′ → WentTo F (expect-kind k m) w w′ true
-  expected h = record { went = like take (expect-take k m t _ e) h; val = ap (λ x. x .val) (expect-take k m t _ e) ∙ take-says k _ e }
-
-  pub take-expected : Went F (expect-kind k m) w w′ → Went F take w w′
-  take-expected = like (expect-kind k m) (sym (expect-take k m t _ e))
 
 -- ---- arms
 -- what the tests before an arm have shown

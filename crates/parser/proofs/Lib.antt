@@ -1,5 +1,6 @@
 -- What the functions' proofs share.
 pub mod Laws
 pub mod Kit
+pub mod Expect
 pub mod Ahead
 pub mod Counts

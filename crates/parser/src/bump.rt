@@ -10,9 +10,13 @@ use crate::kinds::REGULAR_TRIVIA;
 use crate::kinds::SPACE;
 use crate::kinds::in_set;
 use crate::kinds::is_name_like;
+use crate::kinds::is_regular_trivia;
 use crate::look::at_kind;
 use crate::look::current;
 use grammar::message::Message;
+ghost use mathlib.Core.Path.{_≡_};
+ghost use mathlib.Core.Bool.{true, false};
+ghost use lib.ListN.{drop};
 ghost use Rattle.lexer.specs.Syntax.{Whitespace};
 ghost use Rattle.grammar.specs.Words.{is};
 ghost use Rattle.grammar.specs.Look.{at, regular-trivia, non-comment-trivia};
@@ -73,8 +77,15 @@ pub fn bump_inline_whitespace(
     bump_while(kinds, ev, c0, SPACE)
 }
 
-// expect_kind and expect_keyword
-pub fn expect_kind(
+// Whether the token here is of kind k, and k is not trivia.
+fn stands_here(kinds: &[u16], p: usize, k: u16) -> bool
+    ensures { λ r. ⌜ (r ≡ true → (at (is k) (drop p (now (kinds .entry))) ≡ true) × (regular-trivia k ≡ false)) ⌝ }
+{
+    at_kind(kinds, p, k) && !is_regular_trivia(k)
+}
+
+// expect_kind where trivia may stand before the token.
+fn expect_behind(
     kinds: &[u16],
     ev: &mut [u16],
     dm: &mut [u16],
@@ -93,6 +104,26 @@ pub fn expect_kind(
     }
     let d = error_here(dm, ds, c, m);
     Flow { c: d, ok: false }
+}
+
+// expect_kind and expect_keyword. Mostly the token is here.
+pub fn expect_kind(
+    kinds: &[u16],
+    ev: &mut [u16],
+    dm: &mut [u16],
+    ds: &mut [u32],
+    c0: Cursor,
+    k: u16,
+    m: Message,
+) -> Flow
+    requires { ⌜ Ready 1 (now kinds) c0 ⌝ }
+    ensures { λ r. ⌜ RanTo 1 0 1 (now (kinds .entry)) (expect-kind k m) (world (now (ev .entry)) (now (dm .entry)) (now (ds .entry)) c0) (world (now (ev .exit)) (now (dm .exit)) (now (ds .exit)) (r .c)) (r .ok) ⌝ }
+{
+    if stands_here(kinds, c0.pos, k) {
+        let d = bump(kinds, ev, dm, ds, c0);
+        return Flow { c: d, ok: true };
+    }
+    expect_behind(kinds, ev, dm, ds, c0, k, m)
 }
 
 // A name, or a diagnostic.

@@ -2,7 +2,7 @@
 use mathlib.Core.Path.{sym, _∙_}
 use native.Mathlib.Omega.{arith}
 use borrow.Author.Needs.{needs}
-use Rattle.blocks.proofs.Laws.{expected}
+use Rattle.parser.proofs.Expect.{expected}
 use Rattle.blocks.proofs.expect.expect.Statement.{statement}
 use Rattle.blocks.proofs.expect.expect.Tie as tie
 

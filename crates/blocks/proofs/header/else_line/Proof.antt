@@ -4,7 +4,7 @@ use native.Mathlib.Omega.{arith}
 use Rattle.grammar.specs.Words.{ELSE}
 use Rattle.grammar.specs.Look.{oneOf}
 use Rattle.grammar.specs.declared.message.Message.{Message}
-use Rattle.blocks.proofs.Laws.{take-expected}
+use Rattle.parser.proofs.Expect.{take-expected}
 use Rattle.parser.proofs.Kit.{_then-to_}
 use Rattle.blocks.proofs.header.else_line.Statement.{statement}
 use Rattle.blocks.proofs.header.else_line.Tie as tie

@@ -1,96 +1,54 @@
--- `parser::bump::expect_kind`: trivia, then the token or a report. Assumes nothing.
-use mathlib.Core.Bool.{true, false}
-use mathlib.Core.Path.{_∙_}
+-- `parser::bump::expect_kind`: the token is here, or trivia is passed first. Assumes nothing.
 use native.Mathlib.Omega.{arith}
 use borrow.Author.Needs.{needs}
-use Rattle.grammar.specs.Bump.{expect-kind}
-use Rattle.parser.proofs.Kit.{yes-to, no-to, done-to, _then-to_}
+use Rattle.parser.proofs.Expect.{expected}
 use Rattle.parser.proofs.bump.expect_kind.Statement.{statement}
 use Rattle.parser.proofs.bump.expect_kind.Tie as tie
 
-bump-regular-trivia-requires : tie.Need-bump-regular-trivia-requires
-bump-regular-trivia-requires c κs =
-    let c₁ = c .before .before .before .before .before .before .before in
-    omega (arith, c₁ .pre)
-
-at-kind-requires : tie.Need-at-kind-requires
-at-kind-requires c κs = search needs
+stands-here-requires : tie.Need-stands-here-requires
+stands-here-requires c κs = search needs
 
 bump-requires : tie.Need-bump-requires
-bump-requires c κs =
-    let c₁ = c .before .before .before .before .before .before .before .before .before .before .before in
-    let c₂ = c₁ .before .before .before .before .before .before .before .before in
-    omega (arith, c₂ .pre, c₁ .bump-regular-trivia .ensures .paid)
+bump-requires c κs = search needs
 
 same-length : tie.Need-same-length
-same-length c =
-    let c₁ = c .before .before .before .before .before .before in
-    let c₂ = c₁ .before .before .before .before .before .before .before .before .before .before .before .before in
-    c₁ .bump .kept .1 .0 ∙ c₂ .bump-regular-trivia .kept .1 .0
+same-length c = search needs
 
 same-length-2 : tie.Need-same-length-2
-same-length-2 c =
-    let c₁ = c .before .before .before .before .before .before in
-    let c₂ = c₁ .before .before .before .before .before .before .before .before .before .before .before .before in
-    c₁ .bump .kept .1 .1 .0 ∙ c₂ .bump-regular-trivia .kept .1 .1 .0
+same-length-2 c = search needs
 
 same-length-3 : tie.Need-same-length-3
-same-length-3 c =
-    let c₁ = c .before .before .before .before .before .before in
-    let c₂ = c₁ .before .before .before .before .before .before .before .before .before .before .before .before in
-    c₁ .bump .kept .1 .1 .1 .0 ∙ c₂ .bump-regular-trivia .kept .1 .1 .1 .0
+same-length-3 c = search needs
 
 returns : tie.Need-returns
-unfolding expect-kind
 returns c =
     let c₁ = c .before .before .before .before .before .before in
     let c₂ = c₁ .before .before .before .before in
     let c₃ = c₂ .before in
-    let c₄ = c₃ .before .before .before .before .before .before .before in
-    let c₅ = c₄ .before .before .before .before .before .before .before .before in
+    let c₄ = c₃ .before .before .before .before .before in
+    let here = c₃ .stands-here .ensures (c₂ .if1 .taken) in
     record {
-      paid = omega (arith, c₅ .pre, c₄ .bump-regular-trivia .ensures .paid, c₁ .bump .ensures .paid);
-      went = c₄ .bump-regular-trivia .ensures .went then-to yes-to _ _ (c₃ .at-kind .ensures) (c₂ .if1 .taken) (c₁ .bump .ensures .went then-to done-to true);
+      paid = omega (arith, c₄ .pre, c₁ .bump .ensures .paid);
+      went = expected (c₄ .args .k) (c₄ .args .m) (here .1) (here .0) (c₁ .bump .ensures .went);
     }
 
-error-here-requires : tie.Need-error-here-requires
-error-here-requires c κs =
-    let c₁ = c .before .before .before .before .before .before .before .before .before .before in
-    let c₂ = c₁ .before .before .before .before .before .before .before .before in
-    omega (arith, c₂ .pre, c₁ .bump-regular-trivia .ensures .paid)
+expect-behind-requires : tie.Need-expect-behind-requires
+expect-behind-requires c κs = search needs
 
 same-length-4 : tie.Need-same-length-4
-same-length-4 c =
-    let c₁ = c .before .before .before .before .before .before .before .before .before .before .before .before .before .before .before in
-    c₁ .bump-regular-trivia .kept .1 .0
+same-length-4 c = search needs
 
 same-length-5 : tie.Need-same-length-5
-same-length-5 c =
-    let c₁ = c .before .before .before .before in
-    let c₂ = c₁ .before .before .before .before .before .before .before .before .before .before .before in
-    c₁ .error-here .kept .0 ∙ c₂ .bump-regular-trivia .kept .1 .1 .0
+same-length-5 c = search needs
 
 same-length-6 : tie.Need-same-length-6
-same-length-6 c =
-    let c₁ = c .before .before .before .before in
-    let c₂ = c₁ .before .before .before .before .before .before .before .before .before .before .before in
-    c₁ .error-here .kept .1 .0 ∙ c₂ .bump-regular-trivia .kept .1 .1 .1 .0
+same-length-6 c = search needs
 
 returns-2 : tie.Need-returns-2
-unfolding expect-kind
-returns-2 c =
-    let c₁ = c .before .before .before .before in
-    let c₂ = c₁ .before .before .before in
-    let c₃ = c₂ .before in
-    let c₄ = c₃ .before .before .before .before .before .before .before in
-    let c₅ = c₄ .before .before .before .before .before .before .before .before in
-    record {
-      paid = omega (arith, c₅ .pre, c₄ .bump-regular-trivia .ensures .paid, c₁ .error-here .ensures);
-      went = c₄ .bump-regular-trivia .ensures .went then-to no-to _ _ (c₃ .at-kind .ensures) (c₂ .if1 .left) (c₁ .error-here .ensures .went (c₅ .args .kinds .now) _ then-to done-to false);
-    }
+returns-2 c = search needs
 
 pub expect-kind-spec : {M : Type 1} → statement M
 expect-kind-spec =
     tie.close
-    (tie.spec bump-regular-trivia-requires at-kind-requires bump-requires same-length same-length-2 same-length-3 returns error-here-requires
-    same-length-4 same-length-5 same-length-6 returns-2)
+    (tie.spec stands-here-requires bump-requires same-length same-length-2 same-length-3 returns expect-behind-requires same-length-4
+    same-length-5 same-length-6 returns-2)
