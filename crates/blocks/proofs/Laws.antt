@@ -10,19 +10,18 @@ use Rattle.grammar.specs.Words.{Sym, File, from, is, DO, ELSE, END, IF, REPEAT,
 use Rattle.grammar.specs.Look.{oneOf, at, eof, current, name-like, regular-trivia, at-prefixed-keyword, at-bare-while, control-flow, starts-instruction, at-terminator, at-stray-else, at-regular-trivia, is-top-level-starter, at-top-level-form-starter-in-block}
 use Rattle.grammar.specs.Run.{P, Block, leaf, pure, peek, inNode, pick, take, scan, _>>=_, _>>_, if_then_else_}
 use Rattle.grammar.specs.State.{run}
-use Rattle.grammar.specs.declared.message.Message.{Message}
 use Rattle.grammar.specs.declared.block.BlockOwner.{BlockOwner}
 use Rattle.grammar.specs.declared.block.Terminators.{Terminators}
 use Rattle.grammar.specs.declared.block.BlockParseOutcome.{BlockParseOutcome}
 use Rattle.grammar.specs.Block.{block-in, parse-block, parse-control-flow, found-terminator, reached-eof, closing, ended, do-condition}
-use Rattle.grammar.specs.Bump.{nop, bump-while, while-round, expect-kind}
+use Rattle.grammar.specs.Bump.{nop, bump-while, while-round}
 use Rattle.grammar.specs.Laws.Here.{is-not, none, oneOf-not}
 use Rattle.grammar.specs.Laws.Live.{some, eats-take}
 use Rattle.grammar.specs.Laws.LiveLine.{eats-error-token, eats-instruction}
 use Rattle.grammar.specs.Laws.LiveBlock.{bare-while, repeat-left}
 use Rattle.grammar.specs.Laws.Stops.{stops-block}
 use Rattle.parser.specs.Rep.{World, world, Wrote, Went, WentTo, Paid}
-use Rattle.parser.proofs.Kit.{Leads, answers, like, like-to, yes-to, no-to, done-to, bind-to, _then-to_}
+use Rattle.parser.proofs.Kit.{Leads, answers, like-to, yes-to, no-to, done-to, bind-to, _then-to_}
 use Rattle.parser.proofs.Laws.{at-current, at-some}
 use Rattle.blocks.specs.declared.arm.Taken.{Taken}
 use Rattle.blocks.specs.declared.arm.Closing.{Closing}

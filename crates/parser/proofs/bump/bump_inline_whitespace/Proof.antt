@@ -1,5 +1,4 @@
 -- `parser::bump::bump_inline_whitespace`: one computed test of the set's bits. Assumes nothing.
-use mathlib.Core.Path.{refl}
 use native.Mathlib.Omega.{arith}
 use borrow.Author.Needs.{needs}
 use Rattle.grammar.specs.Look.{oneOf}

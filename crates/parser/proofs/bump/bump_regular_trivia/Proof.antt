@@ -1,6 +1,5 @@
 -- `parser::bump::bump_regular_trivia`: one computed test of the set's bits. Assumes nothing.
 use mathlib.Core.List.{[], _∷_}
-use mathlib.Core.Path.{refl}
 use native.Mathlib.Omega.{arith}
 use borrow.Author.Needs.{needs}
 use Rattle.grammar.specs.Look.{oneOf}
