@@ -43,9 +43,12 @@ pub fn run() {
     }
 }
 
-/// With room for what is put behind it below the limit.
+/// Cut at the end of a line, with room below the limit for what is put behind it.
 fn shortened(mut source: Vec<u8>) -> Vec<u8> {
     source.truncate(source.len() - REFUSED.len());
+    while source.last() != Some(&b'\n') {
+        source.pop();
+    }
     source
 }
 
