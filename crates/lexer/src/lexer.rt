@@ -3,9 +3,9 @@ use crate::chars::Run;
 use crate::class::CLASS;
 use crate::class::class_in;
 use crate::quoted::lex_quoted;
-use crate::runs::advance_while;
 use crate::runs::current_is;
 use crate::runs::line_rest;
+use crate::runs::run_end;
 use crate::runs::same;
 use crate::runs::word_end;
 use crate::syntax::COLON;
@@ -46,7 +46,7 @@ fn run(kind: u8, run: Run, source: &[u8], from: usize) -> Token
 {
     Token {
         kind,
-        end: advance_while(run, source, from),
+        end: run_end(run, source, from),
     }
 }
 

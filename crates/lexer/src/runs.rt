@@ -25,6 +25,41 @@ pub fn advance_while(run: Run, source: &[u8], from: usize) -> usize
     at
 }
 
+// Whether a byte goes on with the run, as far as one comparison tells; of any other byte advance_while asks again.
+fn surely(run: Run, b: u8) -> bool
+    ensures { λ r. ⌜ (r ≡ true → holds run b ≡ true) ⌝ }
+{
+    match run {
+        Run::Blank => b == 32,
+        Run::InLine => 13 < b,
+        _ => false,
+    }
+}
+
+// The same as advance_while, with one comparison a byte where that tells, and one test of the length for four bytes.
+pub fn run_end(run: Run, source: &[u8], from: usize) -> usize
+    requires { ⌜ from ≤ length (now source) ⌝ }
+    ensures { λ r. ⌜ r ≡ from + advance-while (holds run) (drop from (now (source .entry))) ⌝ }
+{
+    let mut at = from;
+    while 4 <= source.len() - at {
+        if !surely(run, source[at]) {
+            return advance_while(run, source, at);
+        }
+        if !surely(run, source[at + 1]) {
+            return advance_while(run, source, at + 1);
+        }
+        if !surely(run, source[at + 2]) {
+            return advance_while(run, source, at + 2);
+        }
+        if !surely(run, source[at + 3]) {
+            return advance_while(run, source, at + 3);
+        }
+        at += 4;
+    }
+    advance_while(run, source, at)
+}
+
 // Whether x is none of the 16 bytes from `at` on. All are looked at, so that the compiler makes one wide comparison of it.
 fn none_within(source: &[u8], at: usize, x: u8) -> bool
     requires { ⌜ at + 16 ≤ length (now source) ⌝ }
@@ -55,11 +90,11 @@ pub fn line_rest(source: &[u8], from: usize) -> usize
     let mut at = from;
     while 16 <= source.len() - at {
         if !in_line_within(source, at) {
-            return advance_while(Run::InLine, source, at);
+            return run_end(Run::InLine, source, at);
         }
         at += 16;
     }
-    advance_while(Run::InLine, source, at)
+    run_end(Run::InLine, source, at)
 }
 
 // Where the word from `from` on ends: advance_while over letters, digits and '_', one load a byte.

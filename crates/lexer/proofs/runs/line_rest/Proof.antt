@@ -25,11 +25,11 @@ sub-loop c = search needs
 in-line-within-requires : tie.Need-in-line-within-requires Inv-loop μ-loop
 in-line-within-requires c κs = search needs
 
-advance-while-requires : tie.Need-advance-while-requires Inv-loop μ-loop
-advance-while-requires c κs = search needs
+run-end-requires : tie.Need-run-end-requires Inv-loop μ-loop
+run-end-requires c κs = search needs
 
 returns : tie.Need-returns Inv-loop μ-loop
-returns c = c .advance-while .ensures ∙ sym (c .before .before .before .before .loop .inv .goes)
+returns c = c .run-end .ensures ∙ sym (c .before .before .before .before .loop .inv .goes)
 
 add-at : tie.Need-add-at Inv-loop μ-loop
 add-at c = search needs
@@ -40,11 +40,11 @@ loop-less c = search needs
 loop-again : tie.Need-loop-again Inv-loop μ-loop
 loop-again c = reaches-over (c .before .before .before .loop .inv) 16 (omega arith) (c .before .in-line-within .ensures (not-false _ (c .if1 .left)))
 
-advance-while-requires-2 : tie.Need-advance-while-requires-2 Inv-loop μ-loop
-advance-while-requires-2 c κs = search needs
+run-end-requires-2 : tie.Need-run-end-requires-2 Inv-loop μ-loop
+run-end-requires-2 c κs = search needs
 
 returns-2 : tie.Need-returns-2 Inv-loop μ-loop
-returns-2 c = c .advance-while2 .ensures ∙ sym (c .before .before .loop .inv .goes)
+returns-2 c = c .run-end2 .ensures ∙ sym (c .before .before .loop .inv .goes)
 
 pub line-rest-spec : {M : Type 1} → statement M
 line-rest-spec =
@@ -55,10 +55,10 @@ line-rest-spec =
     loop-holds
     sub-loop
     in-line-within-requires
-    advance-while-requires
+    run-end-requires
     returns
     add-at
     loop-less
     loop-again
-    advance-while-requires-2
+    run-end-requires-2
     returns-2)
