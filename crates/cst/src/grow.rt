@@ -5,13 +5,15 @@ use marks::Refusal;
 ghost use mathlib.Core.Path.{_≡_};
 ghost use Prim.Native.Nat.{_≤_};
 ghost use mathlib.Core.Bool.{cond, _||_};
+ghost use mathlib.Core.List.{map};
 ghost use lib.Dec.{ltb};
 ghost use lib.ListN.{length};
 ghost use Rattle.utf8.specs.WellFormed.{WellFormed};
 ghost use Rattle.lexer.specs.Lexer.{tokenize};
-ghost use Rattle.lexer.specs.Tokens.{token-kinds, token-ends};
+ghost use Rattle.lexer.specs.Tokens.{token-ends};
 ghost use Rattle.grammar.specs.Source.{symbols};
 ghost use Rattle.marks.specs.Marks.{first-refused};
+ghost use Rattle.marks.specs.Code.{mark};
 ghost use Rattle.answer.specs.declared.Answer.the-variants.{OutputRoom, Accepted};
 ghost use Rattle.answer.specs.Answer.{slices, grown, kept};
 ghost use Rattle.cst.specs.Parts.{Grown, Left};
@@ -91,6 +93,7 @@ fn parse_kept(
 // From all tokens: a refused word, or the rest of the reading.
 pub fn parse_tokens(
     source: &[u8],
+    refusal: Refusal,
     kinds: &mut [u16],
     ends: &[u32],
     events: &mut [u16],
@@ -98,12 +101,14 @@ pub fn parse_tokens(
     starts: &mut [u32],
     stops: &mut [u32],
 ) -> Answer
-    requires { ⌜ (length (now source) ≤ 1048576) × (WellFormed (now source)) × (now kinds ≡ token-kinds (now source)) × (now ends ≡ token-ends (now source)) ⌝ }
+    requires { ⌜ (length (now source) ≤ 1048576) × (WellFormed (now source)) × (refusal ≡ first-refused 0 (tokenize (now source))) × (now kinds ≡ map mark (tokenize (now source))) × (now ends ≡ token-ends (now source)) ⌝ }
     ensures { λ r. ⌜ Left (now (source .entry)) (kept (first-refused 0 (tokenize (now (source .entry)))) (now (source .entry)) (slices (now (kinds .entry)) (now (ends .entry)) (now (events .entry)) (now (messages .entry)) (now (starts .entry)) (now (stops .entry)))) r (now (kinds .exit)) (now (events .exit)) (now (messages .exit)) (now (starts .exit)) (now (stops .exit)) ⌝ }
 {
-    let refusal = marks::mark(source, kinds, ends);
     match refusal {
-        Refusal::At(n) => Answer::Refused(n),
+        Refusal::At(n) => {
+            marks::unmark(kinds);
+            Answer::Refused(n)
+        }
         Refusal::Nothing => parse_kept(source, kinds, ends, events, messages, starts, stops),
     }
 }

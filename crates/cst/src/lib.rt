@@ -14,7 +14,7 @@ mod grow;
 // The most bytes that a source may have.
 const LIMIT: usize = 1048576;
 
-// From the lexer on.
+// From the lexer on. The marks in the kinds are taken off wherever the reading ends.
 fn parse_valid(
     source: &[u8],
     kinds: &mut [u16],
@@ -27,13 +27,17 @@ fn parse_valid(
     requires { ⌜ (length (now source) ≤ 1048576) × WellFormed (now source) ⌝ }
     ensures { λ r. ⌜ outcome r (slices (now (kinds .exit)) (now (ends .exit)) (now (events .exit)) (now (messages .exit)) (now (starts .exit)) (now (stops .exit))) ≡ lexed (now (source .entry)) (slices (now (kinds .entry)) (now (ends .entry)) (now (events .entry)) (now (messages .entry)) (now (starts .entry)) (now (stops .entry))) ⌝ }
 {
-    let t = lexer::tokenize(source, kinds, ends);
+    let read = marks::tokenize(source, kinds, ends);
+    let t = read.count;
+    let refusal = read.refusal;
     let room = lexer::least(kinds.len(), ends.len());
     if room < t {
+        marks::unmark(&mut kinds[..room]);
         return Answer::TokenRoom(t);
     }
     grow::parse_tokens(
         source,
+        refusal,
         &mut kinds[..t],
         &ends[..t],
         events,

@@ -3,3 +3,4 @@ pub mod Tests
 pub mod Laws
 pub mod Quotes
 pub mod Rest
+pub mod Going

@@ -31,10 +31,13 @@ module _ (s : List ℕ) (at : ℕ) (h : at < length s) where
       ∙ tokenize-cons (getD s at 0) (drop (at + 1) s)
       ∙ ap (λ (l : List ℕ). token (getD s at 0) (drop (at + 1) s) ∷ tokenize l) (drop-drop more (at + 1) s)
 
+  -- and that is the end of its text
+  pub end-is : at + length (token (getD s at 0) (drop (at + 1) s) .text) ≡ at + 1 + more
+  end-is = omega (arith, length-take-le more (drop (at + 1) s) (good-next (getD s at 0) .within (drop (at + 1) s)))
+
   -- the first of the ends, and the others
   pub ends-more : ends at (rest s at) ≡ (at + 1 + more) ∷ ends (at + 1 + more) (rest s (at + 1 + more))
   unfolding ends
   ends-more =
       ap (ends at) rest-more
-      ∙ ap (λ (e : ℕ). e ∷ ends e (rest s (at + 1 + more)))
-      (omega (arith, length-take-le more (drop (at + 1) s) (good-next (getD s at 0) .within (drop (at + 1) s))))
+      ∙ ap (λ (e : ℕ). e ∷ ends e (rest s (at + 1 + more))) end-is

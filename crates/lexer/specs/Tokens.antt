@@ -24,17 +24,20 @@ token-kinds s = map kindOf (tokenize s)
 abbrev pub token-ends : List ℕ → List ℕ
 token-ends s = ends 0 (tokenize s)
 
--- All of it, where each slice takes what it has room for.
-pub record Lexed (source kinds ends : List ℕ) (count : ℕ) (kinds′ ends′ : List ℕ) : Type 0 where
+-- f says what is written for a token: its kind, or that and more. All tokens, where each slice takes what it has room for.
+pub record Lexed (f : Token → ℕ) (source kinds ends : List ℕ) (count : ℕ) (kinds′ ends′ : List ℕ) : Type 0 where
   pub count-is : count ≡ length (tokenize source)
-  pub kinds-are : kinds′ ≡ over kinds 0 (token-kinds source)
+  pub kinds-are : kinds′ ≡ over kinds 0 (map f (tokenize source))
   pub ends-are : ends′ ≡ over ends 0 (token-ends source)
 
 -- Room is the shorter length.
 abbrev pub room : List ℕ → List ℕ → ℕ
 room kinds ends = min (length kinds) (length ends)
 
-pub record Tokenized (source kinds ends : List ℕ) (count : ℕ) (kinds′ ends′ : List ℕ) : Type 0 where
+pub record Written (f : Token → ℕ) (source kinds ends : List ℕ) (count : ℕ) (kinds′ ends′ : List ℕ) : Type 0 where
   pub count-is : count ≡ length (tokenize source)
-  pub kinds-are : kinds′ ≡ fit (room kinds ends) (token-kinds source) kinds
+  pub kinds-are : kinds′ ≡ fit (room kinds ends) (map f (tokenize source)) kinds
   pub ends-are : ends′ ≡ fit (room kinds ends) (token-ends source) ends
+
+abbrev pub Tokenized : (source kinds ends : List ℕ) (count : ℕ) (kinds′ ends′ : List ℕ) → Type 0
+Tokenized = Written kindOf

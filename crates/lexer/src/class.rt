@@ -262,6 +262,13 @@ pub const CLASS: [u8; 256] = [
     1,
 ];
 
+// The table, for one call: it is the class of each byte.
+pub fn classes() -> [u8; 256]
+    ensures { λ r. ⌜ r ≡ class-table ⌝ }
+{
+    CLASS
+}
+
 // The table is lent: a constant that is indexed in place is built anew on the stack at each use.
 pub fn class_in(table: &[u8; 256], b: u8) -> u8
     requires { ⌜ now table ≡ class-table ⌝ }

@@ -1,7 +1,7 @@
 // lexer.rs: one function for each shape of token, `next`, and `tokenize`.
 use crate::chars::Run;
-use crate::class::CLASS;
 use crate::class::class_in;
+use crate::class::classes;
 use crate::quoted::lex_quoted;
 use crate::runs::current_is;
 use crate::runs::line_rest;
@@ -32,7 +32,7 @@ ghost use Rattle.lexer.specs.Syntax.{Ident};
 ghost use Rattle.lexer.specs.Chars.{class-table, holds, word};
 ghost use Rattle.lexer.specs.Lexer.{one, follow, run as runOf, comment as commentOf, number, zero-led, special as specialOf, stray as strayOf, dots, next as nextOf};
 ghost use Rattle.lexer.specs.Code.{placed};
-ghost use Rattle.lexer.specs.Tokens.{Lexed, Tokenized};
+ghost use Rattle.lexer.specs.Tokens.{kindOf, Lexed, Tokenized};
 
 pub struct Token {
     pub kind: u8,
@@ -180,7 +180,7 @@ fn stray(b: u8, source: &[u8], from: usize) -> Token
 }
 
 // The token that starts at `at`.
-fn next(table: &[u8; 256], source: &[u8], at: usize) -> Token
+pub fn next(table: &[u8; 256], source: &[u8], at: usize) -> Token
     requires { ⌜ (now table ≡ class-table) × (at < length (now source)) ⌝ }
     ensures { λ r. ⌜ r ≡ placed (at + 1) (nextOf (getD (now (source .entry)) at 0) (drop (at + 1) (now (source .entry)))) ⌝ }
 {
@@ -208,12 +208,12 @@ fn next(table: &[u8; 256], source: &[u8], at: usize) -> Token
 }
 
 // Writes a token while there is room; both slices have the same length.
-fn put(kinds: &mut [u16], ends: &mut [u32], n: usize, kind: u8, end: u32)
+pub fn put(kinds: &mut [u16], ends: &mut [u32], n: usize, kind: u16, end: u32)
     requires { ⌜ length (now kinds) ≡ length (now ends) ⌝ }
     ensures { λ _. ⌜ (now (kinds .exit) ≡ set (now (kinds .entry)) n kind) × (now (ends .exit) ≡ set (now (ends .entry)) n end) ⌝ }
 {
     if n < kinds.len() {
-        kinds[n] = kind as u16;
+        kinds[n] = kind;
         ends[n] = end;
     }
 }
@@ -221,15 +221,15 @@ fn put(kinds: &mut [u16], ends: &mut [u32], n: usize, kind: u8, end: u32)
 // All tokens: kinds and ends as far as the slices go, and the full count.
 fn tokens(source: &[u8], kinds: &mut [u16], ends: &mut [u32]) -> usize
     requires { ⌜ (length (now source) ≤ 1048576) × (length (now kinds) ≡ length (now ends)) ⌝ }
-    ensures { λ r. ⌜ Lexed (now (source .entry)) (now (kinds .entry)) (now (ends .entry)) r (now (kinds .exit)) (now (ends .exit)) ⌝ }
+    ensures { λ r. ⌜ Lexed kindOf (now (source .entry)) (now (kinds .entry)) (now (ends .entry)) r (now (kinds .exit)) (now (ends .exit)) ⌝ }
 {
-    let table = CLASS;
+    let table = classes();
     let mut at = 0;
     let mut n = 0;
     while at < source.len() {
         let t = next(&table, source, at);
         let end = t.end;
-        put(kinds, ends, n, t.kind, end as u32);
+        put(kinds, ends, n, t.kind as u16, end as u32);
         n += 1;
         at = end;
     }

@@ -6,6 +6,10 @@ mod quoted;
 mod runs;
 pub mod syntax;
 
+pub use class::classes;
+pub use lexer::Token;
 pub use lexer::least;
+pub use lexer::next;
+pub use lexer::put;
 pub use lexer::tokenize;
 pub use runs::same;

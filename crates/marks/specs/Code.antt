@@ -3,17 +3,19 @@
 use Prim.Native.Nat.{ℕ, suc, _+_, _*_, _≤_, _<_}
 use mathlib.Core.Path.{_≡_, refl, ap, ap₂}
 use mathlib.Core.Bool.{Bool, true, false, cond, _&&_, _||_, false≢true, true≢false}
-use mathlib.Core.List.{List, [], _∷_, _++_, map}
+use mathlib.Core.List.{List, [], _∷_, _++_}
 use native.Mathlib.Omega.{arith}
 use borrow.Author.Tests.{eqb-true}
-use lib.Dec.{eqb}
+use lib.Dec.{eqb, ltb}
 use lib.ListN.{length}
 use Rattle.lexer.specs.Syntax.{Ident}
-use Rattle.lexer.specs.Lexer.{same, tokenize}
-use Rattle.grammar.specs.Words.{words, numberIn, wordOf, symOf, kindOf}
+use Rattle.lexer.specs.Lexer.{Token, same, tokenize}
+use Rattle.lexer.specs.Tokens.{Written}
+use Rattle.lexer.specs.Tokens
+use Rattle.grammar.specs.Words.{words, numberIn, wordOf, symOf}
 use Rattle.marks.specs.declared.Refusal.{Refusal}
-use Rattle.marks.specs.declared.Refusal.the-variants.{Nothing}
-use Rattle.grammar.specs.Source.{syms}
+use Rattle.marks.specs.declared.Refusal.the-variants.{Nothing, At}
+use Rattle.marks.specs.declared.Read.{Read}
 use Rattle.marks.specs.Marks.{use-text, extern-text, is-refused, first-refused}
 
 abbrev pub refused-texts : List (List ℕ)
@@ -103,8 +105,36 @@ module _ (kind : ℕ) (text : List ℕ) where
       by-kind true false false h p q f = absurd (false≢true f)
       by-kind false u v h p q f = absurd (false≢true f)
 
--- What the pass leaves: the refusal, kinds that are plain but for marks, and all of them marked where nothing is refused.
-pub record Passed (source kinds : List ℕ) (r : Refusal) (kinds′ : List ℕ) : Type 0 where
-  pub refusal-is : r ≡ first-refused 0 (tokenize source)
-  pub plain : map kindOf kinds′ ≡ kinds
-  pub all : r ≡ Nothing → kinds′ ≡ syms (tokenize source)
+-- What is written for a token: its kind, and 256 times its number more.
+abbrev pub mark : Token → ℕ
+mark t = t .kind + 256 * number-of (t .kind) (t .text)
+
+pub few-numbers : (kind : ℕ) (text : List ℕ) → number-of kind text ≤ 18
+unfolding number-of number words
+few-numbers kind text = by-kind (eqb Ident kind)
+  where
+    by-kind : (u : Bool) → cond u (number text) 0 ≤ 18
+    by-kind true = at-most 0 (words ++ refused-texts) text
+    by-kind false = omega arith
+
+-- A token with the number n that starts at m; the first of two refusals.
+abbrev pub refused-at : ℕ → ℕ → Refusal
+refused-at n m = cond (ltb 16 n) (At m) Nothing
+
+abbrev pub or-else : Refusal → Refusal → Refusal
+or-else Nothing q = q
+or-else (At m) q = At m
+
+-- What is written for a token of this kind and text that starts at m, and the first refusal up to it.
+pub record MarkOf (kind : ℕ) (text : List ℕ) (m : ℕ) (refusal : Refusal) (v : ℕ) (r : Refusal) : Type 0 where
+  pub kind-is : v ≡ kind + 256 * number-of kind text
+  pub refusal-is : r ≡ or-else refusal (refused-at (number-of kind text) m)
+
+-- The tokens with their marks, where each slice takes what it has room for; and where both have the same room.
+pub record Lexed (source kinds ends : List ℕ) (r : Read) (kinds′ ends′ : List ℕ) : Type 0 where
+  pub lexed : Tokens.Lexed mark source kinds ends (r .count) kinds′ ends′
+  pub refusal-is : r .refusal ≡ first-refused 0 (tokenize source)
+
+pub record Marked (source kinds ends : List ℕ) (r : Read) (kinds′ ends′ : List ℕ) : Type 0 where
+  pub written : Written mark source kinds ends (r .count) kinds′ ends′
+  pub refusal-is : r .refusal ≡ first-refused 0 (tokenize source)

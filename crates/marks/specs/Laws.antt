@@ -1,7 +1,7 @@
 -- Laws of the passes, for the layers above: the plain kinds come back, and what joined sources come to.
 -- Assumes nothing.
-use Prim.Native.Nat.{ℕ, zero, suc, _+_, _<_}
-use mathlib.Core.Path.{_≡_, refl, sym, ap, _∙_}
+use Prim.Native.Nat.{ℕ, zero, suc, _+_, _*_, _<_}
+use mathlib.Core.Path.{_≡_, refl, sym, ap, subst, _∙_}
 use mathlib.Core.Bool.{Bool, true, false, cond}
 use mathlib.Core.List.{List, [], _∷_, _++_, map, map-append}
 use native.Mathlib.Omega.{arith}
@@ -21,6 +21,7 @@ use Rattle.marks.specs.declared.Refusal.the-variants.{Nothing, At}
 use Rattle.grammar.specs.Source.{syms}
 use Rattle.marks.specs.Marks.{is-refused, first-refused}
 use Rattle.marks.specs.Kinds.{low-kinds}
+use Rattle.marks.specs.Code.{number, number-of, mark, kept, or-else}
 
 -- the kind of a marked Ident
 kind-of-key : (w : ℕ) → kindOf (key w) ≡ Ident
@@ -42,6 +43,22 @@ unmarked (t ∷ ts) h = rw (kind-of-sym (t .kind) (t .text) (h .0), unmarked ts 
 
 pub source-unmarked : (s : List ℕ) → map kindOf (syms (tokenize s)) ≡ token-kinds s
 source-unmarked s = unmarked (tokenize s) (low-kinds s)
+
+-- the same of the marks that stand there where a token may be refused
+kind-of-mark : (t : Token) → t .kind < 60 → kindOf (mark t) ≡ t .kind
+unfolding number-of
+kind-of-mark t h = by-test (eqb Ident (t .kind)) refl
+  where
+    by-test : (u : Bool) → eqb Ident (t .kind) ≡ u → kindOf (t .kind + 256 * cond u (number (t .text)) 0) ≡ t .kind
+    by-test true e = ap (λ (k : ℕ). kindOf (k + 256 * number (t .text))) (sym (eqb-true Ident (t .kind) e)) ∙ kind-of-key (number (t .text)) ∙ eqb-true Ident (t .kind) e
+    by-test false e = rw (lt-ltb (t .kind + 0) 256 (omega arith), add-zero)
+
+marks-off : (ts : List Token) → Every (λ t. t .kind < 60) ts → map kindOf (map mark ts) ≡ map Tokens.kindOf ts
+marks-off [] h = refl
+marks-off (t ∷ ts) h = rw (kind-of-mark t (h .0), marks-off ts (h .1))
+
+pub marks-unmarked : (s : List ℕ) → map kindOf (map mark (tokenize s)) ≡ token-kinds s
+marks-unmarked s = marks-off (tokenize s) (low-kinds s)
 
 pub syms-append : (xs ys : List Token) → syms (xs ++ ys) ≡ syms xs ++ syms ys
 syms-append xs ys = map-append _ xs ys
@@ -87,16 +104,20 @@ says n (t ∷ ts) = by-test (is-refused t) refl (says (n + length (t .text)) ts)
     by-test true e h = record { before = []; token = t; behind = ts; split = refl; kept = tt; refused = e; start = sym (add-zero n) }
     by-test false e h = longer rest n t ts e h
 
+-- where no token is refused, the marks are the tokens as the grammar reads them
+symbols-of : (ts : List Token) → Every Kept ts → map mark ts ≡ syms ts
+symbols-of [] h = refl
+symbols-of (t ∷ ts) h = rw (sym (kept (t .kind) (t .text) (h .0) .symbol), symbols-of ts (h .1))
+
+pub all-marked : (ts : List Token) → first-refused 0 ts ≡ Nothing → map mark ts ≡ syms ts
+all-marked ts e = symbols-of ts (subst (λ (r : Refusal). Says r 0 ts) e (says 0 ts))
+
 pub all-kept : (n : ℕ) (ts : List Token) → Every Kept ts → first-refused n ts ≡ Nothing
 unfolding first-refused
 all-kept n [] h = refl
 all-kept n (t ∷ ts) h = rw (h .0) (all-kept (n + length (t .text)) ts (h .1))
 
--- the first of two; moved on by m
-abbrev pub or-else : Refusal → Refusal → Refusal
-or-else Nothing q = q
-or-else (At m) q = At m
-
+-- moved on by m
 abbrev pub moved : ℕ → Refusal → Refusal
 moved m Nothing = Nothing
 moved m (At n) = At (m + n)

@@ -1,14 +1,12 @@
--- The tokens as the grammar reads them, and where the first Ident `use` or `extern` starts.
+-- Where the first Ident `use` or `extern` starts.
 -- Assumes nothing: these are definitions.
 use Prim.Native.Nat.{ℕ, _+_}
-use mathlib.Core.Path.{_≡_}
 use mathlib.Core.Bool.{Bool, cond, _&&_, _||_}
 use mathlib.Core.List.{List, [], _∷_}
 use lib.Dec.{eqb}
 use lib.ListN.{length}
 use Rattle.lexer.specs.Syntax.{Ident}
-use Rattle.lexer.specs.Lexer.{Token, tokenize, same}
-use Rattle.grammar.specs.Source.{syms}
+use Rattle.lexer.specs.Lexer.{Token, same}
 use Rattle.marks.specs.declared.Refusal.{Refusal}
 use Rattle.marks.specs.declared.Refusal.the-variants.{Nothing, At}
 
@@ -26,12 +24,3 @@ is-refused t = eqb Ident (t .kind) && (same use-text (t .text) || same extern-te
 unfoldable pub first-refused : ℕ → List Token → Refusal
 first-refused n [] = Nothing
 first-refused n (t ∷ ts) = cond (is-refused t) (At n) (first-refused (n + length (t .text)) ts)
-
--- The kinds after the pass: those that the grammar reads, or with a refused token the plain ones.
-abbrev pub marked : Refusal → List ℕ → List Token → List ℕ
-marked Nothing kinds ts = syms ts
-marked (At n) kinds ts = kinds
-
-pub record Marked (source kinds : List ℕ) (r : Refusal) (kinds′ : List ℕ) : Type 0 where
-  pub refusal-is : r ≡ first-refused 0 (tokenize source)
-  pub kinds-are : kinds′ ≡ marked r kinds (tokenize source)

@@ -1,12 +1,11 @@
-// Words are marked in the kinds before the grammar, and the marks taken off after it.
+// The tokens of a source as the grammar reads them: words are marked in the kinds, and the marks are taken off after the grammar.
 ghost use mathlib.Core.Path.{_≡_};
 ghost use mathlib.Core.List.{map};
-ghost use Prim.Native.Nat.{_<_, _+_};
-ghost use lib.ListN.{length};
-ghost use Rattle.lexer.specs.Tokens.{token-kinds, token-ends};
+ghost use Prim.Native.Nat.{_-_, _≤_, _<_};
+ghost use lib.ListN.{length, take, drop};
 ghost use Rattle.grammar.specs.Words.{kindOf};
-ghost use Rattle.marks.specs.Marks.{Marked};
-ghost use Rattle.marks.specs.Code.{number-of, Passed};
+ghost use Rattle.marks.specs.Code.{number, or-else, refused-at, MarkOf, Lexed, Marked};
+ghost use Rattle.marks.specs.Filter.{WordsPass};
 
 mod filter;
 mod word;
@@ -17,40 +16,109 @@ pub enum Refusal {
     At(usize),
 }
 
-// The number of a token's text; 0 unless the token is an Ident.
-fn number_of(kind: u16, text: &[u8]) -> u16
-    requires { ⌜ 0 < length (now text) ⌝ }
-    ensures { λ r. ⌜ r ≡ number-of kind (now (text .entry)) ⌝ }
+// How many tokens there are, and what is refused of them.
+pub struct Read {
+    pub count: usize,
+    pub refusal: Refusal,
+}
+
+// The number of an Ident's text. Most do not pass the filter, and are compared with nothing.
+fn number_of(first: &[u16; 256], last: &[u16; 256], source: &[u8], start: usize, end: usize) -> u16
+    requires { ⌜ (WordsPass (now first) (now last)) × (start < end) × (end ≤ length (now source)) ⌝ }
+    ensures { λ r. ⌜ r ≡ number (take (end - start) (drop start (now (source .entry)))) ⌝ }
 {
-    if kind == 31 {
-        return word::word_of(text);
+    if filter::may_be(first, last, source[start], source[end - 1], end - start) {
+        return word::word_of(&source[start..end]);
     }
     0
 }
 
-// Marks the kinds up to the first refused token. Most tokens do not pass the filter, and their kinds stay.
-fn pass(source: &[u8], kinds: &mut [u16], ends: &[u32]) -> Refusal
-    requires { ⌜ (now kinds ≡ token-kinds (now source)) × (now ends ≡ token-ends (now source)) ⌝ }
-    ensures { λ r. ⌜ Passed (now (source .entry)) (now (kinds .entry)) r (now (kinds .exit)) ⌝ }
+// The refusal so far, or else that of a token with this number.
+fn or_else(refusal: Refusal, number: u16, start: usize) -> Refusal
+    ensures { λ r. ⌜ r ≡ or-else refusal (refused-at number start) ⌝ }
 {
-    let first = filter::FIRST;
-    let last = filter::LAST;
-    let mut start = 0;
-    let mut i = 0;
-    while i < kinds.len() {
-        let end = ends[i] as usize;
-        if filter::may_be(&first, &last, source[start], source[end - 1], end - start) {
-            let kind = kinds[i];
-            let number = number_of(kind, &source[start..end]);
+    match refusal {
+        Refusal::At(n) => Refusal::At(n),
+        Refusal::Nothing => {
             if 16 < number {
                 return Refusal::At(start);
             }
-            kinds[i] = kind + 256 * number;
+            Refusal::Nothing
         }
-        start = end;
-        i += 1;
     }
-    Refusal::Nothing
+}
+
+// A token as the grammar reads it, its kind with its mark, and what is refused up to it.
+struct Symbol {
+    kind: u16,
+    refusal: Refusal,
+}
+
+// The mark of the token from `start` to `end`. Where its kind is not Ident, or its text no word, nothing changes.
+fn mark(
+    first: &[u16; 256],
+    last: &[u16; 256],
+    source: &[u8],
+    start: usize,
+    kind: u8,
+    end: usize,
+    refusal: Refusal,
+) -> Symbol
+    requires { ⌜ (WordsPass (now first) (now last)) × (start < end) × (end ≤ length (now source)) ⌝ }
+    ensures { λ r. ⌜ MarkOf kind (take (end - start) (drop start (now (source .entry)))) start refusal (r .kind) (r .refusal) ⌝ }
+{
+    let plain = kind as u16;
+    if plain != 31 {
+        return Symbol {
+            kind: plain,
+            refusal,
+        };
+    }
+    let number = number_of(first, last, source, start, end);
+    if number == 0 {
+        return Symbol {
+            kind: plain,
+            refusal,
+        };
+    }
+    let marked = plain + 256 * number;
+    let refused = or_else(refusal, number, start);
+    Symbol {
+        kind: marked,
+        refusal: refused,
+    }
+}
+
+// The lexer's tokens, each marked as it is written; both slices have the same length.
+fn tokens(source: &[u8], kinds: &mut [u16], ends: &mut [u32]) -> Read
+    requires { ⌜ (length (now source) ≤ 1048576) × (length (now kinds) ≡ length (now ends)) ⌝ }
+    ensures { λ r. ⌜ Lexed (now (source .entry)) (now (kinds .entry)) (now (ends .entry)) r (now (kinds .exit)) (now (ends .exit)) ⌝ }
+{
+    let table = lexer::classes();
+    let first = filter::FIRST;
+    let last = filter::LAST;
+    let mut refusal = Refusal::Nothing;
+    let mut at = 0;
+    let mut n = 0;
+    while at < source.len() {
+        let t = lexer::next(&table, source, at);
+        let end = t.end;
+        let m = mark(&first, &last, source, at, t.kind, end, refusal);
+        lexer::put(kinds, ends, n, m.kind, end as u32);
+        refusal = m.refusal;
+        n += 1;
+        at = end;
+    }
+    Read { count: n, refusal }
+}
+
+// The tokens, written while there is room in both slices, and counted on.
+pub fn tokenize(source: &[u8], kinds: &mut [u16], ends: &mut [u32]) -> Read
+    requires { ⌜ length (now source) ≤ 1048576 ⌝ }
+    ensures { λ r. ⌜ Marked (now (source .entry)) (now (kinds .entry)) (now (ends .entry)) r (now (kinds .exit)) (now (ends .exit)) ⌝ }
+{
+    let room = lexer::least(kinds.len(), ends.len());
+    tokens(source, &mut kinds[..room], &mut ends[..room])
 }
 
 // The kind of a token that may be marked.
@@ -66,20 +134,5 @@ pub fn unmark(kinds: &mut [u16])
 {
     for i in 0usize..kinds.len() {
         kinds[i] = plain(kinds[i]);
-    }
-}
-
-// The kinds as the grammar reads them; plain as they were if a token is refused.
-pub fn mark(source: &[u8], kinds: &mut [u16], ends: &[u32]) -> Refusal
-    requires { ⌜ (now kinds ≡ token-kinds (now source)) × (now ends ≡ token-ends (now source)) ⌝ }
-    ensures { λ r. ⌜ Marked (now (source .entry)) (now (kinds .entry)) r (now (kinds .exit)) ⌝ }
-{
-    let found = pass(source, kinds, ends);
-    match found {
-        Refusal::At(n) => {
-            unmark(kinds);
-            Refusal::At(n)
-        }
-        Refusal::Nothing => Refusal::Nothing,
     }
 }

@@ -1,30 +1,79 @@
--- `marks::number_of` meets its contract. Assumes nothing.
-use Prim.Native.Nat.{ℕ}
-use mathlib.Core.Path.{_≡_, sym, _∙_}
+-- `marks::number_of` meets its contract: a text that the filter leaves out has no number. Assumes nothing.
+use Prim.Native.Nat.{ℕ, _+_, _-_, _≤_, _<_}
+use mathlib.Core.Path.{_≡_, sym, ap, _∙_}
 use mathlib.Core.List.{List}
+use native.Mathlib.Omega.{arith}
 use borrow.Author.Needs.{needs}
-use borrow.Author.Tests.{eq-eqb, ne-eqb}
-use Rattle.lexer.specs.Syntax.{Ident}
-use Rattle.marks.specs.Code.{number, number-of}
+use lib.ListN.{length, getD, take, drop, length-drop}
+use lib.Seq.{length-take-le, getD-take, getD-drop}
+use Rattle.marks.specs.Code.{number}
+use Rattle.marks.specs.Filter.{Unnumbered}
 use Rattle.marks.proofs.number_of.Statement.{statement}
 use Rattle.marks.proofs.number_of.Tie as tie
 
-of-ident : (k : ℕ) (text : List ℕ) → k ≡ Ident → number text ≡ number-of k text
-unfolding number-of
-of-ident k text e = rw (eq-eqb Ident k (sym e))
+module _ (s : List ℕ) (start end : ℕ) (h : start < end) (w : end ≤ length s) where
+  abbrev text : List ℕ
+  text = take (end - start) (drop start s)
 
-of-other : (k : ℕ) (text : List ℕ) → (k ≡ Ident → ⊥) → 0 ≡ number-of k text
-unfolding number-of
-of-other k text n = rw (ne-eqb Ident k (λ e. n (sym e)))
+  text-length : length text ≡ end - start
+  text-length = length-take-le (end - start) (drop start s) (omega (arith, length-drop start s))
+
+  byte-is : (k i : ℕ) → k < end - start → start + k ≡ i → getD text k 0 ≡ getD s i 0
+  byte-is k i l e = getD-take (end - start) (drop start s) k 0 l ∙ getD-drop start s k 0 ∙ ap (λ (n : ℕ). getD s n 0) e
+
+  no-word : Unnumbered (getD s start 0) (getD s (end - 1) 0) (end - start) → 0 ≡ number text
+  no-word u =
+      let l = text-length in
+      sym (u text (byte-is 0 start (omega arith) (omega arith)) (byte-is (length text - 1) (end - 1) (omega arith) (omega arith)) l)
+
+shared-slice-read-may-be : tie.Need-shared-slice-read-may-be
+shared-slice-read-may-be c = search needs
+
+sub-may-be : tie.Need-sub-may-be
+sub-may-be c = search needs
+
+shared-slice-read-may-be-2 : tie.Need-shared-slice-read-may-be-2
+shared-slice-read-may-be-2 c = search needs
+
+sub-may-be-2 : tie.Need-sub-may-be-2
+sub-may-be-2 c = search needs
+
+may-be-requires : tie.Need-may-be-requires
+may-be-requires c κs = search needs
+
+sub-word-of : tie.Need-sub-word-of
+sub-word-of c = search needs
+
+part-word-of-start : tie.Need-part-word-of-start
+part-word-of-start c = search needs
+
+part-word-of-end : tie.Need-part-word-of-end
+part-word-of-end c = search needs
 
 word-of-requires : tie.Need-word-of-requires
 word-of-requires c κs = search needs
 
 returns : tie.Need-returns
-returns c = c .word-of .ensures ∙ of-ident _ _ (c .before .if1 .taken)
+returns c = search needs
 
 returns-2 : tie.Need-returns-2
-returns-2 c = of-other _ _ (c .if1 .left)
+returns-2 c =
+    let c₁ = c .before .before .before .before .before in
+    let a = c₁ .args in
+    no-word (a .source .now) (a .start) (a .end) (c₁ .pre .1) (c₁ .pre .2) (c .before .may-be .ensures (c .if1 .left))
 
 pub number-of-spec : {M : Type 1} → statement M
-number-of-spec = tie.close (tie.spec word-of-requires returns returns-2)
+number-of-spec =
+    tie.close
+    (tie.spec
+    shared-slice-read-may-be
+    sub-may-be
+    shared-slice-read-may-be-2
+    sub-may-be-2
+    may-be-requires
+    sub-word-of
+    part-word-of-start
+    part-word-of-end
+    word-of-requires
+    returns
+    returns-2)

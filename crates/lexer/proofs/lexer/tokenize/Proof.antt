@@ -2,8 +2,7 @@
 use mathlib.Core.Path.{sym, _∙_}
 use native.Mathlib.Omega.{arith}
 use lib.Seq.{length-take-le}
-use Rattle.lexer.specs.Over.{given-back}
-use Rattle.lexer.specs.Tokens.{token-kinds, token-ends}
+use Rattle.lexer.proofs.Going.{lent}
 use borrow.Author.Needs.{needs}
 use Rattle.lexer.proofs.lexer.tokenize.Statement.{statement}
 use Rattle.lexer.proofs.lexer.tokenize.Tie as tie
@@ -38,13 +37,7 @@ same-length-2 c = search needs
 returns : tie.Need-returns
 returns c =
     let a = c .before .before .before .before .before .before .before .before .before .before .before .args in
-    let k = c .before .before .before .before .tokens .ensures in
-    let room = c .before .before .before .before .before .before .before .least .ensures in
-    record {
-      count-is = k .count-is;
-      kinds-are = given-back (a .kinds .now) _ (token-kinds (a .source .now)) _ _ (k .kinds-are) room (omega arith);
-      ends-are = given-back (a .ends .now) _ (token-ends (a .source .now)) _ _ (k .ends-are) room (omega arith);
-    }
+    lent (a .kinds .now) (a .ends .now) (c .before .before .before .before .before .before .before .least .ensures) (c .before .before .before .before .tokens .ensures)
 
 pub tokenize-spec : {M : Type 1} → statement M
 tokenize-spec =

@@ -1,0 +1,58 @@
+-- `marks::tokenize` meets its contract: the parts that are lent have the room of the shorter slice. Assumes nothing.
+use mathlib.Core.Path.{sym, _∙_}
+use native.Mathlib.Omega.{arith}
+use lib.Seq.{length-take-le}
+use Rattle.lexer.proofs.Going.{lent}
+use borrow.Author.Needs.{needs}
+use Rattle.marks.proofs.tokenize.Statement.{statement}
+use Rattle.marks.proofs.tokenize.Tie as tie
+
+least-requires : tie.Need-least-requires
+least-requires c κs = search needs
+
+slice-relend-prefix-tokens : tie.Need-slice-relend-prefix-tokens
+slice-relend-prefix-tokens c = search needs
+
+slice-aggregate-tokens : tie.Need-slice-aggregate-tokens
+slice-aggregate-tokens c = sym (length-take-le _ _ (omega arith))
+
+slice-relend-prefix-tokens-2 : tie.Need-slice-relend-prefix-tokens-2
+slice-relend-prefix-tokens-2 c = search needs
+
+slice-aggregate-tokens-2 : tie.Need-slice-aggregate-tokens-2
+slice-aggregate-tokens-2 c = sym (length-take-le _ _ (omega arith))
+
+tokens-requires : tie.Need-tokens-requires
+tokens-requires c κs =
+    let a = c .before .before .before .before .before .before .args in
+    let room = c .before .before .least .result in
+    (search needs, length-take-le room (a .kinds .now) (omega arith) ∙ sym (length-take-le room (a .ends .now) (omega arith)))
+
+same-length : tie.Need-same-length
+same-length c = search needs
+
+same-length-2 : tie.Need-same-length-2
+same-length-2 c = search needs
+
+returns : tie.Need-returns
+returns c =
+    let a = c .before .before .before .before .before .before .before .before .before .before .before .args in
+    let k = c .before .before .before .before .tokens .ensures in
+    record {
+      written = lent (a .kinds .now) (a .ends .now) (c .before .before .before .before .before .before .before .least .ensures) (k .lexed);
+      refusal-is = k .refusal-is;
+    }
+
+pub tokenize-spec : {M : Type 1} → statement M
+tokenize-spec =
+    tie.close
+    (tie.spec
+    least-requires
+    slice-relend-prefix-tokens
+    slice-aggregate-tokens
+    slice-relend-prefix-tokens-2
+    slice-aggregate-tokens-2
+    tokens-requires
+    same-length
+    same-length-2
+    returns)

@@ -1,0 +1,85 @@
+-- `marks::tokens` meets its contract: the lexer's tokens, each with its mark. Assumes nothing.
+use Prim.Native.Nat.{_-_}
+use mathlib.Core.Path.{refl, sym, _∙_}
+use native.Mathlib.Omega.{arith}
+use borrow.Author.Needs.{needs}
+use lib.ListN.{length}
+use Rattle.grammar.specs.Words.{words}
+use Rattle.lexer.proofs.Going.{ends-within}
+use Rattle.marks.specs.Filter.{may-be, passes, all-pass}
+use Rattle.marks.proofs.Going.{Going, begins, goes-on, ended}
+use Rattle.marks.proofs.tokens.Statement.{statement}
+use Rattle.marks.proofs.tokens.Tie as tie
+
+abbrev Inv-loop : tie.InvT-loop
+Inv-loop source kinds₀ ends₀ table first last refusal₀ at₀ n₀ kinds ends refusal at n = Going source kinds₀ ends₀ kinds ends refusal at n
+
+abbrev μ-loop : tie.MeasureT-loop
+μ-loop source kinds₀ ends₀ table first last refusal₀ at₀ n₀ kinds ends refusal at n = length source - at
+
+classes-requires : tie.Need-classes-requires Inv-loop μ-loop
+classes-requires c κs = search needs
+
+loop-holds : tie.Need-loop-holds Inv-loop μ-loop
+loop-holds c = begins _ _ _ (c .before .before .before .before .pre .0) (c .before .before .before .before .pre .1)
+
+next-requires : tie.Need-next-requires Inv-loop μ-loop
+next-requires c κs = search needs
+
+mark-requires : tie.Need-mark-requires Inv-loop μ-loop
+unfolding words may-be passes all-pass
+mark-requires c κs =
+    let t = c .before .before .next in
+    let e = ends-within (c .before .before .before .before .before .loop .inv .going) (c .before .before .before .before .loop-test .taken) (t .result) (t .ensures) in
+    (refl, e .0, e .1)
+
+cast-put : tie.Need-cast-put Inv-loop μ-loop
+cast-put c =
+    let t = c .before .before .before .before .before .next in
+    let g = c .before .before .before .before .before .before .before .before .loop .inv .going in
+    omega (arith, g .size, ends-within g (c .before .before .before .before .before .before .before .loop-test .taken) (t .result) (t .ensures) .1)
+
+put-requires : tie.Need-put-requires Inv-loop μ-loop
+put-requires c κs = let g = c .before .before .before .before .before .before .before .before .loop .inv .going in g .kinds-len ∙ g .same-room ∙ sym (g .ends-len)
+
+add-n : tie.Need-add-n Inv-loop μ-loop
+add-n c = search needs
+
+loop-less : tie.Need-loop-less Inv-loop μ-loop
+loop-less c =
+    let t = c .before .before .before .before .before .before .before .before .before .before .next in
+    omega (arith, ends-within (c .before .before .before .before .before .before .before .before .before .before .before .before .before .loop .inv .going) (c .before .before .before .before .before .before .before .before .before .before .before .before .loop-test .taken) (t .result) (t .ensures))
+
+loop-again : tie.Need-loop-again Inv-loop μ-loop
+loop-again c =
+    let t = c .before .before .before .before .before .before .before .before .before .before .next in
+    let p = c .before .before .before .before .put in
+    goes-on (c .before .before .before .before .before .before .before .before .before .before .before .before .before .loop .inv) (c .before .before .before .before .before .before .before .before .before .before .before .before .loop-test .taken) (t .result) (t .ensures) _ _ (c .before .before .before .before .before .before .before .mark .ensures) _ _ (p .ensures .0) (p .ensures .1)
+
+same-length : tie.Need-same-length Inv-loop μ-loop
+same-length c = search needs
+
+same-length-2 : tie.Need-same-length-2 Inv-loop μ-loop
+same-length-2 c = search needs
+
+returns : tie.Need-returns Inv-loop μ-loop
+returns c = ended (c .before .loop .inv) (c .loop-test .left)
+
+pub tokens-spec : {M : Type 1} → statement M
+tokens-spec =
+    tie.close
+    (tie.spec
+    Inv-loop
+    μ-loop
+    classes-requires
+    loop-holds
+    next-requires
+    mark-requires
+    cast-put
+    put-requires
+    add-n
+    loop-less
+    loop-again
+    same-length
+    same-length-2
+    returns)
