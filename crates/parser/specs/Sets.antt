@@ -48,7 +48,7 @@ abbrev small : List ℕ → Bool
 small [] = true
 small (x ∷ xs) = ltb x 64 && small xs
 
-pub none-above : (ks : List ℕ) (k : ℕ) → T (small ks) → 64 ≤ k → oneOf ks k ≡ false
+none-above : (ks : List ℕ) (k : ℕ) → T (small ks) → 64 ≤ k → oneOf ks k ≡ false
 unfolding oneOf
 none-above [] k t h = refl
 none-above (x ∷ xs) k t h =
