@@ -134,7 +134,7 @@ module _ (l : Inst) (r : List Sym) where
     instruction-counts k t = instruction-round-is ∙ if-false stop _ e k ∙ if-false (go l) instruction-goes refl t
 
 -- ---- tokens that a test leaves out
-or-off : (s t : Bool) → (s || t) ≡ false → (s ≡ false) × (t ≡ false)
+pub or-off : (s t : Bool) → (s || t) ≡ false → (s ≡ false) × (t ≡ false)
 or-off true t e = absurd (false≢true (sym e))
 or-off false t e = (refl, e)
 

@@ -6,7 +6,6 @@ use grammar::nesting::Significant;
 use parser::cursor::Cursor;
 use parser::cursor::bump;
 use parser::cursor::bump_plain;
-use parser::cursor::event_of;
 use parser::cursor::put;
 use parser::kinds::expects_continuation_operand;
 use parser::kinds::in_set;
@@ -21,13 +20,14 @@ use parser::look::is_top_level_starter;
 use parser::look::peek_after_inline_whitespace;
 use parser::nest::bump_nesting;
 ghost use mathlib.Core.Path.{_≡_};
-ghost use mathlib.Core.Bool.{false};
+ghost use mathlib.Core.Bool.{true, false};
 ghost use Prim.Native.Nat.{_≤_};
 ghost use lib.ListN.{length, drop};
 ghost use Rattle.lexer.specs.Syntax.{DocComment};
 ghost use Rattle.grammar.specs.Words.{is};
 ghost use Rattle.grammar.specs.Look.{at};
 ghost use Rattle.grammar.specs.Run.{scan};
+ghost use Rattle.grammar.specs.Nesting.{default};
 ghost use Rattle.grammar.specs.Instruction.{is-some, expects-operand, should-continue-instruction-after-whitespace as shouldContinue, should-stop-instruction-before as shouldStop, instruction-round, before-first, parse-instruction};
 ghost use Rattle.parser.specs.Rep.{world, Ready, Ran};
 ghost use Rattle.grammar.specs.declared.nesting.Significant.the-variants.{Kind};
@@ -168,15 +168,35 @@ fn plain_tokens(kinds: &[u16], ev: &mut [u16], c0: Cursor) -> Lead
     let mut mask = PLAIN;
     while !eof(kinds, c.pos) {
         let k = current(kinds, c.pos);
-        let v = event_of(k);
-        if !in_set(mask, v) {
+        if !in_set(mask, k) {
             return Lead { c, previous };
         }
-        c = bump_plain(kinds, ev, c, v);
+        c = bump_plain(kinds, ev, c, k);
         previous = Significant::Kind(k);
         mask = open_behind(k);
     }
     Lead { c, previous }
+}
+
+// What an instruction may go on with behind one Whitespace: the punctuation that continues it, and Whitespace again.
+const GOES_ON: u64 = 0xef61fc008000000;
+
+// Whether one or two tokens tell that an instruction ends here, outside delimiters. Mostly they do.
+fn ends_plainly(kinds: &[u16], p: usize, previous: Significant) -> bool
+    requires { ⌜ p ≤ length (now kinds) ⌝ }
+    ensures { λ r. ⌜ (r ≡ true → instruction-ends previous default (drop p (now (kinds .entry))) ≡ true) ⌝ }
+{
+    let k = current(kinds, p);
+    if in_set(LINE_END, k) {
+        return true;
+    }
+    if k != WHITESPACE {
+        return false;
+    }
+    if expects_operand(previous) {
+        return false;
+    }
+    !in_set(GOES_ON, current(kinds, p + 1))
 }
 
 // The rounds behind the token `previous0`.
@@ -225,6 +245,9 @@ fn instruction_tokens(
     let lead = plain_tokens(kinds, ev, c0);
     let c = lead.c;
     let previous = lead.previous;
+    if ends_plainly(kinds, c.pos, previous) {
+        return c;
+    }
     further_tokens(kinds, ev, dm, ds, c, previous)
 }
 

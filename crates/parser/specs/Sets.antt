@@ -1,12 +1,13 @@
--- Sets of numbers below 64 as the bits of a number. Assumes nothing.
+-- Sets of numbers below 64 as the bits of a number, and the sets of trivia, which are runs. Assumes nothing.
 use Prim.Native.Nat.{ℕ, zero, suc, _+_, _≤_, _<_, _^_, _/_, _%_}
 use mathlib.Core.Path.{_≡_, refl, sym, ap, ap₂, _∙_}
-use mathlib.Core.Bool.{Bool, true, false, cond, not, _&&_, _||_, or-false, false≢true, Bool·beq}
+use mathlib.Core.Bool.{Bool, true, false, cond, _&&_, _||_, false≢true, Bool·beq}
 use mathlib.Core.List.{List, [], _∷_}
 use native.Mathlib.Omega.{arith}
 use native.Mathlib.Nat.{add-zero, zero-add, add-suc, suc-add, le-of-suc-le-suc, not-suc-le-zero}
-use borrow.Author.Tests.{ltb-true, ltb-false, eq-eqb, ne-eqb, eqb-true, eqb-false}
-use lib.Dec.{T, eqb, ltb, ltb→lt}
+use borrow.Author.Tests.{ltb-true, ltb-false, lt-ltb, le-ltb, leb-true, eq-eqb, ne-eqb, eqb-true, eqb-false}
+use lib.Dec.{T, eqb, leb, ltb, ltb→lt}
+use Rattle.lexer.specs.Syntax.{Whitespace}
 use Rattle.grammar.specs.Words.{key}
 use Rattle.grammar.specs.Look.{oneOf}
 use Rattle.grammar.specs.Out.{kind}
@@ -47,7 +48,7 @@ abbrev small : List ℕ → Bool
 small [] = true
 small (x ∷ xs) = ltb x 64 && small xs
 
-pub none-above : (ks : List ℕ) (k : ℕ) → T (small ks) → 64 ≤ k → oneOf ks k ≡ false
+none-above : (ks : List ℕ) (k : ℕ) → T (small ks) → 64 ≤ k → oneOf ks k ≡ false
 unfolding oneOf
 none-above [] k t h = refl
 none-above (x ∷ xs) k t h =
@@ -66,11 +67,6 @@ bits-are mask ks k t s = by-test (ltb k 64) refl
     by-test true e = agree-at (low mask) (oneOf ks) 64 k t (ltb-true k 64 e)
     by-test false e = sym (none-above ks k s (ltb-false k 64 e))
 
--- the same of one number
-pub bit-is : (mask x k : ℕ) → T (agree (low mask) (oneOf (x ∷ [])) 0 64) → T (small (x ∷ [])) → bit mask k ≡ eqb x k
-unfolding oneOf
-bit-is mask x k t s = bits-are mask (x ∷ []) k t s ∙ or-false (eqb x k)
-
 -- what holds of each number in a set: one computed test over 64 numbers
 pub each-of : (mask : ℕ) (p : ℕ → Bool) (k : ℕ) → T (agree (λ i. low mask i && p i) (low mask) 0 64) → bit mask k ≡ true → p k ≡ true
 unfolding bit
@@ -79,28 +75,6 @@ each-of mask p k t = by-test (ltb k 64) refl
     by-test : (u : Bool) → ltb k 64 ≡ u → cond u (low mask k) false ≡ true → p k ≡ true
     by-test true e h = sym (ap (λ u. u && p k) h) ∙ agree-at (λ i. low mask i && p i) (low mask) 64 k t (ltb-true k 64 e) ∙ h
     by-test false e h = absurd (false≢true h)
-
--- each number in the set is the event of the token that it is, and none is Error
-abbrev pub OwnEvents : ℕ → Type 0
-OwnEvents mask = (k : ℕ) → bit mask k ≡ true → (k ≡ kind k) × (k ≡ 1 → ⊥)
-
-abbrev own : ℕ → Bool
-own k = eqb k (kind k) && not (eqb k 1)
-
-pub own-events : (mask : ℕ) → T (agree (λ i. low mask i && own i) (low mask) 0 64) → OwnEvents mask
-own-events mask t k h = by-test (eqb k (kind k)) (eqb k 1) refl refl (each-of mask own k t h)
-  where
-    by-test : (u v : Bool) → eqb k (kind k) ≡ u → eqb k 1 ≡ v → u && not v ≡ true → (k ≡ kind k) × (k ≡ 1 → ⊥)
-    by-test true false e f g = (eqb-true k (kind k) e, eqb-false k 1 f)
-    by-test true true e f g = absurd (false≢true g)
-    by-test false v e f g = absurd (false≢true g)
-
-pub no-tombstone : (mask : ℕ) → OwnEvents mask → bit mask 0 ≡ false
-no-tombstone mask o = by-test (bit mask 0) refl
-  where
-    by-test : (u : Bool) → bit mask 0 ≡ u → u ≡ false
-    by-test true e = let z = o 0 e .0 in absurd (omega arith)
-    by-test false e = refl
 
 -- the same of words, which stand in the high byte of an Ident
 abbrev pub keys : List ℕ → List ℕ
@@ -128,3 +102,37 @@ keys-are ws k = by-test (eqb (k % 256) 31) refl ws
 pub word-bits-are : (mask : ℕ) (ws : List ℕ) (k : ℕ) → T (agree (low mask) (oneOf ws) 0 64) → T (small ws) → word-bit mask k ≡ oneOf (keys ws) k
 unfolding word-bit
 word-bits-are mask ws k t s = ap (λ u. eqb (k % 256) 31 && u) (bits-are mask ws (k / 256) t s) ∙ sym (keys-are ws k)
+
+-- ---- trivia of the kinds from Whitespace up to `last`
+unfoldable pub trivia-to : ℕ → ℕ → Bool
+trivia-to last k = leb Whitespace k && leb k last
+
+trivia-from : (last k : ℕ) → trivia-to last k ≡ true → (Whitespace ≤ k) × (k ≤ last)
+unfolding trivia-to
+trivia-from last k = by-test (leb Whitespace k) (leb k last) refl refl
+  where
+    by-test : (u v : Bool) → leb Whitespace k ≡ u → leb k last ≡ v → u && v ≡ true → (Whitespace ≤ k) × (k ≤ last)
+    by-test true true e f h = (leb-true Whitespace k e, leb-true k last f)
+    by-test true false e f h = absurd (false≢true h)
+    by-test false v e f h = absurd (false≢true h)
+
+-- which kinds these are: one computed test over 64 numbers
+pub trivia-is : (last : ℕ) (ks : List ℕ) (k : ℕ) → T (agree (trivia-to last) (oneOf ks) 0 64) → T (small (last ∷ ks)) → trivia-to last k ≡ oneOf ks k
+trivia-is last ks k t s = by-test (ltb k 64) refl
+  where
+    b : T (ltb last 64) × T (small ks)
+    b = both (ltb last 64) (small ks) s
+
+    none : 64 ≤ k → (u : Bool) → trivia-to last k ≡ u → u ≡ false
+    none h true e = let l = ltb→lt last 64 (b .0) in let m = trivia-from last k e .1 in absurd (omega arith)
+    none h false e = refl
+
+    by-test : (u : Bool) → ltb k 64 ≡ u → trivia-to last k ≡ oneOf ks k
+    by-test true e = agree-at (trivia-to last) (oneOf ks) 64 k t (ltb-true k 64 e)
+    by-test false e = none (ltb-false k 64 e) (trivia-to last k) refl ∙ sym (none-above ks k (b .1) (ltb-false k 64 e))
+
+-- each is the event of the token that it is, and none is Error
+pub trivia-own : (last k : ℕ) → last < 256 → trivia-to last k ≡ true → (k ≡ kind k) × (k ≡ 1 → ⊥)
+trivia-own last k h e =
+    let f = trivia-from last k e in
+    (rw (lt-ltb k 256 (omega arith), le-ltb k 27 (f .0)), λ z. omega arith)

@@ -8,30 +8,31 @@ use crate::cursor::put;
 use crate::kinds::NON_COMMENT_TRIVIA;
 use crate::kinds::REGULAR_TRIVIA;
 use crate::kinds::SPACE;
-use crate::kinds::in_set;
 use crate::kinds::is_name_like;
 use crate::kinds::is_regular_trivia;
+use crate::kinds::is_trivia_to;
 use crate::look::at_kind;
 use crate::look::current;
 use grammar::message::Message;
 ghost use mathlib.Core.Path.{_≡_};
 ghost use mathlib.Core.Bool.{true, false};
+ghost use Prim.Native.Nat.{_<_};
 ghost use lib.ListN.{drop};
 ghost use Rattle.lexer.specs.Syntax.{Whitespace};
 ghost use Rattle.grammar.specs.Words.{is};
 ghost use Rattle.grammar.specs.Look.{at, regular-trivia, non-comment-trivia};
 ghost use Rattle.grammar.specs.Run.{if_then_else_, take};
 ghost use Rattle.grammar.specs.Bump.{nop, bump-while, expect-kind, expect-name, error-token};
-ghost use Rattle.parser.specs.Sets.{bit, OwnEvents};
+ghost use Rattle.parser.specs.Sets.{trivia-to};
 ghost use Rattle.parser.specs.Rep.{world, Ready, Ran, RanTo, TookAll};
 
-// while the token is in the set { bump }. Each kind of the set is its own event; `current` past the last token, 0, is not.
-fn bump_while(kinds: &[u16], ev: &mut [u16], c0: Cursor, mask: u64) -> Cursor
-    requires { ⌜ (Ready 0 (now kinds) c0) × OwnEvents mask ⌝ }
-    ensures { λ r. ⌜ TookAll (now (kinds .entry)) (bump-while (bit mask)) (now (ev .entry)) c0 (now (ev .exit)) r ⌝ }
+// while the token is trivia up to `last` { bump }. Each such kind is its own event, and `current` past the last token, 0, is none.
+fn bump_while(kinds: &[u16], ev: &mut [u16], c0: Cursor, last: u16) -> Cursor
+    requires { ⌜ (Ready 0 (now kinds) c0) × (last < 256) ⌝ }
+    ensures { λ r. ⌜ TookAll (now (kinds .entry)) (bump-while (trivia-to last)) (now (ev .entry)) c0 (now (ev .exit)) r ⌝ }
 {
     let mut c = c0;
-    while in_set(mask, current(kinds, c.pos)) {
+    while is_trivia_to(last, current(kinds, c.pos)) {
         let k = current(kinds, c.pos);
         c = bump_plain(kinds, ev, c, k);
     }

@@ -1,7 +1,7 @@
 // Classes of tokens. A token is its kind, and for an Ident that is one of the words 256 times the word's number more.
 ghost use mathlib.Core.Path.{_≡_};
 ghost use Rattle.grammar.specs.Look.{regular-trivia, is-trivia, non-comment-trivia, name-like, is-reserved-block-keyword, expects-continuation-operand as expectsOperand, punctuation-continues-instruction as continues, starts-instruction as startsInstruction};
-ghost use Rattle.parser.specs.Sets.{bit, word-bit};
+ghost use Rattle.parser.specs.Sets.{bit, word-bit, trivia-to};
 ghost use Rattle.parser.specs.Ahead.{starter};
 
 pub const ADV_MAP: u16 = 287;
@@ -36,20 +36,21 @@ pub const TYPE: u16 = 3871;
 
 pub const WHILE: u16 = 4127;
 
+// The last kind of each set of trivia: Comment, DocComment, Newline, Whitespace. The first is Whitespace.
+pub const REGULAR_TRIVIA: u16 = 29;
+
+pub const TRIVIA: u16 = 30;
+
+pub const NON_COMMENT_TRIVIA: u16 = 28;
+
+pub const SPACE: u16 = 27;
+
 // Sets of kinds, and of words, as the bits of a number.
-pub const REGULAR_TRIVIA: u64 = 0x38000000;
-
-pub const TRIVIA: u64 = 0x78000000;
-
-pub const NON_COMMENT_TRIVIA: u64 = 0x18000000;
-
 pub const OPERAND: u64 = 0xe17dfc000000000;
 
 pub const PUNCTUATION: u64 = 0xef61fc000000000;
 
 pub const NAME: u64 = 0x580000000;
-
-pub const SPACE: u64 = 0x8000000;
 
 // The kinds and the words that start an item, and the words that do behind `pub`.
 pub const STARTER_KINDS: u64 = 0x1040000000;
@@ -70,24 +71,31 @@ pub fn in_set(mask: u64, k: u16) -> bool
     (mask >> k) % 2 == 1
 }
 
+// Whether k is trivia, up to the kind `last`.
+pub fn is_trivia_to(last: u16, k: u16) -> bool
+    ensures { λ r. ⌜ r ≡ trivia-to last k ⌝ }
+{
+    27 <= k && k <= last
+}
+
 // Whitespace, Newline, Comment
 pub fn is_regular_trivia(k: u16) -> bool
     ensures { λ r. ⌜ r ≡ regular-trivia k ⌝ }
 {
-    in_set(REGULAR_TRIVIA, k)
+    is_trivia_to(REGULAR_TRIVIA, k)
 }
 
 // The same and DocComment
 pub fn is_trivia(k: u16) -> bool
     ensures { λ r. ⌜ r ≡ is-trivia k ⌝ }
 {
-    in_set(TRIVIA, k)
+    is_trivia_to(TRIVIA, k)
 }
 
 pub fn is_non_comment_trivia(k: u16) -> bool
     ensures { λ r. ⌜ r ≡ non-comment-trivia k ⌝ }
 {
-    in_set(NON_COMMENT_TRIVIA, k)
+    is_trivia_to(NON_COMMENT_TRIVIA, k)
 }
 
 pub fn expects_continuation_operand(k: u16) -> bool

@@ -8,8 +8,8 @@ use crate::kinds::REGULAR_TRIVIA;
 use crate::kinds::SPACE;
 use crate::kinds::TRIVIA;
 use crate::kinds::WHILE;
-use crate::kinds::in_set;
 use crate::kinds::in_words;
+use crate::kinds::is_trivia_to;
 use crate::kinds::starts_item;
 use grammar::block::Terminators;
 ghost use mathlib.Core.Path.{_≡_};
@@ -21,7 +21,7 @@ ghost use Rattle.grammar.specs.Words.{is};
 ghost use Rattle.grammar.specs.Look.{regular-trivia, is-trivia, non-comment-trivia, at, current as currentOf, eof as eofOf, skip as skipOf, past, anyone};
 ghost use Rattle.grammar.specs.Look.{next-token-after-visibility as afterVisibility, is-top-level-starter as starterOf, at-bare-while as bareWhile, at-terminator as atTerminator, at-stray-else as strayElse};
 ghost use Rattle.grammar.specs.Look.{line-break-starts-new-top-level-item as lineBreakStarts, at-top-level-form-starter-in-block as starterInBlock};
-ghost use Rattle.parser.specs.Sets.{bit};
+ghost use Rattle.parser.specs.Sets.{trivia-to};
 ghost use Rattle.parser.specs.Ahead.{Found, declared as declaredOf, BreakKnown, DocKnown};
 
 // How far a lookahead over trivia went, and whether an item starts there: it holds of each place before `next`.
@@ -56,14 +56,14 @@ pub fn at_kind(kinds: &[u16], p: usize, k: u16) -> bool
     false
 }
 
-// The first token from p on that is not in the set.
-pub fn skip(kinds: &[u16], mask: u64, p: usize) -> usize
+// The first token from p on that is not trivia up to `last`.
+pub fn skip(kinds: &[u16], last: u16, p: usize) -> usize
     requires { ⌜ p ≤ length (now kinds) ⌝ }
-    ensures { λ r. ⌜ Found (now (kinds .entry)) p r (skipOf (bit mask) (drop p (now (kinds .entry)))) ⌝ }
+    ensures { λ r. ⌜ Found (now (kinds .entry)) p r (skipOf (trivia-to last) (drop p (now (kinds .entry)))) ⌝ }
 {
     let mut i = p;
     while i < kinds.len() {
-        if !in_set(mask, kinds[i]) {
+        if !is_trivia_to(last, kinds[i]) {
             return i;
         }
         i += 1;

@@ -13,14 +13,14 @@ use Rattle.grammar.specs.declared.nesting.Significant.{Significant}
 use Rattle.parser.specs.Sets.{bit}
 use Rattle.parser.proofs.Kit.{scan-go}
 use Rattle.parser.proofs.Laws.{eof-within, current-in}
-use Rattle.forms.proofs.Plain.{not-error, plain-round}
+use Rattle.forms.proofs.Plain.{open-own, not-error, plain-round}
 use Rattle.forms.specs.Instruction.{behind, open-behind, Led}
 use Rattle.forms.proofs.instruction.plain_tokens.Statement.{statement}
 use Rattle.forms.proofs.instruction.plain_tokens.Tie as tie
 
 -- the token's bit, as the loop looks it up
-opens : {x : Bool} {mask m v w : ℕ} → mask ≡ m → v ≡ w → x ≡ bit mask v → x ≡ true → bit m w ≡ true
-opens {w} e f t h = subst (λ i. bit i w ≡ true) e (ap (bit _) (sym f) ∙ sym t ∙ h)
+opens : {x : Bool} {mask m : ℕ} (k : ℕ) → mask ≡ m → x ≡ bit mask k → x ≡ true → bit m k ≡ true
+opens k e t h = subst (λ i. bit i k ≡ true) e (sym t ∙ h)
 
 abbrev Inv-loop : tie.InvT-loop
 Inv-loop kinds ev₀ c₀ previous₀ mask₀ ev c previous mask = Led kinds ev₀ c₀ ev c previous × (length ev ≡ length ev₀) × (mask ≡ open-behind previous)
@@ -40,33 +40,29 @@ eof-requires c κs = search needs
 current-requires : tie.Need-current-requires Inv-loop μ-loop
 current-requires c κs = search needs
 
-event-of-requires : tie.Need-event-of-requires Inv-loop μ-loop
-event-of-requires c κs = search needs
-
 in-set-requires : tie.Need-in-set-requires Inv-loop μ-loop
 in-set-requires c κs = search needs
 
 same-length : tie.Need-same-length Inv-loop μ-loop
-same-length c = c .before .before .before .before .before .before .loop .inv .1
+same-length c = c .before .before .before .before .before .loop .inv .1
 
 returns : tie.Need-returns Inv-loop μ-loop
-returns c = c .before .before .before .before .before .before .loop .inv .0
+returns c = c .before .before .before .before .before .loop .inv .0
 
 bump-plain-requires : tie.Need-bump-plain-requires Inv-loop μ-loop
 bump-plain-requires c κs =
     let c₁ = c .before .before .before in
-    let c₂ = c₁ .before in
-    let c₃ = c₂ .before .before in
-    let c₄ = c₃ .before in
-    let c₅ = c₄ .before .before .before in
-    let h = eof-within (c₅ .args .kinds .now) (c₄ .loop .c .pos) (c₃ .eof .ensures) (not-true _ (c₂ .before .if1 .taken)) in
-    let k = c₂ .current .ensures ∙ sym (current-in _ _ h) in
-    let b = opens (c₄ .loop .inv .2) (c₁ .event-of .ensures) (c .before .before .in-set .ensures) (not-false _ (c .before .if2 .left)) in (
-      omega (arith, c₅ .pre, c₄ .loop .inv .0 .paid),
+    let c₂ = c₁ .before .before in
+    let c₃ = c₂ .before in
+    let c₄ = c₃ .before .before .before in
+    let h = eof-within (c₄ .args .kinds .now) (c₃ .loop .c .pos) (c₂ .eof .ensures) (not-true _ (c₁ .before .if1 .taken)) in
+    let k = c₁ .current .ensures ∙ sym (current-in _ _ h) in
+    let b = opens _ (c₃ .loop .inv .2) (c .before .before .in-set .ensures) (not-false _ (c .before .if2 .left)) in (
+      omega (arith, c₄ .pre, c₃ .loop .inv .0 .paid),
       h,
-      c₅ .pre .small,
-      λ e. not-error (c₄ .loop .previous) (c₂ .current .result) b (k ∙ e),
-      c₁ .event-of .ensures ∙ ap kind k,
+      c₄ .pre .small,
+      λ e. not-error (c₃ .loop .previous) (c₁ .current .result) b (k ∙ e),
+      open-own (c₃ .loop .previous) (c₁ .current .result) b ∙ ap kind k,
     )
 
 open-behind-requires : tie.Need-open-behind-requires Inv-loop μ-loop
@@ -75,7 +71,7 @@ open-behind-requires c κs = search needs
 loop-less : tie.Need-loop-less Inv-loop μ-loop
 loop-less c =
     let c₁ = c .before .before .before in
-    let c₂ = c .before .before .before .before .before .before .before .before .before in
+    let c₂ = c .before .before .before .before .before .before .before .before in
     let c₃ = c₂ .before in
     let c₄ = c₃ .before in
     let c₅ = c₄ .before .before .before in
@@ -91,16 +87,13 @@ loop-again c =
     let c₅ = c₄ .before in
     let c₆ = c₅ .before in
     let c₇ = c₆ .before in
-    let c₈ = c₇ .before in
-    let c₉ = c₈ .before .before .before in
-    let i = c₈ .loop .inv in
-    let z = not-true _ (c₆ .if1 .taken) in
-    let h = eof-within (c₉ .args .kinds .now) (c₈ .loop .c .pos) (c₇ .eof .ensures) z in
-    let b = opens (i .2) refl (c₃ .in-set .ensures) (not-false _ (c₂ .if2 .left)) in
-    let e = plain-round (c₈ .loop .previous) _ (c₅ .current .result) (c₄ .event-of .result) (sym (c₇ .eof .ensures) ∙ z) (c₅ .current .ensures) (c₄ .event-of .ensures) b in (
+    let i = c₇ .loop .inv in
+    let z = sym (c₆ .eof .ensures) ∙ not-true _ (c₅ .if1 .taken) in
+    let b = opens _ (i .2) (c₃ .in-set .ensures) (not-false _ (c₂ .if2 .left)) in
+    let e = plain-round (c₇ .loop .previous) _ (c₄ .current .result) z (c₄ .current .ensures) b in (
       record {
         leads = λ dm ds w′ l k. i .0 .leads dm ds w′ l
-            (scan-go instruction-round (behind (c₈ .loop .previous)) (behind (Significant.Kind (c₅ .current .result))) (sym (c₇ .eof .ensures) ∙ z) e (c₁ .bump-plain .ensures .bumped dm ds .went) k);
+            (scan-go instruction-round (behind (c₇ .loop .previous)) (behind (Significant.Kind (c₄ .current .result))) z e (c₁ .bump-plain .ensures .bumped dm ds .went) k);
         paid = omega (arith, i .0 .paid, c₁ .bump-plain .ensures .bumped [] [] .paid);
       },
       c₁ .bump-plain .kept .1 .0 ∙ i .1,
@@ -116,5 +109,5 @@ returns-2 c = c .before .before .loop .inv .0
 pub plain-tokens-spec : {M : Type 1} → statement M
 plain-tokens-spec =
     tie.close
-    (tie.spec Inv-loop μ-loop loop-holds eof-requires current-requires event-of-requires in-set-requires same-length returns
+    (tie.spec Inv-loop μ-loop loop-holds eof-requires current-requires in-set-requires same-length returns
     bump-plain-requires open-behind-requires loop-less loop-again same-length-2 returns-2)

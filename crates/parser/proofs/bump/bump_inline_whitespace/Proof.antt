@@ -1,9 +1,12 @@
--- `parser::bump::bump_inline_whitespace`: one computed test of the set's bits. Assumes nothing.
+-- `parser::bump::bump_inline_whitespace`: one computed test of the run. Assumes nothing.
+use mathlib.Core.Path.{_∙_}
+use mathlib.Core.Bool.{or-false}
+use mathlib.Core.List.{[], _∷_}
 use native.Mathlib.Omega.{arith}
 use borrow.Author.Needs.{needs}
 use Rattle.grammar.specs.Look.{oneOf}
 use Rattle.lexer.specs.Syntax.{Whitespace}
-use Rattle.parser.specs.Sets.{bit-is, own-events}
+use Rattle.parser.specs.Sets.{trivia-to, trivia-is}
 use Rattle.parser.proofs.Kit.{of-set}
 use Rattle.parser.proofs.bump.bump_inline_whitespace.Statement.{statement}
 use Rattle.parser.proofs.bump.bump_inline_whitespace.Tie as tie
@@ -11,16 +14,16 @@ use Rattle.parser.proofs.bump.bump_inline_whitespace.Tie as tie
 bump-while-requires : tie.Need-bump-while-requires
 bump-while-requires c κs =
     let c₁ = c .before .before .before .before .before in
-    (omega (arith, c₁ .pre), own-events _ tt)
+    (omega (arith, c₁ .pre), omega arith)
 
 same-length : tie.Need-same-length
 same-length c = search needs
 
 returns : tie.Need-returns
-unfolding oneOf
+unfolding oneOf trivia-to
 returns c =
     let c₁ = c .before .before in
-    of-set (λ k. bit-is _ Whitespace k tt tt) (c₁ .bump-while .ensures .ran _ _)
+    of-set (λ k. trivia-is _ (Whitespace ∷ []) k tt tt ∙ or-false _) (c₁ .bump-while .ensures .ran _ _)
 
 pub bump-inline-whitespace-spec : {M : Type 1} → statement M
 bump-inline-whitespace-spec = tie.close (tie.spec bump-while-requires same-length returns)

@@ -1,19 +1,19 @@
--- `parser::kinds::is_trivia` meets its contract: one computed test of the set's bits. Assumes nothing.
+-- `parser::kinds::is_trivia` meets its contract: one computed test of the run. Assumes nothing.
 use mathlib.Core.Path.{_∙_}
 use borrow.Author.Needs.{needs}
 use mathlib.Core.List.{[], _∷_}
 use Rattle.lexer.specs.Syntax.{Whitespace, Newline, Comment, DocComment}
 use Rattle.grammar.specs.Look.{oneOf}
-use Rattle.parser.specs.Sets.{bits-are}
+use Rattle.parser.specs.Sets.{trivia-to, trivia-is}
 use Rattle.parser.proofs.kinds.is_trivia.Statement.{statement}
 use Rattle.parser.proofs.kinds.is_trivia.Tie as tie
 
-in-set-requires : tie.Need-in-set-requires
-in-set-requires c κs = search needs
+is-trivia-to-requires : tie.Need-is-trivia-to-requires
+is-trivia-to-requires c κs = search needs
 
 returns : tie.Need-returns
-unfolding oneOf
-returns c = c .in-set .ensures ∙ bits-are _ (Whitespace ∷ Newline ∷ Comment ∷ DocComment ∷ []) (c .before .args .k) tt tt
+unfolding oneOf trivia-to
+returns c = c .is-trivia-to .ensures ∙ trivia-is _ (Whitespace ∷ Newline ∷ Comment ∷ DocComment ∷ []) (c .before .args .k) tt tt
 
 pub is-trivia-spec : {M : Type 1} → statement M
-is-trivia-spec = tie.close (tie.spec in-set-requires returns)
+is-trivia-spec = tie.close (tie.spec is-trivia-to-requires returns)

@@ -6,35 +6,35 @@ use borrow.Author.Needs.{needs}
 use borrow.Author.Tests.{not-true, not-false}
 use lib.ListN.{length, drop}
 use Rattle.grammar.specs.Look.{skip}
-use Rattle.parser.specs.Sets.{bit}
+use Rattle.parser.specs.Sets.{trivia-to}
 use Rattle.parser.proofs.Laws.{at-in, skip-on, skip-off, skip-end}
 use Rattle.parser.proofs.look.skip.Statement.{statement}
 use Rattle.parser.proofs.look.skip.Tie as tie
 
 abbrev Inv-loop : tie.InvT-loop
-Inv-loop kinds mask p i₀ i = (p ≤ i) × (i ≤ length kinds) × (skip (bit mask) (drop p kinds) ≡ skip (bit mask) (drop i kinds))
+Inv-loop kinds last p i₀ i = (p ≤ i) × (i ≤ length kinds) × (skip (trivia-to last) (drop p kinds) ≡ skip (trivia-to last) (drop i kinds))
 
 abbrev μ-loop : tie.MeasureT-loop
-μ-loop kinds mask p i₀ i = length kinds - i
+μ-loop kinds last p i₀ i = length kinds - i
 
 loop-holds : tie.Need-loop-holds Inv-loop μ-loop
 loop-holds c = (omega arith, c .before .pre, refl)
 
-mul-in-set : tie.Need-mul-in-set Inv-loop μ-loop
-mul-in-set c = search needs
+mul-is-trivia-to : tie.Need-mul-is-trivia-to Inv-loop μ-loop
+mul-is-trivia-to c = search needs
 
-shared-slice-read-in-set : tie.Need-shared-slice-read-in-set Inv-loop μ-loop
-shared-slice-read-in-set c = search needs
+shared-slice-read-is-trivia-to : tie.Need-shared-slice-read-is-trivia-to Inv-loop μ-loop
+shared-slice-read-is-trivia-to c = search needs
 
-in-set-requires : tie.Need-in-set-requires Inv-loop μ-loop
-in-set-requires c κs = search needs
+is-trivia-to-requires : tie.Need-is-trivia-to-requires Inv-loop μ-loop
+is-trivia-to-requires c κs = search needs
 
 returns : tie.Need-returns Inv-loop μ-loop
 returns c =
     let l = c .before .before .before .before .loop in
     let a = c .before .before .before .before .before .before .args in
     record {
-      is = skip-off (a .kinds .now) (bit (a .mask)) (l .i) (at-in (a .kinds .now) (bit (a .mask)) (l .i) (search needs)) (sym (c .before .in-set .ensures) ∙ not-true _ (c .if1 .taken)) ∙ sym (l .inv .2);
+      is = skip-off (a .kinds .now) (trivia-to (a .last)) (l .i) (at-in (a .kinds .now) (trivia-to (a .last)) (l .i) (search needs)) (sym (c .before .is-trivia-to .ensures) ∙ not-true _ (c .if1 .taken)) ∙ sym (l .inv .2);
       ahead = l .inv .0;
       within = l .inv .1;
     }
@@ -49,13 +49,13 @@ loop-again : tie.Need-loop-again Inv-loop μ-loop
 loop-again c =
     let l = c .before .before .before .before .loop in
     let a = c .before .before .before .before .before .before .args in
-    (omega arith, omega arith, l .inv .2 ∙ skip-on (a .kinds .now) (bit (a .mask)) (l .i) (at-in (a .kinds .now) (bit (a .mask)) (l .i) (search needs)) (sym (c .before .in-set .ensures) ∙ not-false _ (c .if1 .left)))
+    (omega arith, omega arith, l .inv .2 ∙ skip-on (a .kinds .now) (trivia-to (a .last)) (l .i) (at-in (a .kinds .now) (trivia-to (a .last)) (l .i) (search needs)) (sym (c .before .is-trivia-to .ensures) ∙ not-false _ (c .if1 .left)))
 
 returns-2 : tie.Need-returns-2 Inv-loop μ-loop
 returns-2 c =
     let l = c .before .loop in
     let a = c .before .before .before .args in
-    record { is = skip-end (a .kinds .now) (l .i) (bit (a .mask)) (search needs) ∙ sym (l .inv .2); ahead = l .inv .0; within = l .inv .1 }
+    record { is = skip-end (a .kinds .now) (l .i) (trivia-to (a .last)) (search needs) ∙ sym (l .inv .2); ahead = l .inv .0; within = l .inv .1 }
 
 pub skip-spec : {M : Type 1} → statement M
 skip-spec =
@@ -64,9 +64,9 @@ skip-spec =
     Inv-loop
     μ-loop
     loop-holds
-    mul-in-set
-    shared-slice-read-in-set
-    in-set-requires
+    mul-is-trivia-to
+    shared-slice-read-is-trivia-to
+    is-trivia-to-requires
     returns
     add-i
     loop-less
