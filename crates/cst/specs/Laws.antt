@@ -1,13 +1,14 @@
 -- What the passes behind the lexer come to, together.
 -- Assumes nothing.
 use Prim.Native.Nat.{ℕ, zero, suc, pred, _+_, _≤_}
-use mathlib.Core.Path.{_≡_, refl, sym, ap, _∙_}
-use mathlib.Core.List.{List, [], _∷_, map, map-id}
+use mathlib.Core.Path.{_≡_, refl, sym, ap, ap₂, _∙_}
+use mathlib.Core.List.{List, [], _∷_, _++_, map, map-id}
 use native.Mathlib.Omega.{arith}
-use lib.ListN.{length, length-map}
+use lib.ListN.{length, take, drop, length-map}
+use lib.Seq.{take-at, drop-at}
 use Rattle.utf8.specs.Width.{width}
 use Rattle.utf8.specs.Last.{last-from, last-char}
-use Rattle.lexer.specs.Over.{over, nil-over, cons-over}
+use Rattle.lexer.specs.Over.{over, fit, nil-over, cons-over}
 use Rattle.lexer.specs.Tokens.{token-ends}
 use Rattle.grammar.specs.Words.{kindOf}
 use Rattle.grammar.specs.Out.{Diag, diags}
@@ -40,6 +41,18 @@ last-below zero m n (b ∷ s) h = omega (arith, last-below (pred (width b)) n (n
 
 pub last-within : (s : List ℕ) → last-char s ≤ length s
 last-within s = omega (arith, last-below 0 0 0 s (omega arith))
+
+take-map : (g : ℕ → ℕ) (r : ℕ) (vs : List ℕ) → map g (take r vs) ≡ take r (map g vs)
+take-map g zero vs = refl
+take-map g (suc r) [] = refl
+take-map g (suc r) (v ∷ vs) = ap (λ (k : List ℕ). g v ∷ k) (take-map g r vs)
+
+-- where numbers fit, each is replaced by its value under g
+pub refit : (g : ℕ → ℕ) (r n : ℕ) (vs l : List ℕ) → length (take r vs) ≡ n → map g (take n (fit r vs l)) ++ drop n (fit r vs l) ≡ fit r (map g vs) l
+refit g r n vs l e =
+    let d = drop (length (take r vs)) l in
+    ap₂ (λ (k i : List ℕ). map g k ++ i) (take-at (take r vs) d n e) (drop-at (take r vs) d n e)
+    ∙ ap₂ (λ (k : List ℕ) (i : ℕ). k ++ drop i l) (take-map g r vs) (sym (length-map (take r vs) g) ∙ ap length (take-map g r vs))
 
 -- the grammar, the marks taken off, and the places
 module _

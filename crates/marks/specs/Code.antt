@@ -12,7 +12,7 @@ use Rattle.lexer.specs.Syntax.{Ident}
 use Rattle.lexer.specs.Lexer.{Token, same, tokenize}
 use Rattle.lexer.specs.Tokens.{Written}
 use Rattle.lexer.specs.Tokens
-use Rattle.grammar.specs.Words.{words, numberIn, wordOf, symOf}
+use Rattle.grammar.specs.Words.{key, words, numberIn, wordOf, symOf}
 use Rattle.marks.specs.declared.Refusal.{Refusal}
 use Rattle.marks.specs.declared.Refusal.the-variants.{Nothing, At}
 use Rattle.marks.specs.declared.Read.{Read}
@@ -77,7 +77,7 @@ kept-text text e f =
 -- What the number says of a token: it is refused, or its symbol is its kind and 256 times the number.
 pub record Kept (kind : ℕ) (text : List ℕ) : Type 0 where
   pub symbol : symOf kind text ≡ kind + 256 * number-of kind text
-  pub small : number-of kind text ≤ 16
+  pub bounded : kind < 60 → kind + 256 * number-of kind text ≤ key 16
 
 neither : (x y : Bool) → x || y ≡ false → (x ≡ false) × (y ≡ false)
 neither true y e = absurd (true≢false e)
@@ -92,8 +92,8 @@ module _ (kind : ℕ) (text : List ℕ) where
       by-kind true h f =
           let w = neither (same use-text text) (same extern-text text) f in
           let k = kept-text text (w .0) (w .1) in
-          record { symbol = rw h (omega (arith, eqb-true Ident kind h, k .is-word)); small = rw h (k .small) }
-      by-kind false h f = record { symbol = rw h (omega arith); small = rw h (omega arith) }
+          record { symbol = rw h (omega (arith, eqb-true Ident kind h, k .is-word)); bounded = λ l. rw h (omega (arith, eqb-true Ident kind h, k .small)) }
+      by-kind false h f = record { symbol = rw h (omega arith); bounded = λ l. rw h (omega arith) }
 
   pub refused : is-refused (record { kind = kind; text = text }) ≡ true → 16 < number-of kind text
   unfolding is-refused number-of
@@ -106,29 +106,23 @@ module _ (kind : ℕ) (text : List ℕ) where
       by-kind false u v h p q f = absurd (false≢true f)
 
 -- What is written for a token: its kind, and 256 times its number more.
+abbrev pub marked : ℕ → List ℕ → ℕ
+marked kind text = kind + 256 * number-of kind text
+
 abbrev pub mark : Token → ℕ
-mark t = t .kind + 256 * number-of (t .kind) (t .text)
+mark t = marked (t .kind) (t .text)
 
-pub few-numbers : (kind : ℕ) (text : List ℕ) → number-of kind text ≤ 18
-unfolding number-of number words
-few-numbers kind text = by-kind (eqb Ident kind)
-  where
-    by-kind : (u : Bool) → cond u (number text) 0 ≤ 18
-    by-kind true = at-most 0 (words ++ refused-texts) text
-    by-kind false = omega arith
+pub few-numbers : (text : List ℕ) → number text ≤ 18
+unfolding number words
+few-numbers text = at-most 0 (words ++ refused-texts) text
 
--- A token with the number n that starts at m; the first of two refusals.
+-- Marked v, a token that starts at m is refused where v stands above the last word; the first of two refusals.
 abbrev pub refused-at : ℕ → ℕ → Refusal
-refused-at n m = cond (ltb 16 n) (At m) Nothing
+refused-at v m = cond (ltb (key 16) v) (At m) Nothing
 
 abbrev pub or-else : Refusal → Refusal → Refusal
 or-else Nothing q = q
 or-else (At m) q = At m
-
--- What is written for a token of this kind and text that starts at m, and the first refusal up to it.
-pub record MarkOf (kind : ℕ) (text : List ℕ) (m : ℕ) (refusal : Refusal) (v : ℕ) (r : Refusal) : Type 0 where
-  pub kind-is : v ≡ kind + 256 * number-of kind text
-  pub refusal-is : r ≡ or-else refusal (refused-at (number-of kind text) m)
 
 -- The tokens with their marks, where each slice takes what it has room for; and where both have the same room.
 pub record Lexed (source kinds ends : List ℕ) (r : Read) (kinds′ ends′ : List ℕ) : Type 0 where

@@ -4,7 +4,7 @@ ghost use mathlib.Core.List.{map};
 ghost use Prim.Native.Nat.{_-_, _≤_, _<_};
 ghost use lib.ListN.{length, take, drop};
 ghost use Rattle.grammar.specs.Words.{kindOf};
-ghost use Rattle.marks.specs.Code.{number, or-else, refused-at, MarkOf, Lexed, Marked};
+ghost use Rattle.marks.specs.Code.{number, marked, or-else, refused-at, Lexed, Marked};
 ghost use Rattle.marks.specs.Filter.{WordsPass};
 
 mod filter;
@@ -33,28 +33,20 @@ fn number_of(first: &[u16; 256], last: &[u16; 256], source: &[u8], start: usize,
     0
 }
 
-// The refusal so far, or else that of a token with this number.
-fn or_else(refusal: Refusal, number: u16, start: usize) -> Refusal
-    ensures { λ r. ⌜ r ≡ or-else refusal (refused-at number start) ⌝ }
+// The refusal so far, or else that of a token which stands above the last word.
+fn or_else(refusal: Refusal, kind: u16, start: usize) -> Refusal
+    ensures { λ r. ⌜ r ≡ or-else refusal (refused-at kind start) ⌝ }
 {
+    if kind <= 4127 {
+        return refusal;
+    }
     match refusal {
         Refusal::At(n) => Refusal::At(n),
-        Refusal::Nothing => {
-            if 16 < number {
-                return Refusal::At(start);
-            }
-            Refusal::Nothing
-        }
+        Refusal::Nothing => Refusal::At(start),
     }
 }
 
-// A token as the grammar reads it, its kind with its mark, and what is refused up to it.
-struct Symbol {
-    kind: u16,
-    refusal: Refusal,
-}
-
-// The mark of the token from `start` to `end`. Where its kind is not Ident, or its text no word, nothing changes.
+// The kind of the token from `start` to `end`, marked where it is an Ident with a number.
 fn mark(
     first: &[u16; 256],
     last: &[u16; 256],
@@ -62,31 +54,15 @@ fn mark(
     start: usize,
     kind: u8,
     end: usize,
-    refusal: Refusal,
-) -> Symbol
+) -> u16
     requires { ⌜ (WordsPass (now first) (now last)) × (start < end) × (end ≤ length (now source)) ⌝ }
-    ensures { λ r. ⌜ MarkOf kind (take (end - start) (drop start (now (source .entry)))) start refusal (r .kind) (r .refusal) ⌝ }
+    ensures { λ r. ⌜ r ≡ marked kind (take (end - start) (drop start (now (source .entry)))) ⌝ }
 {
     let plain = kind as u16;
     if plain != 31 {
-        return Symbol {
-            kind: plain,
-            refusal,
-        };
+        return plain;
     }
-    let number = number_of(first, last, source, start, end);
-    if number == 0 {
-        return Symbol {
-            kind: plain,
-            refusal,
-        };
-    }
-    let marked = plain + 256 * number;
-    let refused = or_else(refusal, number, start);
-    Symbol {
-        kind: marked,
-        refusal: refused,
-    }
+    plain + 256 * number_of(first, last, source, start, end)
 }
 
 // The lexer's tokens, each marked as it is written; both slices have the same length.
@@ -103,9 +79,9 @@ fn tokens(source: &[u8], kinds: &mut [u16], ends: &mut [u32]) -> Read
     while at < source.len() {
         let t = lexer::next(&table, source, at);
         let end = t.end;
-        let m = mark(&first, &last, source, at, t.kind, end, refusal);
-        lexer::put(kinds, ends, n, m.kind, end as u32);
-        refusal = m.refusal;
+        let kind = mark(&first, &last, source, at, t.kind, end);
+        refusal = or_else(refusal, kind, at);
+        lexer::put(kinds, ends, n, kind, end as u32);
         n += 1;
         at = end;
     }

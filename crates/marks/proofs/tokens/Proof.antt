@@ -33,28 +33,31 @@ mark-requires c κs =
     let e = ends-within (c .before .before .before .before .before .loop .inv .going) (c .before .before .before .before .loop-test .taken) (t .result) (t .ensures) in
     (refl, e .0, e .1)
 
+or-else-requires : tie.Need-or-else-requires Inv-loop μ-loop
+or-else-requires c κs = search needs
+
 cast-put : tie.Need-cast-put Inv-loop μ-loop
 cast-put c =
-    let t = c .before .before .before .before .before .next in
-    let g = c .before .before .before .before .before .before .before .before .loop .inv .going in
-    omega (arith, g .size, ends-within g (c .before .before .before .before .before .before .before .loop-test .taken) (t .result) (t .ensures) .1)
+    let t = c .before .before .before .before .before .before .next in
+    let g = c .before .before .before .before .before .before .before .before .before .loop .inv .going in
+    omega (arith, g .size, ends-within g (c .before .before .before .before .before .before .before .before .loop-test .taken) (t .result) (t .ensures) .1)
 
 put-requires : tie.Need-put-requires Inv-loop μ-loop
-put-requires c κs = let g = c .before .before .before .before .before .before .before .before .loop .inv .going in g .kinds-len ∙ g .same-room ∙ sym (g .ends-len)
+put-requires c κs = let g = c .before .before .before .before .before .before .before .before .before .loop .inv .going in g .kinds-len ∙ g .same-room ∙ sym (g .ends-len)
 
 add-n : tie.Need-add-n Inv-loop μ-loop
 add-n c = search needs
 
 loop-less : tie.Need-loop-less Inv-loop μ-loop
 loop-less c =
-    let t = c .before .before .before .before .before .before .before .before .before .before .next in
-    omega (arith, ends-within (c .before .before .before .before .before .before .before .before .before .before .before .before .before .loop .inv .going) (c .before .before .before .before .before .before .before .before .before .before .before .before .loop-test .taken) (t .result) (t .ensures))
+    let t = c .before .before .before .before .before .before .before .before .before .before .before .next in
+    omega (arith, ends-within (c .before .before .before .before .before .before .before .before .before .before .before .before .before .before .loop .inv .going) (c .before .before .before .before .before .before .before .before .before .before .before .before .before .loop-test .taken) (t .result) (t .ensures))
 
 loop-again : tie.Need-loop-again Inv-loop μ-loop
 loop-again c =
-    let t = c .before .before .before .before .before .before .before .before .before .before .next in
+    let t = c .before .before .before .before .before .before .before .before .before .before .before .next in
     let p = c .before .before .before .before .put in
-    goes-on (c .before .before .before .before .before .before .before .before .before .before .before .before .before .loop .inv) (c .before .before .before .before .before .before .before .before .before .before .before .before .loop-test .taken) (t .result) (t .ensures) _ _ (c .before .before .before .before .before .before .before .mark .ensures) _ _ (p .ensures .0) (p .ensures .1)
+    goes-on (c .before .before .before .before .before .before .before .before .before .before .before .before .before .before .loop .inv) (c .before .before .before .before .before .before .before .before .before .before .before .before .before .loop-test .taken) (t .result) (t .ensures) _ (c .before .before .before .before .before .before .before .before .mark .ensures) _ (c .before .before .before .before .before .before .before .or-else .ensures) _ _ (p .ensures .0) (p .ensures .1)
 
 same-length : tie.Need-same-length Inv-loop μ-loop
 same-length c = search needs
@@ -75,6 +78,7 @@ tokens-spec =
     loop-holds
     next-requires
     mark-requires
+    or-else-requires
     cast-put
     put-requires
     add-n

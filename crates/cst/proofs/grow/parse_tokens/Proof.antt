@@ -1,13 +1,15 @@
--- `cst::grow::parse_tokens` meets its contract, by what `mark` says. Assumes nothing.
+-- `cst::grow::parse_tokens` meets its contract, by what is refused. Assumes nothing.
 use Prim.Native.Nat.{ℕ}
 use mathlib.Core.Path.{_≡_, refl, sym, ap, _∙_}
-use mathlib.Core.List.{List}
+use mathlib.Core.List.{List, [], map}
 use Rattle.lexer.specs.Lexer.{tokenize}
-use Rattle.lexer.specs.Tokens.{token-kinds}
+use Rattle.grammar.specs.Words.{kindOf}
 use Rattle.grammar.specs.Source.{symbols}
 use Rattle.marks.specs.declared.Refusal.{Refusal}
 use Rattle.marks.specs.declared.Refusal.the-variants.{Nothing, At}
-use Rattle.marks.specs.Marks.{first-refused, marked, Marked}
+use Rattle.marks.specs.Marks.{first-refused}
+use Rattle.marks.specs.Code.{mark}
+use Rattle.marks.specs.Laws.{marks-unmarked, all-marked}
 use Rattle.answer.specs.declared.Answer.{Answer}
 use Rattle.answer.specs.declared.Answer.the-variants.{Refused}
 use Rattle.answer.specs.Answer.{slices, grown, kept}
@@ -16,43 +18,38 @@ use borrow.Author.Needs.{needs}
 use Rattle.cst.proofs.grow.parse_tokens.Statement.{statement}
 use Rattle.cst.proofs.grow.parse_tokens.Tie as tie
 
-module _ (source kinds ends ev dm ds de kinds′ : List ℕ) (plain : kinds ≡ token-kinds source) (q : Refusal) (m : Marked source kinds q kinds′) where
-  refused : (n : ℕ) → q ≡ At n → Left source (kept (first-refused 0 (tokenize source)) source (slices kinds ends ev dm ds de)) (Refused n) kinds′ ev dm ds de
-  unfolding kept
-  refused n e =
-      rw (sym (m .refusal-is) ∙ e)
-      (record {
-        answer-is = refl;
-        kinds-are = m .kinds-are ∙ ap (λ (p : Refusal). marked p kinds (tokenize source)) e ∙ plain;
-        events-are = refl;
-        messages-are = refl;
-        starts-are = refl;
-        stops-are = refl;
-      })
+module _
+    (source kinds ends ev dm ds de : List ℕ) (refusal : Refusal)
+    (refusal-is : refusal ≡ first-refused 0 (tokenize source)) (marks : kinds ≡ map mark (tokenize source))
+  where
+    refused : {kinds′ : List ℕ} (n : ℕ) → refusal ≡ At n → kinds′ ≡ map kindOf kinds
+        → Left source (kept (first-refused 0 (tokenize source)) source (slices kinds ends ev dm ds de)) (Refused n) kinds′ ev dm ds de
+    unfolding kept
+    refused n e k =
+        rw (sym refusal-is ∙ e)
+        (record {
+          answer-is = refl;
+          kinds-are = k ∙ ap (map kindOf) marks ∙ marks-unmarked source;
+          events-are = refl;
+          messages-are = refl;
+          starts-are = refl;
+          stops-are = refl;
+        })
 
-  marks : q ≡ Nothing → kinds′ ≡ symbols source
-  marks e = m .kinds-are ∙ ap (λ (p : Refusal). marked p kinds (tokenize source)) e
+    symbols-are : refusal ≡ Nothing → kinds ≡ symbols source
+    symbols-are e = marks ∙ all-marked (tokenize source) (sym refusal-is ∙ e)
 
-  goes-on : {r : Answer} {kinds₂ ev′ dm′ ds′ de′ : List ℕ} → q ≡ Nothing
-      → Left source (grown source (slices kinds′ ends ev dm ds de)) r kinds₂ ev′ dm′ ds′ de′
-      → Left source (kept (first-refused 0 (tokenize source)) source (slices kinds ends ev dm ds de)) r kinds₂ ev′ dm′ ds′ de′
-  unfolding kept grown
-  goes-on e l =
-      rw (sym (m .refusal-is) ∙ e)
-      (record {
-        answer-is = l .answer-is;
-        kinds-are = l .kinds-are;
-        events-are = l .events-are;
-        messages-are = l .messages-are;
-        starts-are = l .starts-are;
-        stops-are = l .stops-are;
-      })
-
-mark-requires : tie.Need-mark-requires
-mark-requires c κs = search needs
+    goes-on : {r : Answer} {kinds′ ev′ dm′ ds′ de′ : List ℕ} → refusal ≡ Nothing
+        → Left source (grown source (slices kinds ends ev dm ds de)) r kinds′ ev′ dm′ ds′ de′
+        → Left source (kept (first-refused 0 (tokenize source)) source (slices kinds ends ev dm ds de)) r kinds′ ev′ dm′ ds′ de′
+    unfolding kept
+    goes-on e l = rw (sym refusal-is ∙ e) l
 
 enum-known-refusal : tie.Need-enum-known-refusal
 enum-known-refusal c = search needs
+
+unmark-requires : tie.Need-unmark-requires
+unmark-requires c κs = search needs
 
 enum-told : tie.Need-enum-told
 enum-told c = search needs
@@ -60,11 +57,8 @@ enum-told c = search needs
 parse-kept-requires : tie.Need-parse-kept-requires
 parse-kept-requires c κs =
     let c₁ = c .before .before .before .before .before in
-    let c₂ = c₁ .before .before .before .before in
-    let c₃ = c₂ .before .before .before .before .before .before .before .before .before in
-    let a = c₃ .args in
-    let pre = c₃ .pre in
-    (pre .0, pre .1, marks (a .source .now) (a .kinds .now) (a .ends .now) (a .events .now) (a .messages .now) (a .starts .now) (a .stops .now) _ (pre .2) _ (c₂ .mark .ensures) (c₁ .enum-told .given .1), pre .3)
+    let pre = c₁ .before .before .before .before .before .before .before .before .before .pre in
+    (pre .0, pre .1, symbols-are _ _ [] [] [] [] [] _ (pre .2) (pre .3) (c₁ .enum-told .given .1), pre .4)
 
 same-length : tie.Need-same-length
 same-length c = search needs
@@ -72,10 +66,8 @@ same-length c = search needs
 returns : tie.Need-returns
 returns c =
     let c₁ = c .before .before .before .before .before in
-    let c₂ = c₁ .before .before .before .before .before .before .before .before .before in
-    let a = c₂ .args in
-    let pre = c₂ .pre in
-    refused _ _ _ _ _ _ _ _ (pre .2) _ (c₁ .mark .ensures) _ (c .before .refusal .given .1)
+    let pre = c₁ .before .before .before .before .before .before .before .before .before .pre in
+    refused _ _ _ _ _ _ _ _ (pre .2) (pre .3) _ (c₁ .refusal .given .1) (c .before .before .unmark .ensures)
 
 same-length-2 : tie.Need-same-length-2
 same-length-2 c = search needs
@@ -96,18 +88,15 @@ returns-2 : tie.Need-returns-2
 returns-2 c =
     let c₁ = c .before .before .before .before .before .before .before .before .before .before in
     let c₂ = c₁ .before .before .before .before .before .before in
-    let c₃ = c₂ .before .before .before .before in
-    let c₄ = c₃ .before .before .before .before .before .before .before .before .before in
-    let a = c₄ .args in
-    let pre = c₄ .pre in
-    goes-on _ _ _ _ _ _ _ _ (pre .2) _ (c₃ .mark .ensures) (c₂ .enum-told .given .1) (c₁ .parse-kept .ensures)
+    let pre = c₂ .before .before .before .before .before .before .before .before .before .pre in
+    goes-on _ _ _ _ _ _ _ _ (pre .2) (pre .3) (c₂ .enum-told .given .1) (c₁ .parse-kept .ensures)
 
 pub parse-tokens-spec : {M : Type 1} → statement M
 parse-tokens-spec =
     tie.close
     (tie.spec
-    mark-requires
     enum-known-refusal
+    unmark-requires
     enum-told
     parse-kept-requires
     same-length
