@@ -68,7 +68,7 @@ pub fn error_here(dm: &mut [u16], ds: &mut [u32], c: Cursor, m: Message) -> Curs
 }
 
 // A token's event: Error's is 60, and a keyword's is Ident's.
-pub fn event_of(k: u16) -> u16
+fn event_of(k: u16) -> u16
     ensures { λ r. ⌜ r ≡ kind k ⌝ }
 {
     if 256 <= k {
