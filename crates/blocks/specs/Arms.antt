@@ -65,7 +65,7 @@ by-arm Arm.Control again limit owner terminators depth =
     (parse-control-flow (λ o t d. inNode Block (again o t d)) (suc depth) >>= λ ended-here. pick ended-here (pure BlockParseOutcome.ReachedEof) (again owner terminators depth))
 
 -- an `if`, as its test chooses between two arms
-if-arm : {A X : Type 0} (h : X → Res A) (t : List Sym → Bool) (f g : P A) (r : List Sym) {a b : X} → f r ≡ h a → g r ≡ h b → (if t then f else g) r ≡ h (cond (t r) a b)
+pub if-arm : {A X : Type 0} (h : X → Res A) (t : List Sym → Bool) (f g : P A) (r : List Sym) {a b : X} → f r ≡ h a → g r ≡ h b → (if t then f else g) r ≡ h (cond (t r) a b)
 unfolding _>>=_ peek
 if-arm h t f g r {a} {b} p q = go (t r)
   where

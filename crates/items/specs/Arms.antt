@@ -3,17 +3,18 @@
 -- proofs/Arms.
 -- Assumes nothing.
 use mathlib.Core.Path.{_≡_, refl}
-use mathlib.Core.Bool.{Bool, true, false, cond, _||_}
+use mathlib.Core.Bool.{Bool, cond, _||_}
 use mathlib.Core.List.{List, [], _∷_}
 use Rattle.lexer.specs.Syntax.{DocComment, At}
 use Rattle.grammar.specs.Words.{Sym, is, ADV-MAP, BEGIN, CONST, ENUM, MOD, NAMESPACE, PROC, TYPE}
 use Rattle.grammar.specs.Look.{regular-trivia, at-kind, at-keyword, at-regular-trivia}
-use Rattle.grammar.specs.Run.{Res, P, peek, pick, _>>=_, if_then_else_}
+use Rattle.grammar.specs.Run.{Res, P}
 use Rattle.grammar.specs.declared.message.Message.{Message}
 use Rattle.grammar.specs.declared.message.ItemMessage.the-variants.{UnexpectedTopLevelToken}
 use Rattle.grammar.specs.Bump.{bump, error-token}
 use Rattle.grammar.specs.Block.{Blocks}
 use Rattle.grammar.specs.Item.{parse-doc-form, parse-namespace, parse-submodule, parse-procedure, parse-begin-block, parse-constant, parse-type-decl, parse-advice-map, at-declaration, at-procedure, parse-source-item}
+use Rattle.blocks.specs.Arms.{if-arm}
 use Rattle.items.specs.declared.arm.Arm.{Arm}
 
 -- the tests, in their order
@@ -42,15 +43,6 @@ by-arm Arm.Constant block = parse-constant
 by-arm Arm.Type block = parse-type-decl
 by-arm Arm.AdviceMap block = parse-advice-map
 by-arm Arm.Bad block = error-token (Message.Item UnexpectedTopLevelToken)
-
--- an `if`, as its test chooses between two arms
-if-arm : {A X : Type 0} (h : X → Res A) (t : List Sym → Bool) (f g : P A) (r : List Sym) {a b : X} → f r ≡ h a → g r ≡ h b → (if t then f else g) r ≡ h (cond (t r) a b)
-unfolding _>>=_ peek
-if-arm h t f g r {a} {b} p q = go (t r)
-  where
-    go : (u : Bool) → pick u f g r ≡ h (cond u a b)
-    go true = p
-    go false = q
 
 pub item-is : (block : Blocks) (r : List Sym) → parse-source-item block r ≡ by-arm (arm-of r) block r
 unfolding parse-source-item arm-of by-arm
