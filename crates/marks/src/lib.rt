@@ -10,6 +10,11 @@ ghost use Rattle.marks.specs.Filter.{WordsPass};
 mod filter;
 mod word;
 
+const IDENT: u16 = 31;
+
+// The Ident that is the last word, `while`; `use` and `extern` stand above it.
+const LAST_WORD: u16 = 4127;
+
 // Where the first Ident `use` or `extern` starts, if there is one.
 pub enum Refusal {
     Nothing,
@@ -33,11 +38,11 @@ fn number_of(first: &[u16; 256], last: &[u16; 256], source: &[u8], start: usize,
     0
 }
 
-// The refusal so far, or else that of a token which stands above the last word.
+// The refusal so far, or else that of a token above the last word.
 fn or_else(refusal: Refusal, kind: u16, start: usize) -> Refusal
     ensures { λ r. ⌜ r ≡ or-else refusal (refused-at kind start) ⌝ }
 {
-    if kind <= 4127 {
+    if kind <= LAST_WORD {
         return refusal;
     }
     match refusal {
@@ -59,7 +64,7 @@ fn mark(
     ensures { λ r. ⌜ r ≡ marked kind (take (end - start) (drop start (now (source .entry)))) ⌝ }
 {
     let plain = kind as u16;
-    if plain != 31 {
+    if plain != IDENT {
         return plain;
     }
     plain + 256 * number_of(first, last, source, start, end)
@@ -101,7 +106,7 @@ pub fn tokenize(source: &[u8], kinds: &mut [u16], ends: &mut [u32]) -> Read
 fn plain(kind: u16) -> u16
     ensures { λ r. ⌜ r ≡ kindOf kind ⌝ }
 {
-    if kind < 256 { kind } else { 31 }
+    if kind < 256 { kind } else { IDENT }
 }
 
 // Takes the marks off.
