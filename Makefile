@@ -65,7 +65,7 @@ store:
 
 # Writes the reference's answers that the grammar's definitions are held to.
 samples:
-	cd tests && cargo run --offline --release --bin samples 300 > ../crates/grammar/specs/Samples.antt
+	cd tests && cargo run --offline --release --bin samples 300 > ../crates/samples/specs/Samples.antt
 
 # The table of lines and seconds in docs/PROOFS.md, from a log of the gate.
 LOG ?= gate.log

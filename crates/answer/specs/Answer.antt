@@ -13,7 +13,7 @@ use Rattle.lexer.specs.Over.{fit}
 use Rattle.lexer.specs.Tokens.{token-kinds, token-ends}
 use Rattle.grammar.specs.Out.{Place}
 use Rattle.grammar.specs.Source.{source-events, source-places}
-use Rattle.items.specs.Entry.{limit}
+use Rattle.grammar.specs.Block.{MAX-CONTROL-FLOW-NESTING as limit}
 use Rattle.marks.specs.declared.Refusal.{Refusal}
 use Rattle.marks.specs.declared.Refusal.the-variants as refusal
 use Rattle.marks.specs.Marks.{first-refused}

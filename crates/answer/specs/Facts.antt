@@ -24,7 +24,7 @@ use Rattle.grammar.specs.Theorems.AllTokens.{all-tokens}
 use Rattle.grammar.specs.Theorems.FewOpen.{peak, few-open}
 use Rattle.grammar.specs.Theorems.FewEvents.{few-events}
 use Rattle.grammar.specs.Theorems.FewDiagnostics.{few-diagnostics}
-use Rattle.items.specs.Entry.{limit}
+use Rattle.grammar.specs.Block.{MAX-CONTROL-FLOW-NESTING as limit}
 use Rattle.marks.specs.Laws.{Kept, all-kept, source-unmarked}
 use Rattle.answer.specs.Answer.{Slices, token-room, diagnostic-room, events-of, places-of}
 use Rattle.answer.specs.Call.{Called}

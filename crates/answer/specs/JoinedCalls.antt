@@ -22,7 +22,7 @@ use Rattle.grammar.specs.Joins.{shift}
 use Rattle.grammar.specs.Joins
 use Rattle.grammar.specs.Theorems.Joined.{joined, joined-events}
 use Rattle.grammar.specs.Theorems.JoinedBytes.{joined-bytes}
-use Rattle.items.specs.Entry.{limit}
+use Rattle.grammar.specs.Block.{MAX-CONTROL-FLOW-NESTING as limit}
 use Rattle.marks.specs.Laws.{join-syms, join-kept}
 use Rattle.answer.specs.Answer.{Slices, events-of, places-of}
 use Rattle.answer.specs.Call.{Called}

@@ -15,8 +15,8 @@ use parser::look::current;
 ghost use Rattle.parser.specs.Rep.{world, Ready};
 ghost use Rattle.blocks.specs.Shapes.{ItemAt, FormHere, Rounded, Begun};
 
-// The limit on control-flow nodes in one another: MAX_CONTROL_FLOW_NESTING.
-const LIMIT: usize = 256;
+// Control-flow nodes in one another.
+const MAX_CONTROL_FLOW_NESTING: usize = 256;
 
 // Which block it is, and how many forms it stands in. One small struct, since each frame of the cycle has one.
 pub struct Place {
@@ -46,7 +46,7 @@ fn form_here(
     requires { ⌜ Ready 7 (now kinds) c0 ⌝ }
     ensures { λ r. ⌜ FormHere (now (kinds .entry)) depth (world (now (ev .entry)) (now (dm .entry)) (now (ds .entry)) c0) (world (now (ev .exit)) (now (dm .exit)) (now (ds .exit)) (r .c)) (r .outcome) (r .item) (r .control) (r .word) ⌝ }
 {
-    if LIMIT <= depth {
+    if MAX_CONTROL_FLOW_NESTING <= depth {
         let d = reject_excessive_control_flow_nesting(kinds, ev, dm, ds, c0);
         let e = put(ev, d, 0);
         return Stopped {

@@ -15,7 +15,8 @@ use Rattle.grammar.specs.Out.{Diag, diags}
 use Rattle.grammar.specs.Source.{symbols}
 use Rattle.parser.specs.declared.cursor.Cursor.{Cursor}
 use Rattle.parser.specs.Rep.{onto, world}
-use Rattle.items.specs.Entry.{limit, base, Parsed}
+use Rattle.grammar.specs.Block.{MAX-CONTROL-FLOW-NESTING as limit}
+use Rattle.items.specs.Entry.{base, Parsed}
 use Rattle.marks.specs.Laws.{source-unmarked}
 use Rattle.places.specs.Places.{Placed}
 use Rattle.places.specs.Laws.{messages-of-places}

@@ -1,7 +1,7 @@
 -- Blocks and the four control forms. A block contains the forms and each of them contains blocks: the forms are written over the blocks
 -- inside them, and parse-block ties the knot.
 -- Defines: parse_structured_header_suffixes, reject_excessive_control_flow_nesting, parse_if, parse_while, parse_do_while, parse_repeat,
--- parse_block. MAX_CONTROL_FLOW_NESTING is the parameter `limit`.
+-- parse_block. The limit on nesting is a parameter; the reader's is MAX_CONTROL_FLOW_NESTING.
 -- Assumes nothing: these are definitions.
 use Prim.Native.Nat.{ℕ, zero, suc}
 use mathlib.Core.Bool.{Bool, true, false}
@@ -21,6 +21,10 @@ pub use Rattle.grammar.specs.declared.block.BlockOwner.{BlockOwner}
 pub use Rattle.grammar.specs.declared.block.Terminators.{Terminators}
 pub use Rattle.grammar.specs.declared.block.BlockRecoveryBoundary.{BlockRecoveryBoundary}
 pub use Rattle.grammar.specs.declared.block.BlockParseOutcome.{BlockParseOutcome}
+
+-- Control-flow nodes in one another.
+abbrev pub MAX-CONTROL-FLOW-NESTING : ℕ
+MAX-CONTROL-FLOW-NESTING = 256
 
 -- Behind the dot of a suffix.
 unfoldable pub suffix-operand : P Bool

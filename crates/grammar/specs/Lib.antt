@@ -4,7 +4,7 @@
 -- Out: events, diagnostics and their places. Source: all of it from a source's bytes. Joins: demand 3 over tokens.
 -- State: what a function does to what was written before.
 -- Theorems has what is proved for all token lists and limits, Laws what the proofs rest on.
--- Compute: sources as text, and what computes. Examples: document 01's table and other examples. Samples: the reference's answers.
+-- Compute: sources as text, and what computes. Examples: document 01's table and other examples.
 pub mod Words
 pub mod Look
 pub mod Run
@@ -24,4 +24,3 @@ pub mod Laws
 pub mod Theorems
 pub mod Compute
 pub mod Examples
-pub mod Samples

@@ -13,7 +13,8 @@ use Rattle.grammar.specs.State.{State, run}
 use Rattle.grammar.specs.Laws.LiveItem.{items-end}
 use Rattle.parser.specs.Rep.{onto, Base, World, world, room, Rep, Went}
 use Rattle.parser.proofs.Laws.{left}
-use Rattle.items.specs.Entry.{limit, base, Parsed}
+use Rattle.grammar.specs.Block.{MAX-CONTROL-FLOW-NESTING as limit}
+use Rattle.items.specs.Entry.{base, Parsed}
 
 onto-none : {A : Type 0} (f : A → ℕ) (r : ℕ) (base : List ℕ) → base ≡ onto f r base []
 unfolding onto

@@ -5,12 +5,9 @@ use mathlib.Core.List.{List}
 use Prim.Native.Nat.{ℕ}
 use lib.ListN.{length}
 use Rattle.grammar.specs.Words.{File}
+use Rattle.grammar.specs.Block.{MAX-CONTROL-FLOW-NESTING as limit}
 use Rattle.grammar.specs.Out.{events as eventsOf, diags as diagsOf}
 use Rattle.parser.specs.Rep.{onto, Base, World, room}
-
--- control-flow nodes in one another: MAX_CONTROL_FLOW_NESTING
-abbrev pub limit : ℕ
-limit = 256
 
 -- the slices before
 abbrev pub base : List ℕ → List ℕ → List ℕ → Base

@@ -1,13 +1,13 @@
 // An item, by the token that it starts with.
-use crate::advice_map::parse_advice_map;
 use crate::arm::Arm;
 use crate::arm::arm_here;
-use crate::constant::parse_constant;
-use crate::namespace::parse_namespace;
 use crate::procedure::parse_begin_block;
 use crate::procedure::parse_procedure;
-use crate::submodule::parse_submodule;
-use crate::type_decl::parse_type_decl;
+use declarations::advice_map::parse_advice_map;
+use declarations::constant::parse_constant;
+use declarations::namespace::parse_namespace;
+use declarations::submodule::parse_submodule;
+use declarations::type_decl::parse_type_decl;
 use grammar::message::ItemMessage;
 use grammar::message::Message;
 use parser::bump::error_token;

@@ -1,10 +1,10 @@
 // Procedures and the `begin` block.
-use crate::attribute::attributes;
-use crate::parts::L_PAREN;
-use crate::signature::parse_signature;
-use crate::visibility::optional_visibility;
 use blocks::block::parse_block;
 use blocks::close::found_terminator;
+use declarations::attribute::attributes;
+use declarations::parts::L_PAREN;
+use declarations::signature::parse_signature;
+use declarations::visibility::optional_visibility;
 use forms::line::parse_line_tail;
 use grammar::block::BlockOwner;
 use grammar::block::BlockParseOutcome;
@@ -24,7 +24,7 @@ use parser::look::at_kind;
 ghost use Rattle.grammar.specs.Block.{closing as closingOf, parse-block};
 ghost use Rattle.grammar.specs.Item.{procedure-body, parse-procedure, parse-begin-block};
 ghost use Rattle.parser.specs.Rep.{world, Ready, Ran, RanTo};
-ghost use Rattle.items.specs.Parts.{optional-signature, procedure-header, procedure-lead};
+ghost use Rattle.items.specs.Procedure.{optional-signature, procedure-header, procedure-lead};
 
 const BEGIN_BLOCK: u16 = 13;
 

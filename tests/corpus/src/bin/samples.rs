@@ -1,4 +1,4 @@
-//! Prints crates/grammar/specs/Samples.antt: sources with the reference's answers.
+//! Prints crates/samples/specs/Samples.antt: sources with the reference's answers.
 //!
 //! Takes the number of sources to pick from the corpus. The messages' smallest inputs stand
 //! before them; a source stands once.
@@ -29,12 +29,12 @@ const FAMILIES: [Family; 11] = [
 const HEADER: &str = "\
 -- The compiled reference's answers to NUMBER sources: the smallest input of each message, and short sources at equal distances in the test
 -- corpus. Of each the source, the tokens' kinds and ends, the events and the diagnostics. The definitions give the same, by computation.
--- Generated, in tests/, by: cargo run --release --bin samples COUNT > ../crates/grammar/specs/Samples.antt
+-- Generated, in tests/, by: cargo run --release --bin samples COUNT > ../crates/samples/specs/Samples.antt
 -- Assumes nothing.
 use mathlib.Core.Path.{_≡_, refl}
 use mathlib.Core.List.{List, [], _∷_, map}
 use Rattle.grammar.specs.Source.{Reading}
 use Rattle.grammar.specs.Compute.{_from_to_, read, again}
 
 pub samples : List Reading
 samples =

@@ -7,7 +7,7 @@ use native.Mathlib.Omega.{arith}
 use lib.ListN.{length}
 use borrow.Author.Needs.{needs}
 use borrow.Author.Tests.{not-true, not-false}
-use Rattle.grammar.specs.Block.{parse-block}
+use Rattle.grammar.specs.Block.{MAX-CONTROL-FLOW-NESTING as limit, parse-block}
 use Rattle.grammar.specs.Item.{parse-source-item, items-in}
 use Rattle.lexer.specs.Syntax.{DocComment}
 use Rattle.grammar.specs.Bump.{bump-while, while-round}
@@ -17,7 +17,6 @@ use Rattle.grammar.specs.Run.{leaf, pure, peek, take, scan, _>>=_, _>>_, if_the
 use Rattle.grammar.specs.Theorems.NoFuel.{items-eq}
 use Rattle.grammar.specs.Theorems.Rounds.{round-takes}
 use Rattle.grammar.specs.Words.{File, from, Sym, is}
-use Rattle.items.specs.Entry.{limit}
 use Rattle.parser.specs.Rep.{World, world, Went, WentTo}
 use Rattle.parser.proofs.Kit.{like-to, yes-to, no-to, done-to, _then_, _then-to_, begins, goes-on, Held}
 use Rattle.parser.proofs.Laws.{past-here}

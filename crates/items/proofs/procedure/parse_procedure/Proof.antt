@@ -7,7 +7,7 @@ use Rattle.grammar.specs.Bump.{nop}
 use Rattle.grammar.specs.Item.{procedure-body, parse-procedure}
 use Rattle.grammar.specs.Run.{pick, P}
 use Rattle.parser.specs.Ahead.{declared}
-use Rattle.items.proofs.Steps.{five, steps}
+use Rattle.declarations.proofs.Steps.{five, steps}
 use Rattle.parser.proofs.Kit.{on, off, node, done, bind}
 use Rattle.items.proofs.procedure.parse_procedure.Statement.{statement}
 use Rattle.items.proofs.procedure.parse_procedure.Tie as tie

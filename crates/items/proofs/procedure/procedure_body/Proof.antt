@@ -4,7 +4,7 @@ use native.Mathlib.Omega.{arith}
 use Rattle.grammar.specs.Block.{closing}
 use Rattle.grammar.specs.Item.{procedure-body}
 use Rattle.grammar.specs.declared.block.BlockOwner.{BlockOwner}
-use Rattle.items.proofs.Steps.{five, steps}
+use Rattle.declarations.proofs.Steps.{five, steps}
 use Rattle.parser.proofs.Kit.{bind, _then_}
 use Rattle.items.proofs.procedure.procedure_body.Statement.{statement}
 use Rattle.items.proofs.procedure.procedure_body.Tie as tie

@@ -1,0 +1,40 @@
+-- `items::type_decl::at_type_end`: the tests of type-round. Assumes nothing.
+use mathlib.Core.Path.{sym, _∙_}
+use borrow.Author.Needs.{needs}
+use borrow.Author.Tests.{not-true, not-false}
+use Rattle.declarations.specs.Parts.{type-ends}
+use Rattle.declarations.proofs.Rounds.{type-inside}
+use Rattle.declarations.proofs.type_decl.at_type_end.Statement.{statement}
+use Rattle.declarations.proofs.type_decl.at_type_end.Tie as tie
+
+is-root-requires : tie.Need-is-root-requires
+is-root-requires c κs = search needs
+
+returns : tie.Need-returns
+returns c =
+    let c₁ = c .before .before .before in
+    (type-inside _ _ (sym (c .before .is-root .ensures) ∙ not-true _ (c .if1 .taken)), c₁ .pre)
+
+at-kind-requires : tie.Need-at-kind-requires
+at-kind-requires c κs = search needs
+
+returns-2 : tie.Need-returns-2
+unfolding type-ends
+returns-2 c =
+    let c₁ = c .before .before .before .before .before in
+    (rw (sym (c .before .at-kind .ensures) ∙ not-true _ (c .if2 .taken)), c₁ .pre)
+
+line-break-starts-new-top-level-item-requires : tie.Need-line-break-starts-new-top-level-item-requires
+line-break-starts-new-top-level-item-requires c κs =
+    let c₁ = c .before .before .before .before .before in
+    (sym (c .before .at-kind .ensures) ∙ not-false _ (c .if2 .left), c₁ .pre)
+
+returns-3 : tie.Need-returns-3
+unfolding type-ends
+returns-3 c =
+    let c₁ = c .before .before .before in
+    let c₂ = c₁ .before in
+    (rw (sym (c .before .before .at-kind .ensures) ∙ not-false _ (c .before .if2 .left), sym (c₂ .is-root .ensures) ∙ not-false _ (c₁ .if1 .left)) (c .line-break-starts-new-top-level-item .ensures .0), c .line-break-starts-new-top-level-item .ensures .1)
+
+pub at-type-end-spec : {M : Type 1} → statement M
+at-type-end-spec = tie.close (tie.spec is-root-requires returns at-kind-requires returns-2 line-break-starts-new-top-level-item-requires returns-3)

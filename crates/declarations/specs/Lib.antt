@@ -1,0 +1,2 @@
+-- What the declarations' functions are cut into.
+pub mod Parts

@@ -1,0 +1,74 @@
+// What several items share.
+use forms::line::parse_expr_until_line_end;
+use forms::line::parse_line_tail;
+use forms::path::parse_balanced_group;
+use grammar::message::Message;
+use parser::bump::bump_regular_trivia;
+use parser::bump::expect_kind;
+use parser::bump::expect_name;
+use parser::cursor::Cursor;
+use parser::look::at_kind;
+ghost use Rattle.parser.specs.Rep.{world, Ready, Ran};
+ghost use Rattle.declarations.specs.Parts.{keyword-and-name, optional-parens, value-line};
+
+const EQUAL: u16 = 44;
+
+pub const L_PAREN: u16 = 48;
+
+pub const R_PAREN: u16 = 55;
+
+// A token that must be there, and a name behind it.
+pub fn keyword_and_name(
+    kinds: &[u16],
+    ev: &mut [u16],
+    dm: &mut [u16],
+    ds: &mut [u32],
+    c0: Cursor,
+    k: u16,
+    m: Message,
+    name: Message,
+) -> Cursor
+    requires { ⌜ Ready 2 (now kinds) c0 ⌝ }
+    ensures { λ r. ⌜ Ran 1 0 2 (now (kinds .entry)) (keyword-and-name k m name) (world (now (ev .entry)) (now (dm .entry)) (now (ds .entry)) c0) (world (now (ev .exit)) (now (dm .exit)) (now (ds .exit)) r) ⌝ }
+{
+    let a = expect_kind(kinds, ev, dm, ds, c0, k, m);
+    let ac = a.c;
+    let b = bump_regular_trivia(kinds, ev, dm, ds, ac);
+    expect_name(kinds, ev, dm, ds, b, name)
+}
+
+// A group in parentheses, where one starts here.
+pub fn optional_parens(
+    kinds: &[u16],
+    ev: &mut [u16],
+    dm: &mut [u16],
+    ds: &mut [u32],
+    c0: Cursor,
+    missing: Message,
+) -> Cursor
+    requires { ⌜ Ready 2 (now kinds) c0 ⌝ }
+    ensures { λ r. ⌜ Ran 1 0 2 (now (kinds .entry)) (optional-parens missing) (world (now (ev .entry)) (now (dm .entry)) (now (ds .entry)) c0) (world (now (ev .exit)) (now (dm .exit)) (now (ds .exit)) r) ⌝ }
+{
+    if at_kind(kinds, c0.pos, L_PAREN) {
+        return parse_balanced_group(kinds, ev, dm, ds, c0, L_PAREN, R_PAREN, missing);
+    }
+    c0
+}
+
+// `=`, an expression and the rest of the line.
+pub fn value_line(
+    kinds: &[u16],
+    ev: &mut [u16],
+    dm: &mut [u16],
+    ds: &mut [u32],
+    c0: Cursor,
+    missing: Message,
+) -> Cursor
+    requires { ⌜ Ready 3 (now kinds) c0 ⌝ }
+    ensures { λ r. ⌜ Ran 2 2 1 (now (kinds .entry)) (value-line missing) (world (now (ev .entry)) (now (dm .entry)) (now (ds .entry)) c0) (world (now (ev .exit)) (now (dm .exit)) (now (ds .exit)) r) ⌝ }
+{
+    let a = expect_kind(kinds, ev, dm, ds, c0, EQUAL, missing);
+    let ac = a.c;
+    let b = parse_expr_until_line_end(kinds, ev, dm, ds, ac);
+    parse_line_tail(kinds, ev, dm, ds, b)
+}

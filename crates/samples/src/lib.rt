@@ -1,0 +1,1 @@
+// No code: the definitions of the lexer and the grammar are held to the reference's answers in specs/Samples.
