@@ -1,34 +1,22 @@
 // One source: its slices filled, the reading, and what is left in the slices.
 use answer::Answer;
+use answer::numbers;
 use frames::fill::fill_u16;
 use frames::fill::fill_u32;
 use frames::output;
 ghost use Rattle.frames.specs.Ready.{Ready};
 
 // The four numbers of document 01's answer.
-fn put_numbers(out: &mut [u8], used: usize, status: usize, a: usize, b: usize, c: usize) -> usize
-    requires { ⌜ Ready used (now out) ⌝ }
-    ensures { λ r. ⌜ Ready r (now (out .exit)) ⌝ }
-{
-    let first = output::put_entry(out, used, 0, status);
-    let second = output::put_entry(out, first, 1, a);
-    let third = output::put_entry(out, second, 2, b);
-    let last = output::put_entry(out, third, 3, c);
-    output::put_byte(out, last, b'\n')
-}
-
 fn put_answer(out: &mut [u8], used: usize, answer: Answer) -> usize
     requires { ⌜ Ready used (now out) ⌝ }
     ensures { λ r. ⌜ Ready r (now (out .exit)) ⌝ }
 {
-    match answer {
-        Answer::TooLong => put_numbers(out, used, 1, 0, 0, 0),
-        Answer::NotUtf8(n) => put_numbers(out, used, 2, n, 0, 0),
-        Answer::TokenRoom(t) => put_numbers(out, used, 3, t, 0, 0),
-        Answer::Refused(n) => put_numbers(out, used, 4, n, 0, 0),
-        Answer::OutputRoom(t, e, d) => put_numbers(out, used, 5, t, e, d),
-        Answer::Accepted(t, e, d) => put_numbers(out, used, 0, t, e, d),
-    }
+    let row = numbers(answer);
+    let first = output::put_entry(out, used, 0, row.status as usize);
+    let second = output::put_entry(out, first, 1, row.first as usize);
+    let third = output::put_entry(out, second, 2, row.second as usize);
+    let last = output::put_entry(out, third, 3, row.third as usize);
+    output::put_byte(out, last, b'\n')
 }
 
 // The lines of the slices of tokens and events.

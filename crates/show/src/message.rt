@@ -1,22 +1,52 @@
 // The texts of the messages, by number (docs/MESSAGES.md).
 use frames::output::put_text;
+use lexer::least;
+ghost use Prim.Native.Nat.{_≤_};
+ghost use lib.ListN.{length};
 ghost use Rattle.frames.specs.Ready.{Ready};
+
+// Where the line ends that has `from` in it.
+fn line_end(text: &[u8], from: usize) -> usize
+    requires { ⌜ from ≤ length (now text) ⌝ }
+    ensures { λ r. ⌜ (from ≤ r) × (r ≤ length (now (text .entry))) ⌝ }
+{
+    let mut at = from;
+    while at < text.len() {
+        if text[at] == b'\n' {
+            return at;
+        }
+        at += 1;
+    }
+    at
+}
+
+// The line that has `n` lines before it.
+fn put_line(out: &mut [u8], used: usize, text: &[u8], n: usize) -> usize
+    requires { ⌜ Ready used (now out) ⌝ }
+    ensures { λ r. ⌜ Ready r (now (out .exit)) ⌝ }
+{
+    let mut from = 0;
+    for _ in 0..n {
+        from = least(line_end(text, from) + 1, text.len());
+    }
+    let to = line_end(text, from);
+    put_text(out, used, &text[from..to])
+}
 
 // A missing closer, by its owner: messages 1 to 7.
 fn put_missing(out: &mut [u8], used: usize, n: usize) -> usize
     requires { ⌜ Ready used (now out) ⌝ }
     ensures { λ r. ⌜ Ready r (now (out .exit)) ⌝ }
 {
-    match n {
-        0 => put_text(out, used, b"expected `end` to close `begin` block"),
-        1 => put_text(out, used, b"expected `end` to close procedure"),
-        2 => put_text(out, used, b"expected `end` to close `if`"),
-        3 => put_text(out, used, b"expected `end` to close `while`"),
-        4 => put_text(out, used, b"expected `while` to close `do` block"),
-        5 => put_text(out, used, b"expected `end` to close `do`..`while` loop"),
-        6 => put_text(out, used, b"expected `end` to close `repeat`"),
-        _ => used,
-    }
+    let text = b"\
+        expected `end` to close `begin` block\n\
+        expected `end` to close procedure\n\
+        expected `end` to close `if`\n\
+        expected `end` to close `while`\n\
+        expected `while` to close `do` block\n\
+        expected `end` to close `do`..`while` loop\n\
+        expected `end` to close `repeat`";
+    put_line(out, used, text, n)
 }
 
 // A recovery, by owner and boundary: messages 8 to 21.
@@ -36,23 +66,22 @@ fn put_item(out: &mut [u8], used: usize, n: usize) -> usize
     requires { ⌜ Ready used (now out) ⌝ }
     ensures { λ r. ⌜ Ready r (now (out .exit)) ⌝ }
 {
-    match n {
-        22 => put_text(out, used, b"unexpected top-level token"),
-        23 => put_text(out, used, b"expected a namespace path"),
-        24 => put_text(out, used, b"expected `mod` in submodule declaration"),
-        25 => put_text(out, used, b"expected a submodule name"),
-        26 => put_text(out, used, b"expected `const` in constant declaration"),
-        27 => put_text(out, used, b"expected a constant name"),
-        28 => put_text(out, used, b"expected `=` in constant declaration"),
-        29 => put_text(out, used, b"expected `type` or `enum`"),
-        30 => put_text(out, used, b"expected a type name"),
-        31 => put_text(out, used, b"expected `=` or `:` in type declaration"),
-        32 => put_text(out, used, b"expected an advice-map name"),
-        33 => put_text(out, used, b"expected `)` to close advice-map key"),
-        34 => put_text(out, used, b"expected `=` in advice-map declaration"),
-        35 => put_text(out, used, b"expected a path segment after `::`"),
-        _ => used,
-    }
+    let text = b"\
+        unexpected top-level token\n\
+        expected a namespace path\n\
+        expected `mod` in submodule declaration\n\
+        expected a submodule name\n\
+        expected `const` in constant declaration\n\
+        expected a constant name\n\
+        expected `=` in constant declaration\n\
+        expected `type` or `enum`\n\
+        expected a type name\n\
+        expected `=` or `:` in type declaration\n\
+        expected an advice-map name\n\
+        expected `)` to close advice-map key\n\
+        expected `=` in advice-map declaration\n\
+        expected a path segment after `::`";
+    put_line(out, used, text, n)
 }
 
 // Of procedures: messages 36 to 44.
@@ -60,22 +89,17 @@ fn put_procedure(out: &mut [u8], used: usize, n: usize) -> usize
     requires { ⌜ Ready used (now out) ⌝ }
     ensures { λ r. ⌜ Ready r (now (out .exit)) ⌝ }
 {
-    match n {
-        36 => put_text(out, used, b"expected `proc` in procedure declaration"),
-        37 => put_text(out, used, b"expected a procedure name"),
-        38 => put_text(out, used, b"expected an attribute name"),
-        39 => put_text(out, used, b"expected `)` to close attribute arguments"),
-        40 => put_text(out, used, b"expected `package` in visibility modifier"),
-        41 => put_text(out, used, b"expected `)` after `package`"),
-        42 => put_text(out, used, b"expected `)` to close procedure parameters"),
-        43 => put_text(out, used, b"expected `)` to close procedure results"),
-        44 => put_text(
-            out,
-            used,
-            b"expected a result type after `->` in procedure signature",
-        ),
-        _ => used,
-    }
+    let text = b"\
+        expected `proc` in procedure declaration\n\
+        expected a procedure name\n\
+        expected an attribute name\n\
+        expected `)` to close attribute arguments\n\
+        expected `package` in visibility modifier\n\
+        expected `)` after `package`\n\
+        expected `)` to close procedure parameters\n\
+        expected `)` to close procedure results\n\
+        expected a result type after `->` in procedure signature";
+    put_line(out, used, text, n)
 }
 
 // Of blocks and tokens: messages 45 to 53.
@@ -83,30 +107,17 @@ fn put_block(out: &mut [u8], used: usize, n: usize) -> usize
     requires { ⌜ Ready used (now out) ⌝ }
     ensures { λ r. ⌜ Ready r (now (out .exit)) ⌝ }
 {
-    match n {
-        45 => put_text(
-            out,
-            used,
-            b"doc comments are only allowed before module-level items",
-        ),
-        46 => put_text(out, used, b"unexpected token in block"),
-        47 => put_text(
-            out,
-            used,
-            b"expected `]` to close structured operation suffix",
-        ),
-        48 => put_text(out, used, b"expected a structured operation suffix"),
-        49 => put_text(
-            out,
-            used,
-            b"control-flow nesting depth exceeded the maximum depth of 256",
-        ),
-        50 => put_text(out, used, b"unrecognized token"),
-        51 => put_text(out, used, b"unexpected closing delimiter `)`"),
-        52 => put_text(out, used, b"unexpected closing delimiter `]`"),
-        53 => put_text(out, used, b"unexpected closing delimiter `}`"),
-        _ => used,
-    }
+    let text = b"\
+        doc comments are only allowed before module-level items\n\
+        unexpected token in block\n\
+        expected `]` to close structured operation suffix\n\
+        expected a structured operation suffix\n\
+        control-flow nesting depth exceeded the maximum depth of 256\n\
+        unrecognized token\n\
+        unexpected closing delimiter `)`\n\
+        unexpected closing delimiter `]`\n\
+        unexpected closing delimiter `}`";
+    put_line(out, used, text, n)
 }
 
 // The text of message n. An unrecognized token follows between backticks.
@@ -124,12 +135,12 @@ pub fn put_message(out: &mut [u8], used: usize, n: usize, token: &[u8]) -> usize
         return put_recovery(out, used, n - 8);
     }
     if n < 36 {
-        return put_item(out, used, n);
+        return put_item(out, used, n - 22);
     }
     if n < 45 {
-        return put_procedure(out, used, n);
+        return put_procedure(out, used, n - 36);
     }
-    let at = put_block(out, used, n);
+    let at = put_block(out, used, n - 45);
     if n == 50 {
         return put_quoted(out, at, token);
     }

@@ -1,4 +1,4 @@
--- `items::advice_map::parse_advice_map`: its node around the steps of its callees. Assumes nothing.
+-- `declarations::advice_map::parse_advice_map`: its node around the steps of its callees. Assumes nothing.
 use mathlib.Core.Path.{_∙_}
 use native.Mathlib.Omega.{arith}
 use Rattle.grammar.specs.Item.{parse-advice-map}

@@ -1,4 +1,4 @@
--- `items::attribute::attribute_round`: trivia, then an attribute or none. Assumes nothing.
+-- `declarations::attribute::attribute_round`: trivia, then an attribute or none. Assumes nothing.
 use mathlib.Core.Bool.{true, false}
 use mathlib.Core.Path.{_∙_}
 use native.Mathlib.Omega.{arith}

@@ -1,4 +1,4 @@
--- `items::attribute::attributes`: `loop`: a round that goes on takes a token. Assumes nothing.
+-- `declarations::attribute::attributes`: `loop`: a round that goes on takes a token. Assumes nothing.
 use mathlib.Core.Path.{refl, _∙_}
 use Prim.Native.Nat.{_-_}
 use native.Mathlib.Omega.{arith}

@@ -1,4 +1,4 @@
--- `items::attribute::parse_attribute`: its node around the steps of its callees. Assumes nothing.
+-- `declarations::attribute::parse_attribute`: its node around the steps of its callees. Assumes nothing.
 use mathlib.Core.Path.{_∙_}
 use native.Mathlib.Omega.{arith}
 use Rattle.grammar.specs.Item.{parse-attribute}

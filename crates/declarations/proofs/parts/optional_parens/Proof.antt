@@ -1,4 +1,4 @@
--- `items::parts::optional_parens`: one test. Assumes nothing.
+-- `declarations::parts::optional_parens`: one test. Assumes nothing.
 use mathlib.Core.Bool.{true}
 use native.Mathlib.Omega.{arith}
 use borrow.Author.Needs.{needs}

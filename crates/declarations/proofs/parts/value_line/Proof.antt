@@ -1,4 +1,4 @@
--- `items::parts::value_line`: the steps of its callees. Assumes nothing.
+-- `declarations::parts::value_line`: the steps of its callees. Assumes nothing.
 use mathlib.Core.Path.{_∙_}
 use native.Mathlib.Omega.{arith}
 use Rattle.parser.proofs.Kit.{_then_}

@@ -1,4 +1,4 @@
--- `items::signature::parse_results`: the steps of its callees, and one test. Assumes nothing.
+-- `declarations::signature::parse_results`: the steps of its callees, and one test. Assumes nothing.
 use mathlib.Core.Path.{_∙_}
 use native.Mathlib.Omega.{arith}
 use borrow.Author.Needs.{needs}

@@ -1,4 +1,4 @@
--- `items::signature::parse_signature`: its node, with and without results. Assumes nothing.
+-- `declarations::signature::parse_signature`: its node, with and without results. Assumes nothing.
 use mathlib.Core.Bool.{true}
 use mathlib.Core.Path.{ap, _∙_}
 use native.Mathlib.Omega.{arith}

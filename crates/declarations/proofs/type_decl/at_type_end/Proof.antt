@@ -1,4 +1,4 @@
--- `items::type_decl::at_type_end`: the tests of type-round. Assumes nothing.
+-- `declarations::type_decl::at_type_end`: the tests of type-round. Assumes nothing.
 use mathlib.Core.Path.{sym, _∙_}
 use borrow.Author.Needs.{needs}
 use borrow.Author.Tests.{not-true, not-false}

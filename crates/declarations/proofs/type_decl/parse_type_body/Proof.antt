@@ -1,4 +1,4 @@
--- `items::type_decl::parse_type_body`: its node around the loop. Assumes nothing.
+-- `declarations::type_decl::parse_type_body`: its node around the loop. Assumes nothing.
 use mathlib.Core.Path.{_∙_}
 use native.Mathlib.Omega.{arith}
 use Rattle.grammar.specs.Line.{parse-type-body}

@@ -1,4 +1,4 @@
--- `items::type_decl::parse_type_decl`: its node around the steps of its callees. Assumes nothing.
+-- `declarations::type_decl::parse_type_decl`: its node around the steps of its callees. Assumes nothing.
 use mathlib.Core.Path.{_∙_}
 use native.Mathlib.Omega.{arith}
 use Rattle.grammar.specs.Item.{parse-type-decl}

@@ -1,4 +1,4 @@
--- `items::type_decl::type_name_and_body`: the steps of its callees, and one test. Assumes nothing.
+-- `declarations::type_decl::type_name_and_body`: the steps of its callees, and one test. Assumes nothing.
 use mathlib.Core.Bool.{Bool, true}
 use mathlib.Core.List.{List, [], _∷_}
 use mathlib.Core.Path.{_≡_, refl, ap, _∙_}

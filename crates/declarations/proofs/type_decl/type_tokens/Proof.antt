@@ -1,4 +1,4 @@
--- `items::type_decl::type_tokens`: `scan`, a token at a time; the counts are no more than the tokens taken. Assumes nothing.
+-- `declarations::type_decl::type_tokens`: `scan`, a token at a time; the counts are no more than the tokens taken. Assumes nothing.
 use mathlib.Core.Path.{refl, sym, ap, subst, _∙_}
 use Prim.Native.Nat.{_+_, _-_}
 use native.Mathlib.Omega.{arith}

@@ -1,4 +1,4 @@
--- `items::visibility::optional_visibility`: one test. Assumes nothing.
+-- `declarations::visibility::optional_visibility`: one test. Assumes nothing.
 use mathlib.Core.Bool.{true}
 use native.Mathlib.Omega.{arith}
 use borrow.Author.Needs.{needs}

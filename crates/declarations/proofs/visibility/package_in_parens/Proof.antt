@@ -1,4 +1,4 @@
--- `items::visibility::package_in_parens`: the steps of its callees. Assumes nothing.
+-- `declarations::visibility::package_in_parens`: the steps of its callees. Assumes nothing.
 use mathlib.Core.Path.{_∙_}
 use native.Mathlib.Omega.{arith}
 use Rattle.grammar.specs.Item.{package-in-parens}

@@ -1,4 +1,4 @@
--- `items::visibility::parse_visibility`: its node, with and without the parentheses. Assumes nothing.
+-- `declarations::visibility::parse_visibility`: its node, with and without the parentheses. Assumes nothing.
 use mathlib.Core.Bool.{true}
 use mathlib.Core.Path.{ap, _∙_}
 use native.Mathlib.Omega.{arith}
