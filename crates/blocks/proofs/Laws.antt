@@ -13,7 +13,7 @@ use Rattle.grammar.specs.State.{run}
 use Rattle.grammar.specs.declared.block.BlockOwner.{BlockOwner}
 use Rattle.grammar.specs.declared.block.Terminators.{Terminators}
 use Rattle.grammar.specs.declared.block.BlockParseOutcome.{BlockParseOutcome}
-use Rattle.grammar.specs.Block.{block-in, parse-block, parse-control-flow, found-terminator, reached-eof, closing, ended, do-condition}
+use Rattle.grammar.specs.Block.{MAX-CONTROL-FLOW-NESTING as limit, block-in, parse-block, parse-control-flow, found-terminator, reached-eof, closing, ended, do-condition}
 use Rattle.grammar.specs.Bump.{nop, bump-while, while-round}
 use Rattle.grammar.specs.Laws.Here.{is-not, none, oneOf-not}
 use Rattle.grammar.specs.Laws.Live.{some, eats-take}
@@ -169,14 +169,14 @@ module _ {F : File} {w w′ : World} where
   took e h = subst (λ k. Went F (taking k) w w′) (sym e) h
 
   -- a form of a block below the limit
-  pub deeper : {r : Bool} (d : ℕ) → WentTo F (parse-control-flow (parse-block 256) (d + 1)) w w′ r → WentTo F (parse-control-flow (λ o t e. inNode Block (block-in 256 o t e)) (suc d)) w w′ r
+  pub deeper : {r : Bool} (d : ℕ) → WentTo F (parse-control-flow (parse-block limit) (d + 1)) w w′ r → WentTo F (parse-control-flow (λ o t e. inNode Block (block-in limit o t e)) (suc d)) w w′ r
   unfolding parse-block
-  deeper {r} d h = let z : d + 1 ≡ suc d = omega arith in subst (λ (n : ℕ). WentTo F (parse-control-flow (parse-block 256) n) w w′ r) z h
+  deeper {r} d h = let z : d + 1 ≡ suc d = omega arith in subst (λ (n : ℕ). WentTo F (parse-control-flow (parse-block limit) n) w w′ r) z h
 
   -- a round of parse_block's loop, by its arm
   pub round : (owner : BlockOwner) (terminators : Terminators) (depth : ℕ) {o : BlockParseOutcome} {a : Arm} (b : Arm) → a ≡ arm-of terminators (from F (w .c .pos)) → a ≡ b
-      → WentTo F (by-arm b (block-in 256) 256 owner terminators depth) w w′ o → WentTo F (block-in 256 owner terminators depth) w w′ o
-  round owner terminators depth b e f h = like-to (by-arm b (block-in 256) 256 owner terminators depth) (block-by 256 owner terminators depth _ b (sym f ∙ e)) h
+      → WentTo F (by-arm b (block-in limit) limit owner terminators depth) w w′ o → WentTo F (block-in limit owner terminators depth) w w′ o
+  round owner terminators depth b e f h = like-to (by-arm b (block-in limit) limit owner terminators depth) (block-by limit owner terminators depth _ b (sym f ∙ e)) h
 
   -- ---- the parts of a form
   pub opened : {v : ℕ} {lead : P Bool → P Bool} {u : World} → Wrote F v w u → ((next : P Bool) (z : World) (r : Bool) → WentTo F next w′ z r → WentTo F (lead next) u z r)
@@ -213,26 +213,26 @@ gives {a} e = answers (done-to a) (sym e)
 -- ---- parse_if behind its first block, and parse_do_while behind its body
 module _ {F : File} {w u : World} (d : ℕ) {x b : Bool} where
   pub no-else : (o : BlockParseOutcome) → x ≡ (not (reached-eof o) && at (is ELSE) (from F (w .c .pos))) → x ≡ false
-      → WentTo F (ended BlockOwner.If o) w u b → WentTo F (else-part (parse-block 256) d o) w u b
+      → WentTo F (ended BlockOwner.If o) w u b → WentTo F (else-part (parse-block limit) d o) w u b
   unfolding ended
   no-else BlockParseOutcome.ReachedEof e k h = h
   no-else BlockParseOutcome.FoundTerminator e k h = bind-to (λ last. ended BlockOwner.If last) (no-to _ _ e k (done-to BlockParseOutcome.FoundTerminator)) h
   no-else BlockParseOutcome.RecoveredImplicitEnd e k h = bind-to (λ last. ended BlockOwner.If last) (no-to _ _ e k (done-to BlockParseOutcome.RecoveredImplicitEnd)) h
 
   pub with-else : {v : World} {p : BlockParseOutcome} (o : BlockParseOutcome) → x ≡ (not (reached-eof o) && at (is ELSE) (from F (w .c .pos))) → x ≡ true
-      → WentTo F (else-line (parse-block 256 BlockOwner.If Terminators.End d)) w v p → WentTo F (ended BlockOwner.If p) v u b → WentTo F (else-part (parse-block 256) d o) w u b
+      → WentTo F (else-line (parse-block limit BlockOwner.If Terminators.End d)) w v p → WentTo F (ended BlockOwner.If p) v u b → WentTo F (else-part (parse-block limit) d o) w u b
   with-else BlockParseOutcome.ReachedEof e k g h = absurd (false≢true (sym e ∙ k))
   with-else BlockParseOutcome.FoundTerminator e k g h = bind-to (λ last. ended BlockOwner.If last) (yes-to _ _ e k g) h
   with-else BlockParseOutcome.RecoveredImplicitEnd e k g h = bind-to (λ last. ended BlockOwner.If last) (yes-to _ _ e k g) h
 
-  pub no-condition : (o : BlockParseOutcome) → x ≡ found-terminator o → x ≡ false → WentTo F (ended BlockOwner.DoWhile o) w u b → WentTo F (do-condition (parse-block 256) d o) w u b
+  pub no-condition : (o : BlockParseOutcome) → x ≡ found-terminator o → x ≡ false → WentTo F (ended BlockOwner.DoWhile o) w u b → WentTo F (do-condition (parse-block limit) d o) w u b
   unfolding ended closing do-condition pure _>>=_
   no-condition BlockParseOutcome.ReachedEof e k h = h
   no-condition BlockParseOutcome.FoundTerminator e k h = absurd (false≢true (sym k ∙ e))
   no-condition BlockParseOutcome.RecoveredImplicitEnd e k h = like-to (nop >> pure false) refl h
 
   pub condition : (o : BlockParseOutcome) → x ≡ found-terminator o → x ≡ true
-      → WentTo F (keyword-line WHILE (parse-block 256 BlockOwner.DoWhile Terminators.End d >>= λ last. ended BlockOwner.DoWhile last)) w u b → WentTo F (do-condition (parse-block 256) d o) w u b
+      → WentTo F (keyword-line WHILE (parse-block limit BlockOwner.DoWhile Terminators.End d >>= λ last. ended BlockOwner.DoWhile last)) w u b → WentTo F (do-condition (parse-block limit) d o) w u b
   unfolding do-condition
   condition BlockParseOutcome.ReachedEof e k h = absurd (false≢true (sym e ∙ k))
   condition BlockParseOutcome.FoundTerminator e k h = h
@@ -244,9 +244,9 @@ found-is BlockParseOutcome.RecoveredImplicitEnd e = absurd (false≢true e)
 found-is BlockParseOutcome.ReachedEof e = absurd (false≢true e)
 
 -- the body of a `do` that was closed stands before a `while`
-pub at-while : {F : File} {w w′ : World} {o : BlockParseOutcome} (d : ℕ) → WentTo F (parse-block 256 BlockOwner.DoWhileBody Terminators.While d) w w′ o → found-terminator o ≡ true → at (is WHILE) (from F (w′ .c .pos)) ≡ true
+pub at-while : {F : File} {w w′ : World} {o : BlockParseOutcome} (d : ℕ) → WentTo F (parse-block limit BlockOwner.DoWhileBody Terminators.While d) w w′ o → found-terminator o ≡ true → at (is WHILE) (from F (w′ .c .pos)) ≡ true
 at-while {F} {w} {w′} {o} d h e =
-    bare-while _ (ap (at-terminator Terminators.While) (sym (h .went .rest)) ∙ stops-block 256 BlockOwner.DoWhileBody Terminators.While d .stops _ (h .val ∙ found-is o e))
+    bare-while _ (ap (at-terminator Terminators.While) (sym (h .went .rest)) ∙ stops-block limit BlockOwner.DoWhileBody Terminators.While d .stops _ (h .val ∙ found-is o e))
 
 -- the last of the four forms
 pub repeat-here : (r : List Sym) → at control-flow r ≡ true → at (is IF) r ≡ false → at (is DO) r ≡ false → at (is WHILE) r ≡ false → at (is REPEAT) r ≡ true
@@ -255,7 +255,7 @@ repeat-here r a b c d = repeat-left r (rw (a, b, c, d))
 -- ---- the rounds of a block
 module _ {F : File} {owner : BlockOwner} {terminators : Terminators} {depth : ℕ} {m w v w′ : World} {word word′ : Sym} {outcome : BlockParseOutcome} {item control : Bool} where
   -- the rounds behind a form, which goes from w to v, are rounds from before it on
-  pub from-form : AtForm F owner terminators depth m w word → ((u : World) (r : BlockParseOutcome) → WentTo F (block-in 256 owner terminators depth) v u r → WentTo F (block-in 256 owner terminators depth) w u r)
+  pub from-form : AtForm F owner terminators depth m w word → ((u : World) (r : BlockParseOutcome) → WentTo F (block-in limit owner terminators depth) v u r → WentTo F (block-in limit owner terminators depth) w u r)
       → Paid 7 0 0 F (w .c) (v .c) → Rounded F owner terminators depth v w′ outcome item control word′ → Rounded F owner terminators depth m w′ outcome item control word′
   from-form a f p r = record {
     form = λ e. let b = r .form e in record { on = λ u x h. a .on u x (f u x (b .on u x h)); arm = b .arm; first = b .first; below = b .below; paid = omega (arith, a .paid, p, b .paid) };
@@ -264,7 +264,7 @@ module _ {F : File} {owner : BlockOwner} {terminators : Terminators} {depth : �
 
 -- the same behind rounds that took tokens
 pub from-here : {F : File} {owner : BlockOwner} {terminators : Terminators} {depth : ℕ} {m w w′ : World} {word : Sym} {outcome : BlockParseOutcome} {item control : Bool}
-    → Leads F (block-in 256 owner terminators depth) m (block-in 256 owner terminators depth) w → Paid 7 0 0 F (m .c) (w .c)
+    → Leads F (block-in limit owner terminators depth) m (block-in limit owner terminators depth) w → Paid 7 0 0 F (m .c) (w .c)
     → Rounded F owner terminators depth w w′ outcome item control word → Rounded F owner terminators depth m w′ outcome item control word
 from-here l p r = record {
   form = λ e. let b = r .form e in record { on = λ u x h. l .on u x (b .on u x h); arm = b .arm; first = b .first; below = b .below; paid = omega (arith, p, b .paid) };

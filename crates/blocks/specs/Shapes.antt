@@ -12,7 +12,7 @@ use Rattle.grammar.specs.declared.block.BlockRecoveryBoundary.{BlockRecoveryBou
 use Rattle.grammar.specs.declared.block.BlockParseOutcome.{BlockParseOutcome}
 use Rattle.grammar.specs.Bump.{bump, error-here, expect-keyword}
 use Rattle.grammar.specs.Line.{parse-line-tail}
-use Rattle.grammar.specs.Block.{Blocks, parse-structured-header-suffixes, found-terminator, reached-eof, ended, block-in, parse-block}
+use Rattle.grammar.specs.Block.{MAX-CONTROL-FLOW-NESTING as limit, Blocks, parse-structured-header-suffixes, found-terminator, reached-eof, ended, block-in, parse-block}
 use Rattle.parser.specs.declared.cursor.Cursor.{Cursor}
 use Rattle.parser.specs.Rep.{World, Wrote, Went, WentTo, Paid, RanTo}
 use Rattle.blocks.specs.declared.arm.Closing.{Closing}
@@ -90,16 +90,16 @@ pub record Finished (F : File) (owner : BlockOwner) (outcome : BlockParseOutcome
 -- ---- the rounds of a block
 -- They come to a form below the limit: what is left of the block from there is what was left of it before.
 pub record AtForm (F : File) (owner : BlockOwner) (terminators : Terminators) (depth : ℕ) (w w′ : World) (word : Sym) : Type 0 where
-  pub on : (v : World) (r : BlockParseOutcome) → WentTo F (block-in 256 owner terminators depth) w′ v r → WentTo F (block-in 256 owner terminators depth) w v r
+  pub on : (v : World) (r : BlockParseOutcome) → WentTo F (block-in limit owner terminators depth) w′ v r → WentTo F (block-in limit owner terminators depth) w v r
   pub arm : arm-of terminators (from F (w′ .c .pos)) ≡ Arm.Control
   pub first : word ≡ current (from F (w′ .c .pos))
-  pub below : depth < 256
+  pub below : depth < limit
   pub paid : Paid 7 0 0 F (w .c) (w′ .c)
 
 -- Or they end the block, and its closing event is written.
 pub record Over (F : File) (owner : BlockOwner) (terminators : Terminators) (depth : ℕ) (w w′ : World) (outcome : BlockParseOutcome) (item : Bool) : Type 0 where
   pub mid : World
-  pub went : WentTo F (block-in 256 owner terminators depth) w mid outcome
+  pub went : WentTo F (block-in limit owner terminators depth) w mid outcome
   pub wrote : Wrote F 0 mid w′
   pub paid : Paid 7 3 1 F (w .c) (w′ .c)
   pub here : ItemAt F (w′ .c .pos) item
@@ -125,14 +125,14 @@ pub record Begun (F : File) (owner : BlockOwner) (terminators : Terminators) (de
 pub record Last (F : File) (owner : BlockOwner) (depth : ℕ) (w w′ : World) (eof item : Bool) : Type 0 where
   pub mid : World
   pub outcome : BlockParseOutcome
-  pub block : RanTo 7 4 1 F (parse-block 256 owner Terminators.End depth) w mid outcome
+  pub block : RanTo 7 4 1 F (parse-block limit owner Terminators.End depth) w mid outcome
   pub done : Finished F owner outcome mid w′ eof item
 
 -- The first of an `if`: the block, and the line of its `else` or the form's end.
 pub record Then (F : File) (depth : ℕ) (w w′ : World) (more eof item : Bool) : Type 0 where
   pub mid : World
   pub outcome : BlockParseOutcome
-  pub block : RanTo 7 4 1 F (parse-block 256 BlockOwner.If Terminators.ElseEnd depth) w mid outcome
+  pub block : RanTo 7 4 1 F (parse-block limit BlockOwner.If Terminators.ElseEnd depth) w mid outcome
   pub test : more ≡ (not (reached-eof outcome) && at (is ELSE) (from F (mid .c .pos)))
   pub led : more ≡ true → Led 1 2 F else-line mid w′
   pub done : more ≡ false → Finished F BlockOwner.If outcome mid w′ eof item
@@ -141,7 +141,7 @@ pub record Then (F : File) (depth : ℕ) (w w′ : World) (more eof item : Bool)
 pub record Body (F : File) (depth : ℕ) (w w′ : World) (more eof item : Bool) : Type 0 where
   pub mid : World
   pub outcome : BlockParseOutcome
-  pub block : RanTo 7 4 1 F (parse-block 256 BlockOwner.DoWhileBody Terminators.While depth) w mid outcome
+  pub block : RanTo 7 4 1 F (parse-block limit BlockOwner.DoWhileBody Terminators.While depth) w mid outcome
   pub test : more ≡ found-terminator outcome
   pub led : more ≡ true → Led 1 2 F (keyword-line WHILE) mid w′
   pub done : more ≡ false → Finished F BlockOwner.DoWhile outcome mid w′ eof item

@@ -14,7 +14,7 @@ use parser::bump::error_token;
 use parser::cursor::Cursor;
 use parser::cursor::bump;
 use parser::cursor::put;
-ghost use Rattle.grammar.specs.Block.{parse-block};
+ghost use Rattle.grammar.specs.Block.{MAX-CONTROL-FLOW-NESTING as limit, parse-block};
 ghost use Rattle.grammar.specs.Item.{parse-doc-form, parse-source-item};
 ghost use Rattle.parser.specs.Rep.{world, Ready, Ran};
 ghost use Rattle.items.specs.Arms.{by-arm};
@@ -46,7 +46,7 @@ fn parse_arm(
     a: Arm,
 ) -> Cursor
     requires { ⌜ Ready 32 (now kinds) c0 ⌝ }
-    ensures { λ r. ⌜ Ran 7 12 15 (now (kinds .entry)) (by-arm a (parse-block 256)) (world (now (ev .entry)) (now (dm .entry)) (now (ds .entry)) c0) (world (now (ev .exit)) (now (dm .exit)) (now (ds .exit)) r) ⌝ }
+    ensures { λ r. ⌜ Ran 7 12 15 (now (kinds .entry)) (by-arm a (parse-block limit)) (world (now (ev .entry)) (now (dm .entry)) (now (ds .entry)) c0) (world (now (ev .exit)) (now (dm .exit)) (now (ds .exit)) r) ⌝ }
 {
     match a {
         Arm::Doc => parse_doc_form(kinds, ev, dm, ds, c0),
@@ -77,7 +77,7 @@ pub fn parse_source_item(
     c0: Cursor,
 ) -> Cursor
     requires { ⌜ Ready 32 (now kinds) c0 ⌝ }
-    ensures { λ r. ⌜ Ran 7 12 15 (now (kinds .entry)) (parse-source-item (parse-block 256)) (world (now (ev .entry)) (now (dm .entry)) (now (ds .entry)) c0) (world (now (ev .exit)) (now (dm .exit)) (now (ds .exit)) r) ⌝ }
+    ensures { λ r. ⌜ Ran 7 12 15 (now (kinds .entry)) (parse-source-item (parse-block limit)) (world (now (ev .entry)) (now (dm .entry)) (now (ds .entry)) c0) (world (now (ev .exit)) (now (dm .exit)) (now (ds .exit)) r) ⌝ }
 {
     let a = arm_here(kinds, c0.pos);
     parse_arm(kinds, ev, dm, ds, c0, a)

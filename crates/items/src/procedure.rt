@@ -21,7 +21,7 @@ use parser::kinds::BEGIN;
 use parser::kinds::END;
 use parser::kinds::PROC;
 use parser::look::at_kind;
-ghost use Rattle.grammar.specs.Block.{closing as closingOf, parse-block};
+ghost use Rattle.grammar.specs.Block.{MAX-CONTROL-FLOW-NESTING as limit, closing as closingOf, parse-block};
 ghost use Rattle.grammar.specs.Item.{procedure-body, parse-procedure, parse-begin-block};
 ghost use Rattle.parser.specs.Rep.{world, Ready, Ran, RanTo};
 ghost use Rattle.items.specs.Procedure.{optional-signature, procedure-header, procedure-lead};
@@ -100,7 +100,7 @@ fn procedure_body(
     c0: Cursor,
 ) -> Cursor
     requires { ⌜ Ready 16 (now kinds) c0 ⌝ }
-    ensures { λ r. ⌜ Ran 7 6 7 (now (kinds .entry)) (procedure-body (parse-block 256)) (world (now (ev .entry)) (now (dm .entry)) (now (ds .entry)) c0) (world (now (ev .exit)) (now (dm .exit)) (now (ds .exit)) r) ⌝ }
+    ensures { λ r. ⌜ Ran 7 6 7 (now (kinds .entry)) (procedure-body (parse-block limit)) (world (now (ev .entry)) (now (dm .entry)) (now (ds .entry)) c0) (world (now (ev .exit)) (now (dm .exit)) (now (ds .exit)) r) ⌝ }
 {
     let a = procedure_header(kinds, ev, dm, ds, c0);
     let b = parse_block(
@@ -146,7 +146,7 @@ pub fn parse_procedure(
     c0: Cursor,
 ) -> Cursor
     requires { ⌜ Ready 32 (now kinds) c0 ⌝ }
-    ensures { λ r. ⌜ Ran 7 12 15 (now (kinds .entry)) (parse-procedure (parse-block 256)) (world (now (ev .entry)) (now (dm .entry)) (now (ds .entry)) c0) (world (now (ev .exit)) (now (dm .exit)) (now (ds .exit)) r) ⌝ }
+    ensures { λ r. ⌜ Ran 7 12 15 (now (kinds .entry)) (parse-procedure (parse-block limit)) (world (now (ev .entry)) (now (dm .entry)) (now (ds .entry)) c0) (world (now (ev .exit)) (now (dm .exit)) (now (ds .exit)) r) ⌝ }
 {
     let a = put(ev, c0, PROCEDURE);
     let b = procedure_lead(kinds, ev, dm, ds, a);
@@ -167,7 +167,7 @@ pub fn parse_begin_block(
     c0: Cursor,
 ) -> Cursor
     requires { ⌜ Ready 16 (now kinds) c0 ⌝ }
-    ensures { λ r. ⌜ Ran 7 6 3 (now (kinds .entry)) (parse-begin-block (parse-block 256)) (world (now (ev .entry)) (now (dm .entry)) (now (ds .entry)) c0) (world (now (ev .exit)) (now (dm .exit)) (now (ds .exit)) r) ⌝ }
+    ensures { λ r. ⌜ Ran 7 6 3 (now (kinds .entry)) (parse-begin-block (parse-block limit)) (world (now (ev .entry)) (now (dm .entry)) (now (ds .entry)) c0) (world (now (ev .exit)) (now (dm .exit)) (now (ds .exit)) r) ⌝ }
 {
     let a = put(ev, c0, BEGIN_BLOCK);
     let b = expect_kind(kinds, ev, dm, ds, a, BEGIN, Message::Unreached);

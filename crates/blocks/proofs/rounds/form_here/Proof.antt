@@ -3,6 +3,7 @@ use mathlib.Core.Path.{refl, sym, _∙_}
 use native.Mathlib.Omega.{arith}
 use borrow.Author.Needs.{needs}
 use borrow.Author.Tests.{le-leb}
+use Rattle.grammar.specs.Block.{MAX-CONTROL-FLOW-NESTING as limit}
 use Rattle.grammar.specs.declared.block.BlockParseOutcome.{BlockParseOutcome}
 use Rattle.blocks.specs.declared.arm.Arm.{Arm}
 use Rattle.blocks.specs.Arms.{by-arm}
@@ -49,7 +50,7 @@ returns c =
         form = λ h. absurd (false≢true h);
         over = λ h. record {
           mid = _;
-          went = round o t (c₃ .args .depth) Arm.Control (sym e) refl (on-to _ (le-leb 256 (c₃ .args .depth) (c₂ .if1 .taken)) (c₁ .reject-excessive-control-flow-nesting .ensures .went then-to done-to BlockParseOutcome.ReachedEof));
+          went = round o t (c₃ .args .depth) Arm.Control (sym e) refl (on-to _ (le-leb limit (c₃ .args .depth) (c₂ .if1 .taken)) (c₁ .reject-excessive-control-flow-nesting .ensures .went then-to done-to BlockParseOutcome.ReachedEof));
           wrote = c .before .before .put .ensures .wrote (c₃ .args .kinds .now) _ _;
           paid = omega (arith, c₃ .pre, c₁ .reject-excessive-control-flow-nesting .ensures .paid, c .before .before .put .ensures);
           here = no-item;

@@ -12,7 +12,7 @@ use Rattle.parser.proofs.Ahead.{remembers-none, remembers-later}
 use Rattle.parser.proofs.Kit.{_then-to_, begins, goes-on, Held}
 use Rattle.parser.proofs.Laws.{past-here}
 use Prim.Native.Nat.{_-_}
-use Rattle.grammar.specs.Block.{block-in}
+use Rattle.grammar.specs.Block.{MAX-CONTROL-FLOW-NESTING as limit, block-in}
 use Rattle.parser.specs.Rep.{world}
 use Rattle.parser.specs.Ahead.{DocKnown}
 use Rattle.blocks.specs.Shapes.{ItemAt}
@@ -21,7 +21,7 @@ use Rattle.blocks.proofs.rounds.rounds.Statement.{statement}
 use Rattle.blocks.proofs.rounds.rounds.Tie as tie
 
 abbrev Inv-loop : tie.InvT-loop
-Inv-loop kinds ev₀ dm₀ ds₀ item0 owner terminators depth c₀ item₀ known₀ ev dm ds c item known = (Held 7 0 0 kinds (block-in 256 owner terminators depth) (world ev₀ dm₀ ds₀ c₀) (block-in 256 owner terminators depth) (world ev dm ds c)) × DocKnown kinds (c .pos) known × ItemAt kinds (c .pos) item
+Inv-loop kinds ev₀ dm₀ ds₀ item0 owner terminators depth c₀ item₀ known₀ ev dm ds c item known = (Held 7 0 0 kinds (block-in limit owner terminators depth) (world ev₀ dm₀ ds₀ c₀) (block-in limit owner terminators depth) (world ev dm ds c)) × DocKnown kinds (c .pos) known × ItemAt kinds (c .pos) item
 
 abbrev μ-loop : tie.MeasureT-loop
 μ-loop kinds ev₀ dm₀ ds₀ item0 owner terminators depth c₀ item₀ known₀ ev dm ds c item known = length kinds - c .pos
@@ -87,7 +87,7 @@ loop-again c =
         ds = v .kept .1 .1 .1 .0 ∙ t .kept .1 .1 .1 .0 ∙ i .ds;
         leads = goes-on (i .leads) (λ w′ r k.
             round (p .owner) (p .terminators) (p .depth) (Arm.Takes _) (c₃ .arm-here .ensures .0) (c₂ .a .given .1)
-            (t .ensures .went then-to absorbs 256 (p .owner) (p .terminators) (p .depth) (v .ensures .went) k));
+            (t .ensures .went then-to absorbs limit (p .owner) (p .terminators) (p .depth) (v .ensures .went) k));
       },
       remembers-later _ (omega (arith, t .ensures .paid .ahead, v .ensures .paid .ahead)) (c₃ .arm-here .ensures .1),
       no-item,

@@ -1,7 +1,7 @@
 -- `items::item::parse_arm`: each arm is a callee. Assumes nothing.
 use native.Mathlib.Omega.{arith}
 use borrow.Author.Needs.{needs}
-use Rattle.grammar.specs.Block.{parse-block}
+use Rattle.grammar.specs.Block.{MAX-CONTROL-FLOW-NESTING as limit, parse-block}
 use Rattle.items.specs.Arms.{by-arm}
 use Rattle.items.proofs.Arms.{armed}
 use Rattle.items.proofs.item.parse_arm.Statement.{statement}
@@ -110,7 +110,7 @@ returns c =
     let c₃ = c₂ .before .before .before .before .before .before in
     record {
       paid = omega (arith, c₃ .pre, c₁ .parse-doc-form .ensures .paid);
-      went = armed (parse-block 256) (c₂ .enum-told .given .1) (c₁ .parse-doc-form .ensures .went);
+      went = armed (parse-block limit) (c₂ .enum-told .given .1) (c₁ .parse-doc-form .ensures .went);
     }
 
 same-length-4 : tie.Need-same-length-4
@@ -136,7 +136,7 @@ returns-2 c =
     let c₃ = c₂ .before .before .before .before .before .before in
     record {
       paid = omega (arith, c₃ .pre, c₁ .bump .ensures .paid);
-      went = armed (parse-block 256) (c₂ .enum-told2 .given .1) (c₁ .bump .ensures .went);
+      went = armed (parse-block limit) (c₂ .enum-told2 .given .1) (c₁ .bump .ensures .went);
     }
 
 same-length-7 : tie.Need-same-length-7
@@ -162,7 +162,7 @@ returns-3 c =
     let c₃ = c₂ .before .before .before .before .before .before in
     record {
       paid = omega (arith, c₃ .pre, c₁ .parse-namespace .ensures .paid);
-      went = armed (parse-block 256) (c₂ .enum-told3 .given .1) (c₁ .parse-namespace .ensures .went);
+      went = armed (parse-block limit) (c₂ .enum-told3 .given .1) (c₁ .parse-namespace .ensures .went);
     }
 
 same-length-10 : tie.Need-same-length-10
@@ -188,7 +188,7 @@ returns-4 c =
     let c₃ = c₂ .before .before .before .before .before .before in
     record {
       paid = omega (arith, c₃ .pre, c₁ .parse-submodule .ensures .paid);
-      went = armed (parse-block 256) (c₂ .enum-told4 .given .1) (c₁ .parse-submodule .ensures .went);
+      went = armed (parse-block limit) (c₂ .enum-told4 .given .1) (c₁ .parse-submodule .ensures .went);
     }
 
 same-length-13 : tie.Need-same-length-13
@@ -214,7 +214,7 @@ returns-5 c =
     let c₃ = c₂ .before .before .before .before .before .before in
     record {
       paid = omega (arith, c₃ .pre, c₁ .parse-procedure .ensures .paid);
-      went = armed (parse-block 256) (c₂ .enum-told5 .given .1) (c₁ .parse-procedure .ensures .went);
+      went = armed (parse-block limit) (c₂ .enum-told5 .given .1) (c₁ .parse-procedure .ensures .went);
     }
 
 same-length-16 : tie.Need-same-length-16
@@ -240,7 +240,7 @@ returns-6 c =
     let c₃ = c₂ .before .before .before .before .before .before in
     record {
       paid = omega (arith, c₃ .pre, c₁ .parse-begin-block .ensures .paid);
-      went = armed (parse-block 256) (c₂ .enum-told6 .given .1) (c₁ .parse-begin-block .ensures .went);
+      went = armed (parse-block limit) (c₂ .enum-told6 .given .1) (c₁ .parse-begin-block .ensures .went);
     }
 
 same-length-19 : tie.Need-same-length-19
@@ -266,7 +266,7 @@ returns-7 c =
     let c₃ = c₂ .before .before .before .before .before .before in
     record {
       paid = omega (arith, c₃ .pre, c₁ .parse-constant .ensures .paid);
-      went = armed (parse-block 256) (c₂ .enum-told7 .given .1) (c₁ .parse-constant .ensures .went);
+      went = armed (parse-block limit) (c₂ .enum-told7 .given .1) (c₁ .parse-constant .ensures .went);
     }
 
 same-length-22 : tie.Need-same-length-22
@@ -292,7 +292,7 @@ returns-8 c =
     let c₃ = c₂ .before .before .before .before .before .before in
     record {
       paid = omega (arith, c₃ .pre, c₁ .parse-type-decl .ensures .paid);
-      went = armed (parse-block 256) (c₂ .enum-told8 .given .1) (c₁ .parse-type-decl .ensures .went);
+      went = armed (parse-block limit) (c₂ .enum-told8 .given .1) (c₁ .parse-type-decl .ensures .went);
     }
 
 same-length-25 : tie.Need-same-length-25
@@ -318,7 +318,7 @@ returns-9 c =
     let c₃ = c₂ .before .before .before .before .before .before in
     record {
       paid = omega (arith, c₃ .pre, c₁ .parse-advice-map .ensures .paid);
-      went = armed (parse-block 256) (c₂ .enum-told9 .given .1) (c₁ .parse-advice-map .ensures .went);
+      went = armed (parse-block limit) (c₂ .enum-told9 .given .1) (c₁ .parse-advice-map .ensures .went);
     }
 
 same-length-28 : tie.Need-same-length-28
@@ -344,7 +344,7 @@ returns-10 c =
     let c₃ = c₂ .before .before .before .before .before .before in
     record {
       paid = omega (arith, c₃ .pre, c₁ .error-token .ensures .paid);
-      went = armed (parse-block 256) (c₂ .enum-told10 .given .1) (c₁ .error-token .ensures .went);
+      went = armed (parse-block limit) (c₂ .enum-told10 .given .1) (c₁ .error-token .ensures .went);
     }
 
 pub parse-arm-spec : {M : Type 1} → statement M

@@ -1,6 +1,6 @@
 -- `items::item::parse_source_item`: the arm that is found, and its function. Assumes nothing.
 use native.Mathlib.Omega.{arith}
-use Rattle.grammar.specs.Block.{parse-block}
+use Rattle.grammar.specs.Block.{MAX-CONTROL-FLOW-NESTING as limit, parse-block}
 use Rattle.items.proofs.Arms.{by-item}
 use Rattle.items.proofs.item.parse_source_item.Statement.{statement}
 use Rattle.items.proofs.item.parse_source_item.Tie as tie
@@ -37,7 +37,7 @@ returns c =
     let c₃ = c₂ .before .before .before .before .before in
     record {
       paid = omega (arith, c₃ .pre, c₁ .parse-arm .ensures .paid);
-      went = by-item (c₂ .arm-here .result) (parse-block 256) (c₂ .arm-here .ensures) (c₁ .parse-arm .ensures .went);
+      went = by-item (c₂ .arm-here .result) (parse-block limit) (c₂ .arm-here .ensures) (c₁ .parse-arm .ensures .went);
     }
 
 pub parse-source-item-spec : {M : Type 1} → statement M

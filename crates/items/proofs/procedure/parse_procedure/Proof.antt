@@ -2,7 +2,7 @@
 use mathlib.Core.Bool.{Bool, true, not}
 use mathlib.Core.Path.{_∙_}
 use native.Mathlib.Omega.{arith}
-use Rattle.grammar.specs.Block.{parse-block}
+use Rattle.grammar.specs.Block.{MAX-CONTROL-FLOW-NESTING as limit, parse-block}
 use Rattle.grammar.specs.Bump.{nop}
 use Rattle.grammar.specs.Item.{procedure-body, parse-procedure}
 use Rattle.grammar.specs.Run.{pick, P}
@@ -14,7 +14,7 @@ use Rattle.items.proofs.procedure.parse_procedure.Tie as tie
 
 -- behind what leads up to `proc`
 abbrev behind : Bool → P Bool
-behind declared = pick (not declared) nop (procedure-body (parse-block 256))
+behind declared = pick (not declared) nop (procedure-body (parse-block limit))
 
 put-requires : tie.Need-put-requires
 put-requires c κs =

@@ -7,7 +7,7 @@ use Rattle.blocks.specs.declared.arm.Arm.{Arm}
 use Rattle.blocks.specs.Arms.{by-arm}
 use Rattle.blocks.proofs.Laws.{meant, deeper, round, said-no-item, gives, from-form, ahead}
 use Rattle.parser.proofs.Kit.{on-to, off-to, node-to, bind-to}
-use Rattle.grammar.specs.Block.{parse-block}
+use Rattle.grammar.specs.Block.{MAX-CONTROL-FLOW-NESTING as limit, parse-block}
 use Rattle.blocks.proofs.block.+block_from+body_block+inner_block+last_block+parse_control_flow+parse_do_while+parse_if+parse_repeat+parse_while+then_block.Lts-block_from as lts
 use Rattle.blocks.proofs.block.block_from.Reads as block-from
 use Rattle.blocks.proofs.block.+block_from+body_block+inner_block+last_block+parse_control_flow+parse_do_while+parse_if+parse_repeat+parse_while+then_block.Proof.Common.{block-from-calls, block-from-at, block-from-Inv-loop, block-from-μ-loop}
@@ -85,7 +85,7 @@ returns t c =
     let here = c₄ .loop .inv .on _ (begun .rounds) .form (c₃ .loop-test .taken) in
     let form = deeper (c₆ .args .start .place .depth) (c₂ .parse-control-flow .ensures .0 .went) in
     let rest = bind-to _ form (on-to _ (c₁ .if1 .taken) (gives (c .before .before .ended-file .ensures .1))) in
-    let inside = here .on _ _ (round (c₆ .args .start .place .owner) (c₆ .args .start .place .terminators) (c₆ .args .start .place .depth) Arm.Control (sym (here .arm)) refl (off-to _ (lt-leb 256 (c₆ .args .start .place .depth) (here .below)) rest)) in (
+    let inside = here .on _ _ (round (c₆ .args .start .place .owner) (c₆ .args .start .place .terminators) (c₆ .args .start .place .depth) Arm.Control (sym (here .arm)) refl (off-to _ (lt-leb limit (c₆ .args .start .place .depth) (here .below)) rest)) in (
       record {
         paid = omega (arith, c₆ .pre, begun .wrote .pos, begun .events, begun .diags, here .paid, c₂ .parse-control-flow .ensures .0 .paid, c .before .before .ended-file .ensures .0);
         went = node-to _ (begun .wrote) inside (c .before .before .ended-file .ensures .0 .wrote (c₆ .args .kinds .now) _ _);
@@ -122,7 +122,7 @@ loop-again t c =
     let form = deeper (c₆ .args .start .place .depth) (c₃ .parse-control-flow .ensures .0 .went) in
     let i = c₅ .loop .inv in
     record {
-      on = λ w r. let here = i .on w r .form (c₄ .loop-test .taken) in from-form here (λ u x h. round (c₆ .args .start .place .owner) (c₆ .args .start .place .terminators) (c₆ .args .start .place .depth) Arm.Control (sym (here .arm)) refl (off-to _ (lt-leb 256 (c₆ .args .start .place .depth) (here .below)) (bind-to _ form (off-to _ (c₂ .if1 .left) h)))) (omega (arith, c₃ .parse-control-flow .ensures .0 .paid)) (c₁ .next-rounds .ensures);
+      on = λ w r. let here = i .on w r .form (c₄ .loop-test .taken) in from-form here (λ u x h. round (c₆ .args .start .place .owner) (c₆ .args .start .place .terminators) (c₆ .args .start .place .depth) Arm.Control (sym (here .arm)) refl (off-to _ (lt-leb limit (c₆ .args .start .place .depth) (here .below)) (bind-to _ form (off-to _ (c₂ .if1 .left) h)))) (omega (arith, c₃ .parse-control-flow .ensures .0 .paid)) (c₁ .next-rounds .ensures);
       ev = c₁ .next-rounds .kept .1 .0 ∙ c₃ .parse-control-flow .kept .1 .0 ∙ i .ev;
       dm = c₁ .next-rounds .kept .1 .1 .0 ∙ c₃ .parse-control-flow .kept .1 .1 .0 ∙ i .dm;
       ds = c₁ .next-rounds .kept .1 .1 .1 .0 ∙ c₃ .parse-control-flow .kept .1 .1 .1 .0 ∙ i .ds;

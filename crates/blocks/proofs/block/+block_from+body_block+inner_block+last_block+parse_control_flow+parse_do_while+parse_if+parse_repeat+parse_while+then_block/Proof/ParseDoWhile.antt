@@ -6,7 +6,7 @@ use borrow.Author.Tests.{not-true, not-false}
 use Rattle.grammar.specs.declared.block.BlockOwner.{BlockOwner}
 use Rattle.blocks.proofs.Laws.{no-condition, condition}
 use Rattle.parser.proofs.Kit.{node-to, bind-to}
-use Rattle.grammar.specs.Block.{ended, do-condition, parse-block, parse-do-while}
+use Rattle.grammar.specs.Block.{MAX-CONTROL-FLOW-NESTING as limit, ended, do-condition, parse-block, parse-do-while}
 use Rattle.blocks.proofs.block.+block_from+body_block+inner_block+last_block+parse_control_flow+parse_do_while+parse_if+parse_repeat+parse_while+then_block.Lts-parse_do_while as lts
 use Rattle.blocks.proofs.block.parse_do_while.Reads as parse-do-while
 use Rattle.blocks.proofs.block.+block_from+body_block+inner_block+last_block+parse_control_flow+parse_do_while+parse_if+parse_repeat+parse_while+then_block.Proof.Common.{parse-do-while-calls, parse-do-while-at}
@@ -51,7 +51,7 @@ returns t c =
     let fails = not-true (c₁ .body-block .result .more) (c .if1 .taken) in
     let last = first .done fails in
     let rest = no-condition (c₃ .args .depth) (first .outcome) (first .test) fails (last .went) in
-    let form = bind-to (do-condition (parse-block 256) (c₃ .args .depth)) (first .block .went) rest in (
+    let form = bind-to (do-condition (parse-block limit) (c₃ .args .depth)) (first .block .went) rest in (
       record {
         paid = omega (arith, c₃ .pre, c₂ .do-header .ensures .paid, c₁ .body-block .ensures .block .paid, last .paid);
         went = node-to _ (head .wrote) (head .on _ _ _ form) (last .wrote);
@@ -105,7 +105,7 @@ returns-2 t c =
     let last = c₁ .last-block .ensures in
     let block = bind-to (λ o. ended BlockOwner.DoWhile o) (last .block .went) (last .done .went) in
     let rest = condition (c₅ .args .depth) (first .outcome) (first .test) holds (line .on _ _ _ block) in
-    let form = bind-to (do-condition (parse-block 256) (c₅ .args .depth)) (first .block .went) rest in (
+    let form = bind-to (do-condition (parse-block limit) (c₅ .args .depth)) (first .block .went) rest in (
       record {
         paid = omega (arith, c₅ .pre, c₄ .do-header .ensures .paid, c₃ .body-block .ensures .block .paid, c₁ .last-block .ensures .block .paid, c₁ .last-block .ensures .done .paid, line .paid);
         went = node-to _ (head .wrote) (head .on _ _ _ form) (last .done .wrote);

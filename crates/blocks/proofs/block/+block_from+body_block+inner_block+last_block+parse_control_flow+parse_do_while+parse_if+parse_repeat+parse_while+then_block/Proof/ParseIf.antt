@@ -6,7 +6,7 @@ use borrow.Author.Tests.{not-true, not-false}
 use Rattle.blocks.specs.Shapes.{else-part}
 use Rattle.blocks.proofs.Laws.{no-else, with-else}
 use Rattle.parser.proofs.Kit.{node-to, bind-to}
-use Rattle.grammar.specs.Block.{parse-block, parse-if}
+use Rattle.grammar.specs.Block.{MAX-CONTROL-FLOW-NESTING as limit, parse-block, parse-if}
 use Rattle.blocks.proofs.block.+block_from+body_block+inner_block+last_block+parse_control_flow+parse_do_while+parse_if+parse_repeat+parse_while+then_block.Lts-parse_if as lts
 use Rattle.blocks.proofs.block.parse_if.Reads as parse-if
 use Rattle.blocks.proofs.block.+block_from+body_block+inner_block+last_block+parse_control_flow+parse_do_while+parse_if+parse_repeat+parse_while+then_block.Proof.Common.{parse-if-calls, parse-if-at}
@@ -51,7 +51,7 @@ returns t c =
     let fails = not-true (c₁ .then-block .result .more) (c .if1 .taken) in
     let last = first .done fails in
     let rest = no-else (c₃ .args .depth) (first .outcome) (first .test) fails (last .went) in
-    let form = bind-to (else-part (parse-block 256) (c₃ .args .depth)) (first .block .went) rest in (
+    let form = bind-to (else-part (parse-block limit) (c₃ .args .depth)) (first .block .went) rest in (
       record {
         paid = omega (arith, c₃ .pre, c₂ .if-header .ensures .paid, c₁ .then-block .ensures .block .paid, last .paid);
         went = node-to _ (head .wrote) (head .on _ _ _ form) (last .wrote);
@@ -104,7 +104,7 @@ returns-2 t c =
     let line = first .led holds in
     let last = c₁ .last-block .ensures in
     let rest = with-else (c₅ .args .depth) (first .outcome) (first .test) holds (line .on _ _ _ (last .block .went)) (last .done .went) in
-    let form = bind-to (else-part (parse-block 256) (c₅ .args .depth)) (first .block .went) rest in (
+    let form = bind-to (else-part (parse-block limit) (c₅ .args .depth)) (first .block .went) rest in (
       record {
         paid = omega (arith, c₅ .pre, c₄ .if-header .ensures .paid, c₃ .then-block .ensures .block .paid, c₁ .last-block .ensures .block .paid, c₁ .last-block .ensures .done .paid, line .paid);
         went = node-to _ (head .wrote) (head .on _ _ _ form) (last .done .wrote);
