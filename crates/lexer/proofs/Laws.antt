@@ -4,12 +4,14 @@ use mathlib.Core.Bool.{Bool, true, false, false≢true}
 use mathlib.Core.List.{List, [], _∷_}
 use Prim.Native.Nat.{ℕ, zero, suc, _+_, _≤_, _<_}
 use native.Mathlib.Nat.{add-zero, zero-add, add-suc, suc-add, add-assoc, le-of-suc-le-suc, not-suc-le-zero}
-use native.Mathlib.Numerals.{add-one, one-add}
+use native.Mathlib.Numerals.{one-add}
 use native.Mathlib.Omega.{arith}
 use borrow.Author.Tests.{ltb-true, ltb-false}
 use lib.Dec.{eqb, ltb}
 use lib.ListN.{length, getD, drop, drop-of-length-le}
-use lib.Seq.{drop-cons, drop-drop}
+use lib.Seq.{drop-drop}
+-- the byte at an offset, and those behind it
+pub use Rattle.utf8.proofs.Laws.{next-byte}
 use Rattle.lexer.specs.declared.lexer.Token.{Token}
 use Rattle.lexer.specs.Chars.{tabulate}
 use Rattle.lexer.specs.Lexer.{Lex, later, follow, advance-while}
@@ -23,10 +25,6 @@ from f i (suc n) (suc k) h = from f (suc i) n k (le-of-suc-le-suc h) ∙ ap f (s
 -- the entry at k of the table of f is f at k
 pub entry : (f : ℕ → ℕ) (n k : ℕ) → k < n → getD (tabulate f 0 n) k 0 ≡ f k
 entry f n k h = from f 0 n k h ∙ ap f (zero-add k)
-
--- the byte at an offset, and those behind it
-pub next-byte : (s : List ℕ) (at : ℕ) → at < length s → drop at s ≡ getD s at 0 ∷ drop (at + 1) s
-next-byte s at h = rw (add-one, drop-cons s at 0)
 
 -- advance_while, at the end, at a byte that goes on and at another
 module _ (p : ℕ → Bool) (s : List ℕ) (at : ℕ) where

@@ -10,9 +10,6 @@ use Rattle.lexer.specs.Lexer.{Token, tokenize}
 abbrev pub kindOf : Token → ℕ
 kindOf t = t .kind
 
-abbrev pub textOf : Token → List ℕ
-textOf t = t .text
-
 -- Where each token ends, the first starting at n: a token starts where the one before ended.
 unfoldable pub ends : ℕ → List Token → List ℕ
 ends n [] = []

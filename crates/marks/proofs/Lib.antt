@@ -1,4 +1,3 @@
 -- What the functions' proofs share.
-pub mod Lists
 pub mod Texts
 pub mod Going

@@ -1,4 +1,4 @@
--- Laws of the passes, for the layers above: the plain kinds come back, and what joined sources come to.
+-- Laws of the marks, for the layers above: the plain kinds come back, and what joined sources come to.
 -- Assumes nothing.
 use Prim.Native.Nat.{ℕ, zero, suc, _+_, _*_, _<_}
 use mathlib.Core.Path.{_≡_, refl, sym, ap, subst, _∙_}
@@ -19,48 +19,52 @@ use Rattle.grammar.specs.Words.{key, wordOf, symOf, kindOf}
 use Rattle.marks.specs.declared.Refusal.{Refusal}
 use Rattle.marks.specs.declared.Refusal.the-variants.{Nothing, At}
 use Rattle.grammar.specs.Source.{syms}
+use Rattle.grammar.specs.Source
 use Rattle.marks.specs.Marks.{is-refused, first-refused}
 use Rattle.marks.specs.Kinds.{low-kinds}
 use Rattle.marks.specs.Code.{number, number-of, mark, kept, or-else}
 
--- the kind of a marked Ident
+-- a key has the kind of an Ident, and a kind is its own
 kind-of-key : (w : ℕ) → kindOf (key w) ≡ Ident
 kind-of-key zero = refl
 kind-of-key (suc w) = rw (le-ltb (key (suc w)) 256 (omega arith))
 
-pub kind-of-sym : (k : ℕ) (text : List ℕ) → k < 60 → kindOf (symOf k text) ≡ k
-unfolding symOf
-kind-of-sym k text h = by-test (eqb Ident k) refl
+kind-again : (k w : ℕ) → k < 60 → kindOf (cond (eqb Ident k) (key w) k) ≡ k
+kind-again k w h = by-test (eqb Ident k) refl
   where
-    by-test : (t : Bool) → eqb Ident k ≡ t → kindOf (cond t (key (wordOf text)) k) ≡ k
-    by-test true e = kind-of-key (wordOf text) ∙ eqb-true Ident k e
+    by-test : (t : Bool) → eqb Ident k ≡ t → kindOf (cond t (key w) k) ≡ k
+    by-test true e = kind-of-key w ∙ eqb-true Ident k e
     by-test false e = rw (lt-ltb k 256 (omega arith))
 
--- taking the marks off gives the plain kinds
-pub unmarked : (ts : List Token) → Every (λ t. t .kind < 60) ts → map kindOf (syms ts) ≡ map Tokens.kindOf ts
-unmarked [] h = refl
-unmarked (t ∷ ts) h = rw (kind-of-sym (t .kind) (t .text) (h .0), unmarked ts (h .1))
+kind-of-sym : (t : Token) → t .kind < 60 → kindOf (Source.sym t) ≡ t .kind
+unfolding symOf
+kind-of-sym t h = kind-again (t .kind) (wordOf (t .text)) h
+
+-- a mark is a key or a kind too, where a token may be refused
+mark-is : (t : Token) → mark t ≡ cond (eqb Ident (t .kind)) (key (number (t .text))) (t .kind)
+unfolding number-of
+mark-is t = by-test (eqb Ident (t .kind)) refl
+  where
+    by-test : (u : Bool) → eqb Ident (t .kind) ≡ u → t .kind + 256 * cond u (number (t .text)) 0 ≡ cond u (key (number (t .text))) (t .kind)
+    by-test true e = omega (arith, eqb-true Ident (t .kind) e)
+    by-test false e = omega arith
+
+kind-of-mark : (t : Token) → t .kind < 60 → kindOf (mark t) ≡ t .kind
+kind-of-mark t h = ap kindOf (mark-is t) ∙ kind-again (t .kind) (number (t .text)) h
+
+-- taking the marks off gives the plain kinds, where f says what is written for a token
+plain-again : (f : Token → ℕ) → ((t : Token) → t .kind < 60 → kindOf (f t) ≡ t .kind) → (ts : List Token) → Every (λ t. t .kind < 60) ts
+    → map kindOf (map f ts) ≡ map Tokens.kindOf ts
+plain-again f e [] h = refl
+plain-again f e (t ∷ ts) h = rw (e t (h .0), plain-again f e ts (h .1))
 
 pub source-unmarked : (s : List ℕ) → map kindOf (syms (tokenize s)) ≡ token-kinds s
-source-unmarked s = unmarked (tokenize s) (low-kinds s)
-
--- the same of the marks that stand there where a token may be refused
-kind-of-mark : (t : Token) → t .kind < 60 → kindOf (mark t) ≡ t .kind
-unfolding number-of
-kind-of-mark t h = by-test (eqb Ident (t .kind)) refl
-  where
-    by-test : (u : Bool) → eqb Ident (t .kind) ≡ u → kindOf (t .kind + 256 * cond u (number (t .text)) 0) ≡ t .kind
-    by-test true e = ap (λ (k : ℕ). kindOf (k + 256 * number (t .text))) (sym (eqb-true Ident (t .kind) e)) ∙ kind-of-key (number (t .text)) ∙ eqb-true Ident (t .kind) e
-    by-test false e = rw (lt-ltb (t .kind + 0) 256 (omega arith), add-zero)
-
-marks-off : (ts : List Token) → Every (λ t. t .kind < 60) ts → map kindOf (map mark ts) ≡ map Tokens.kindOf ts
-marks-off [] h = refl
-marks-off (t ∷ ts) h = rw (kind-of-mark t (h .0), marks-off ts (h .1))
+source-unmarked s = plain-again Source.sym kind-of-sym (tokenize s) (low-kinds s)
 
 pub marks-unmarked : (s : List ℕ) → map kindOf (map mark (tokenize s)) ≡ token-kinds s
-marks-unmarked s = marks-off (tokenize s) (low-kinds s)
+marks-unmarked s = plain-again mark kind-of-mark (tokenize s) (low-kinds s)
 
-pub syms-append : (xs ys : List Token) → syms (xs ++ ys) ≡ syms xs ++ syms ys
+syms-append : (xs ys : List Token) → syms (xs ++ ys) ≡ syms xs ++ syms ys
 syms-append xs ys = map-append _ xs ys
 
 -- What an answer says: no token is refused, or the first refused one starts at m, behind others that are not.
@@ -156,15 +160,6 @@ join-refused a b p q =
 pub join-kept : (a b : List ℕ) → last 0 (token-kinds a) ≡ Newline → last 0 a ≡ 10
     → first-refused 0 (tokenize a) ≡ Nothing → first-refused 0 (tokenize b) ≡ Nothing → first-refused 0 (tokenize (a ++ b)) ≡ Nothing
 join-kept a b p q e f = join-refused a b p q ∙ rw (e, f)
-
-kept-parts : (p q : Refusal) (m : ℕ) → or-else p (moved m q) ≡ Nothing → (p ≡ Nothing) × (q ≡ Nothing)
-kept-parts Nothing Nothing m e = (refl, refl)
-kept-parts Nothing (At n) m e = absurd (let z : _≡_ {A = ℕ} 0 1 = cc in omega arith)
-kept-parts (At n) q m e = absurd (let z : _≡_ {A = ℕ} 0 1 = cc in omega arith)
-
-pub kept-join : (a b : List ℕ) → last 0 (token-kinds a) ≡ Newline → last 0 a ≡ 10 → first-refused 0 (tokenize (a ++ b)) ≡ Nothing
-    → (first-refused 0 (tokenize a) ≡ Nothing) × (first-refused 0 (tokenize b) ≡ Nothing)
-kept-join a b p q e = kept-parts _ _ (length a) (sym (join-refused a b p q) ∙ e)
 
 pub join-syms : (a b : List ℕ) → last 0 (token-kinds a) ≡ Newline → last 0 a ≡ 10 → syms (tokenize (a ++ b)) ≡ syms (tokenize a) ++ syms (tokenize b)
 join-syms a b p q = ap syms (join a b p q) ∙ syms-append (tokenize a) (tokenize b)

@@ -9,7 +9,6 @@ use lib.Dec.{eqb}
 use Rattle.lexer.specs.Syntax.{LBrace, LBracket, LParen, RBrace, RBracket, RParen}
 use Rattle.grammar.specs.Words.{Sym, File, from, is}
 use Rattle.grammar.specs.Look
-use Rattle.grammar.specs.Run
 use Rattle.grammar.specs.Run.{pure, _>>=_, _>>_, take, Round, scan}
 use Rattle.grammar.specs.declared.message.Message.{Message}
 use Rattle.grammar.specs.Message.{number}

@@ -189,9 +189,6 @@ module _ {L : Type 0} (step : L → List Sym → Round L) where
     pub scan-go : (l l′ : L) {v w′ : World} {r : L} → Look.eof (from F (w .c .pos)) ≡ false → step l (from F (w .c .pos)) ≡ go l′ → Went F take w v → WentTo F (scan step l′) v w′ r → WentTo F (scan step l) w w′ r
     scan-go l l′ z e t h = like-to (take >> scan step l′) (scan-go-eq l l′ _ z e) (t then-to h)
 
-    pub scan-warn : (l l′ : L) (m : ℕ) {u v w′ : World} {r : L} → Look.eof (from F (w .c .pos)) ≡ false → step l (from F (w .c .pos)) ≡ warn m l′ → Went F (Run.err m) w u → Went F take u v → WentTo F (scan step l′) v w′ r → WentTo F (scan step l) w w′ r
-    scan-warn l l′ m z e t s h = like-to (Run.err m >> take >> scan step l′) (scan-warn-eq l l′ m _ z e) (t then-to s then-to h)
-
 -- ---- loop: a round of several tokens. Where a round that goes on takes a token, the loop is the round and then the loop
 module _ (f : P Bool) (more : (r : List Sym) → f r .val ≡ true → length (f r .rest) < length r) where
   repeat-same : (n m : ℕ) (r : List Sym) → length r < n → length r < m → repeat n f r ≡ repeat m f r

@@ -240,9 +240,6 @@ module _ (F : File) (p : ℕ) {x : Bool} where
   pub eof-within : x ≡ Look.eof (drop p F) → x ≡ false → p < length F
   eof-within e h = leb-false _ _ (eof-is F p ∙ sym e ∙ h)
 
-  pub eof-past : x ≡ Look.eof (drop p F) → x ≡ true → length F ≤ p
-  eof-past e h = leb-true _ _ (eof-is F p ∙ sym e ∙ h)
-
 -- ---- bump
 module _ {F : File} {w w′ : World} where
   pub bump-bad : {v : World} → w .c .pos < length F → getD F (w .c .pos) 0 ≡ 1 → Went F (Run.err unrecognized) w v → Wrote F 60 v w′ → Went F take w (past w w′)

@@ -70,10 +70,7 @@ column-few n (b ∷ bs) h =
     most-column (eqb 10 b) (column-from 1 bs) (column-from (n + 1) bs) (length (b ∷ bs) + n)
     (omega (arith, column-few 1 bs (omega arith))) (omega (arith, column-few (n + 1) bs (omega arith)))
 
--- The start, and one byte more.
-pub at-start : (source : List ℕ) → Marks source (record { at = 0; line = 1; column = 1 })
-at-start source = record { within = omega arith; line-is = refl; column-is = refl }
-
+-- One byte more.
 module _ (source : List ℕ) (s : Spot) (m : Marks source s) (h : s .at < length source) where
   abbrev b : ℕ
   b = getD source (s .at) 0

@@ -2,7 +2,7 @@
 -- Assumes nothing.
 use mathlib.Core.Path.{_≡_, refl, sym, ap, _∙_}
 use mathlib.Core.Bool.{Bool, true, false}
-use mathlib.Core.List.{List, [], _∷_, _++_, append-nil, append-assoc}
+use mathlib.Core.List.{List, [], _∷_, _++_, append-assoc}
 use Prim.Native.Nat.{ℕ, zero, suc, pred, _+_, _-_, _≤_, _<_}
 use native.Mathlib.Omega.{arith}
 use native.Mathlib.Nat.{add-zero}
@@ -66,9 +66,6 @@ past {c} k s h =
     ∙ moved (length c) 0 0 0 s
 
 -- joined texts
-pub last-append-none : (a : List ℕ) → last-char (a ++ []) ≡ last-char a
-last-append-none a = ap last-char (append-nil a)
-
 pub last-append : {a : List ℕ} → WellFormed a → (b : List ℕ) → 0 < length b → last-char (a ++ b) ≡ length a + last-char b
 last-append empty b h = omega arith
 last-append (more {c} {s} k w) b h =

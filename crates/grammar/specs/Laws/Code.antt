@@ -3,16 +3,14 @@
 -- Assumes nothing.
 use Prim.Native.Nat.{ℕ, _+_}
 use mathlib.Core.Path.{_≡_, refl, sym, _∙_, ap}
-use mathlib.Core.Bool.{Bool}
-use mathlib.Core.List.{List, [], _∷_, _++_, append-nil, append-assoc}
+use mathlib.Core.List.{List, _++_, append-nil, append-assoc}
 use lib.ListN.{length, length-append}
 use native.Mathlib.Omega.{arith}
-use Rattle.lexer.specs.Syntax
-use Rattle.grammar.specs.Words.{Sym, is}
-use Rattle.grammar.specs.Run.{Kind, num, leaves, P, pure, peek, inNode, pick, _>>=_, if_then_else_, take}
+use Rattle.grammar.specs.Words.{Sym}
+use Rattle.grammar.specs.Run.{Kind, num, leaves, P, pure, inNode, _>>=_}
 use Rattle.grammar.specs.Run
 use Rattle.grammar.specs.Laws.Good.{leaves-app}
-use Rattle.grammar.specs.Out.{kind, ev, Diag, noted, dg}
+use Rattle.grammar.specs.Out.{ev, Diag, dg}
 use Rattle.grammar.specs.Laws.Out.{ev-app, dg-app}
 use Rattle.grammar.specs.State.{State, run, write, report}
 
@@ -45,12 +43,3 @@ run-pure a s = state (omega arith) (append-nil (s .evs)) (append-nil (s .dgs))
 pub run-err : (m : ℕ) (s : State) → run (Run.err m) s ≡ report m s
 unfolding run Run.err
 run-err m s = state (omega arith) (append-nil (s .evs)) refl
-
-pub run-if : {A : Type 0} (t : List Sym → Bool) (f g : P A) (s : State) → run (if t then f else g) s ≡ run (pick (t (s .rest)) f g) s
-unfolding run _>>=_ peek
-run-if t f g s = refl
-
-pub run-take : (x : Sym) (r : List Sym) (p : ℕ) (e : List ℕ) (d : List Diag) →
-    run take (record { rest = x ∷ r; pos = p; evs = e; dgs = d }) ≡ record { rest = r; pos = p + 1; evs = e ++ kind x ∷ []; dgs = d ++ noted (is Syntax.Error x) p [] }
-unfolding run take
-run-take x r p e d = refl

@@ -8,7 +8,7 @@ use lib.ListN.{length, getD, drop, set, length-set, length-map, drop-of-length-l
 use lib.Seq.{drop-set-lt}
 use Rattle.lexer.specs.Over.{over, over-all}
 use Rattle.grammar.specs.Words.{kindOf}
-use Rattle.marks.proofs.Lists.{next-is}
+use Rattle.lexer.proofs.Laws.{next-byte}
 use Rattle.marks.proofs.unmark.Statement.{statement}
 use Rattle.marks.proofs.unmark.Tie as tie
 
@@ -21,7 +21,7 @@ goes-on {kinds₀} {kinds} {i} {v} g h e = record {
   len = length-set kinds i v ∙ g .len;
   done =
       g .done
-      ∙ ap (λ (r : List ℕ). over kinds i (map kindOf r)) (next-is kinds i (omega (arith, g .len)))
+      ∙ ap (λ (r : List ℕ). over kinds i (map kindOf r)) (next-byte kinds i (omega (arith, g .len)))
       ∙ ap (λ (x : ℕ). over (set kinds i x) (i + 1) (map kindOf (drop (i + 1) kinds))) (sym e)
       ∙ ap (λ (r : List ℕ). over (set kinds i v) (i + 1) (map kindOf r)) (sym (drop-set-lt (i + 1) kinds i v (omega arith)));
 }
