@@ -55,7 +55,7 @@ growth:
 speed:
 	rt staticlib masm_lex
 	rt staticlib cst
-	cd tests && cargo run --offline --release --bin speed
+	cd tests && cargo run --offline --profile speed --bin speed
 
 # Writes the stored cases and answers that `rt ci` replays.
 store:
