@@ -114,9 +114,11 @@ enum masm_kind {
    room for diagnostics is the shortest length.
 
    The caller keeps: no pointer is null, for an empty slice too, and each is aligned for its type;
-   no slice that is written overlaps another or the source; nobody else writes to any of them during
-   the call. Then nothing outside the slices is read or written but the stack. Any number of threads
-   may call at once, with slices of their own. */
+   no slice that is written overlaps another or the source; during the call nobody else writes to
+   any of them, and nobody else reads those that are written: meanwhile token_kinds holds kinds with
+   marks on them and starts holds token indices. Then nothing outside the slices is read or written
+   but the stack. Any number of threads may call at once, with slices of their own; they may share a
+   source. */
 uint64_t masm_parse_text(const uint8_t *source, size_t source_len,
                          uint16_t *token_kinds, size_t token_kinds_len,
                          uint32_t *token_ends, size_t token_ends_len,
