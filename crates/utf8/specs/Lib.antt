@@ -9,3 +9,5 @@ pub mod Rows
 pub mod Laws
 pub mod Characters
 pub mod Last
+pub mod Scalar
+pub mod Code

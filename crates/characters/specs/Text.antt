@@ -1,0 +1,15 @@
+-- A text is its characters, one after another.
+-- Assumes nothing: these are definitions.
+use Prim.Native.Nat.{ℕ}
+use mathlib.Core.Path.{_≡_}
+use mathlib.Core.List.{List, [], _∷_, _++_}
+use Rattle.utf8.specs.Scalar.{Scalar, encode}
+
+pub data Scalars : List ℕ → Type 0 where
+  none : Scalars []
+  also : {c : ℕ} {cs : List ℕ} → Scalar c → Scalars cs → Scalars (c ∷ cs)
+
+-- the bytes of a text
+unfoldable pub encode-all : List ℕ → List ℕ
+encode-all [] = []
+encode-all (c ∷ cs) = encode c ++ encode-all cs
