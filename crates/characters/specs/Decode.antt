@@ -1,0 +1,50 @@
+-- The well-formed sources are the encodings of texts, each of one text.
+-- Assumes nothing.
+use Prim.Native.Nat.{ℕ, suc, _+_, _≤_, _<_}
+use mathlib.Core.Path.{_≡_, refl, sym, ap, _∙_}
+use mathlib.Core.List.{List, [], _∷_, _++_}
+use native.Mathlib.Omega.{arith}
+use lib.ListN.{length, take, drop, length-append}
+use lib.Seq.{take-append-seam, drop-append-seam}
+use Rattle.utf8.specs.Table.{table, charLength}
+use Rattle.utf8.specs.TableLaws.{char-length, char-some}
+use Rattle.utf8.specs.WellFormed.{Character, WellFormed, empty, more}
+use Rattle.utf8.specs.Scalar.{Scalar, encode}
+use Rattle.utf8.specs.Code.{code, encode-character, coded, code-encode}
+use Rattle.characters.specs.Text.{Scalars, none, also, encode-all}
+
+-- a text's bytes are well formed
+pub encoded-well-formed : {cs : List ℕ} → Scalars cs → WellFormed (encode-all cs)
+unfolding encode-all
+encoded-well-formed none = empty
+encoded-well-formed (also p ps) = more (encode-character p) (encoded-well-formed ps)
+
+-- well-formed bytes are those of a text
+pub decodes : {s : List ℕ} → WellFormed s → (cs : List ℕ) × Scalars cs × (encode-all cs ≡ s)
+unfolding encode-all
+decodes empty = ([], none, refl)
+decodes (more {c} {s} k w) =
+    let d = decodes w in
+    (code c ∷ d .0, also (coded k .scalar) (d .1), rw (coded k .encodes, d .2))
+
+-- the first character's bytes, where two texts have the same bytes
+same-first : {c d : ℕ} → Scalar c → Scalar d → (s t : List ℕ) → encode c ++ s ≡ encode d ++ t → (encode c ≡ encode d) × (s ≡ t)
+same-first {c} {d} p q s t e =
+    let n : length (encode c) ≡ length (encode d) = sym (char-length (encode-character p) s) ∙ ap charLength e ∙ char-length (encode-character q) t in (
+      sym (take-append-seam (encode c) s) ∙ rw (e, n) (take-append-seam (encode d) t),
+      sym (drop-append-seam (encode c) s) ∙ rw (e, n) (drop-append-seam (encode d) t),
+    )
+
+none-and-some : {c : ℕ} → Scalar c → (s : List ℕ) → [] ≡ encode c ++ s → ⊥
+none-and-some {c} p s e = omega (arith, char-some (encode-character p), length-append (encode c) s, ap length e)
+
+-- no two texts have the same bytes
+pub encode-once : {cs ds : List ℕ} → Scalars cs → Scalars ds → encode-all cs ≡ encode-all ds → cs ≡ ds
+unfolding encode-all
+encode-once none none e = refl
+encode-once none (also {cs = ds} q qs) e = absurd (none-and-some q (encode-all ds) e)
+encode-once (also {cs = cs} p ps) none e = absurd (none-and-some p (encode-all cs) (sym e))
+encode-once (also {c} {cs} p ps) (also {c = d} {cs = ds} q qs) e =
+    let f = same-first p q (encode-all cs) (encode-all ds) e in
+    let i : c ≡ d = sym (code-encode c) ∙ ap code (f .0) ∙ code-encode d in
+    rw i (ap (λ (l : List ℕ). d ∷ l) (encode-once ps qs (f .1)))
