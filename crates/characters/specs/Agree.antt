@@ -1,6 +1,6 @@
 -- What every function of the lexer keeps: over a text's bytes it says the same as over its characters.
 -- Assumes nothing.
-use Prim.Native.Nat.{ℕ, zero, suc, _+_, _≤_, _<_}
+use Prim.Native.Nat.{ℕ, zero, suc, _+_, _≤_}
 use mathlib.Core.Path.{_≡_, refl, sym, ap, _∙_}
 use mathlib.Core.Bool.{Bool, true, false, true≢false, _||_, cond}
 use mathlib.Core.List.{List, [], _∷_, _++_, append-assoc}
@@ -20,6 +20,7 @@ use Rattle.characters.specs.Tests.{not-at, no-word}
 abbrev pub spelled : Lexeme → List ℕ → Lexeme
 spelled t cs = record { kind = t .kind; more = length (encode-all (take (t .more) cs)) }
 
+-- over the bytes f takes the bytes of those characters that it takes over the characters, and gives them the same kind
 pub record Agrees (f : Lex) : Type 0 where
   pub agrees : (cs : List ℕ) → f (encode-all cs) ≡ spelled (f cs) cs
 
@@ -31,11 +32,10 @@ pub agree-pick : (t : Bool) {f g : Lex} → Agrees f → Agrees g → Agrees (pi
 agree-pick true p q = p
 agree-pick false p q = q
 
--- one character more in front
-module _ (c : ℕ) (t : Lexeme) (r : List ℕ) where
-  pub spelled-later : encode c ≡ c ∷ [] → spelled (later t) (c ∷ r) ≡ later (spelled t r)
-  unfolding encode-all
-  spelled-later e = rw e
+-- one ASCII character more in front
+pub spelled-later : (c : ℕ) (t : Lexeme) (r : List ℕ) → encode c ≡ c ∷ [] → spelled (later t) (c ∷ r) ≡ later (spelled t r)
+unfolding encode-all
+spelled-later c t r e = rw e
 
 -- current_char() == Some(x), of an x in ASCII
 module _ (x : ℕ) (l : ltb x 0x80 ≡ true) (f g : Lex) (p : Agrees f) (q : Agrees g) where
@@ -105,10 +105,14 @@ encode-split (suc m) (c ∷ r) =
 
 module _ (m : ℕ) (cs : List ℕ) where
   pub take-encoded : take (length (encode-all (take m cs))) (encode-all cs) ≡ encode-all (take m cs)
-  take-encoded = ap (take (length (encode-all (take m cs)))) (encode-split m cs) ∙ take-append-seam (encode-all (take m cs)) (encode-all (drop m cs))
+  take-encoded =
+      let front = encode-all (take m cs) in
+      ap (take (length front)) (encode-split m cs) ∙ take-append-seam front (encode-all (drop m cs))
 
   pub drop-encoded : drop (length (encode-all (take m cs))) (encode-all cs) ≡ encode-all (drop m cs)
-  drop-encoded = ap (drop (length (encode-all (take m cs)))) (encode-split m cs) ∙ drop-append-seam (encode-all (take m cs)) (encode-all (drop m cs))
+  drop-encoded =
+      let front = encode-all (take m cs) in
+      ap (drop (length front)) (encode-split m cs) ∙ drop-append-seam front (encode-all (drop m cs))
 
 -- lex_identifier: what is passed over is ASCII, and so its own bytes
 ascii-run : (p : ℕ → Bool) → Plain p false → (cs : List ℕ) → encode-all (take (advance-while p cs) cs) ≡ take (advance-while p cs) cs

@@ -1,19 +1,18 @@
 -- `next` over bytes goes by the class of its byte, over characters by the match of lexer.rs: they say the same.
 -- Assumes nothing.
-use Prim.Native.Nat.{ℕ, suc, pred, _+_, _≤_, _<_}
-use mathlib.Core.Path.{_≡_, refl, sym, ap, _∙_}
+use Prim.Native.Nat.{ℕ, suc, pred, _≤_, _<_}
+use mathlib.Core.Path.{_≡_, refl, ap, _∙_}
 use mathlib.Core.Bool.{Bool, true, false, cond}
-use mathlib.Core.List.{List, [], _∷_, _++_}
+use mathlib.Core.List.{List, [], _++_}
 use native.Mathlib.Omega.{arith}
-use lib.Dec.{eqb}
 use lib.ListN.{length, take}
 use lib.Seq.{take-append-seam}
 use Rattle.utf8.specs.Width.{width, width-one}
 use Rattle.lexer.specs.Syntax.{Error}
 use Rattle.lexer.specs.Chars.{blank, word, decimal, hex, binary, class, punctuation}
-use Rattle.lexer.specs.Lexer.{Lexeme, Lex, one, pick, run, in-line, comment, number, stray, arm, next}
+use Rattle.lexer.specs.Lexer.{Lex, one, pick, run, in-line, comment, number, stray, arm, next}
 use Rattle.characters.specs.Text.{encode-all}
-use Rattle.characters.specs.CharLexer.{match, char-next}
+use Rattle.characters.specs.CharLexer.{char-match, char-next}
 use Rattle.characters.specs.Tests.{no-blank, no-hex, no-binary, no-decimal, no-word, all-in-line, match-other}
 use Rattle.characters.specs.Agree.{Agrees, spelled, agree-one, agree-pick, agree-follow, agree-run, agree-special}
 use Rattle.characters.specs.AgreeQuoted.{agree-quoted}
@@ -23,8 +22,9 @@ arm-cond : (t : Bool) (x y b : ℕ) → arm (cond t x y) b ≡ pick t (arm x b) 
 arm-cond true x y b = refl
 arm-cond false x y b = refl
 
-next-match : (b : ℕ) → next b ≡ match b (stray b)
-unfolding next class punctuation match
+-- the classes of the lexer's definition choose what the match of lexer.rs chooses
+next-match : (b : ℕ) → next b ≡ char-match b (stray b)
+unfolding next class punctuation char-match
 next-match b = simp arm-cond (unfold arm in refl)
 
 -- the runs of lexer.rs: in-line goes on over every number from 0x80 on, the others stop
@@ -53,25 +53,27 @@ agree-comment = search (agree-follow, run-in-line)
 agree-number : (c : ℕ) → Agrees (number c)
 agree-number c = search (agree-pick, agree-follow, run-decimal, run-hex, run-binary) depth 8
 
-agree-match : (c : ℕ) → Agrees (match c (one Error))
-unfolding match
+agree-match : (c : ℕ) → Agrees (char-match c (one Error))
+unfolding char-match
 agree-match c =
     search (agree-one, agree-pick, agree-follow, run-blank, run-word, agree-comment, agree-number, agree-special, agree-quoted) depth 40
 
 -- a character that is its own byte
 stray-ascii : (c : ℕ) → c < 0x80 → stray c ≡ one Error
 unfolding stray
-stray-ascii c h = ap {B = Lex} (λ (n : ℕ) (r : List ℕ). record { kind = Error; more = length (take (pred n) r) }) (width-one c (omega arith))
+stray-ascii c h =
+    ap {B = Lex} (λ (n : ℕ) (r : List ℕ). record { kind = Error; more = length (take (pred n) r) }) (width-one c (omega arith))
 
 pub next-ascii : (c : ℕ) → c < 0x80 → (r : List ℕ) → next c (encode-all r) ≡ spelled (char-next c r) r
 unfolding char-next
 next-ascii c h r =
     ap (λ (f : Lex). f (encode-all r)) (next-match c)
-    ∙ ap (λ (f : Lex). match c f (encode-all r)) (stray-ascii c h)
+    ∙ ap (λ (f : Lex). char-match c f (encode-all r)) (stray-ascii c h)
     ∙ agree-match c .agrees r
 
 -- the first byte of any other, and the bytes behind it: one stray character
-pub next-wide : (b : ℕ) (bs s : List ℕ) → 0x80 ≤ b → width b ≡ suc (length bs) → next b (bs ++ s) ≡ record { kind = Error; more = length bs }
+pub next-wide : (b : ℕ) (bs s : List ℕ) → 0x80 ≤ b → width b ≡ suc (length bs)
+    → next b (bs ++ s) ≡ record { kind = Error; more = length bs }
 unfolding stray
 next-wide b bs s h n =
     ap (λ (f : Lex). f (bs ++ s)) (next-match b ∙ match-other b h (stray b))

@@ -1,8 +1,8 @@
 -- lex_quoted over a text's bytes and over its characters.
 -- Assumes nothing.
-use Prim.Native.Nat.{ℕ, suc, _+_, _≤_}
+use Prim.Native.Nat.{ℕ, _+_, _≤_}
 use mathlib.Core.Path.{_≡_, refl, sym, ap, _∙_}
-use mathlib.Core.Bool.{Bool, true, false, true≢false, not, _&&_}
+use mathlib.Core.Bool.{Bool, true, false, not, _&&_, and-false}
 use mathlib.Core.List.{List, [], _∷_, _++_}
 use native.Mathlib.Omega.{arith}
 use lib.Dec.{eqb}
@@ -14,10 +14,6 @@ use Rattle.characters.specs.Text.{encode-all}
 use Rattle.characters.specs.Spelling.{High, Spelling, ascii, wide, spelling}
 use Rattle.characters.specs.Tests.{not-at, no-line-end, no-graphic}
 use Rattle.characters.specs.Agree.{Agrees, spelled, spelled-later}
-
-and-false : (x : Bool) → x && false ≡ false
-and-false true = refl
-and-false false = refl
 
 -- a number from 0x80 on is passed over, and the quote is no longer identifier-like
 quoted-high : (i : Bool) (b : ℕ) (s : List ℕ) → 0x80 ≤ b → quoted false i (b ∷ s) ≡ later (quoted false false s)

@@ -3,7 +3,8 @@
 -- characters. The one thing told otherwise than over bytes is a character that starts nothing: it is one character.
 -- Assumes nothing: these are definitions.
 use Prim.Native.Nat.{ℕ, zero, suc}
-use mathlib.Core.Bool.{true, false}
+use Prim.Native.Char.{Char, code}
+use mathlib.Core.Bool.{Bool, true, false}
 use mathlib.Core.List.{List, [], _∷_}
 use lib.Dec.{eqb}
 use lib.ListN.{take}
@@ -12,41 +13,45 @@ use Rattle.lexer.specs.Chars.{blank, decimal, letter, word}
 use Rattle.lexer.specs.Lexer.{Lex, one, pick, follow, run, cr, comment, special, number, quoted, dots, Token}
 use Rattle.characters.specs.Text.{encode-all}
 
+-- c is the character x
+abbrev pub is-char : Char → ℕ → Bool
+is-char x c = eqb c (code x)
+
 -- match current { .. }, in its order; `other` stands for what its last arm, `_`, does
-unfoldable pub match : ℕ → Lex → Lex
-match c other =
+unfoldable pub char-match : ℕ → Lex → Lex
+char-match c other =
     pick (blank c) (run Whitespace blank)
-    (pick (eqb c 10) (one Newline)
-    (pick (eqb c 13) cr
-    (pick (eqb c 35) comment
+    (pick (is-char "\n" c) (one Newline)
+    (pick (is-char "\r" c) cr
+    (pick (is-char "#" c) comment
     (pick (letter c) (run Ident word)
-    (pick (eqb c 36) special
+    (pick (is-char "$" c) special
     (pick (decimal c) (number c)
-    (pick (eqb c 34) (quoted false true)
-    (pick (eqb c 64) (one At)
-    (pick (eqb c 33) (one Bang)
-    (pick (eqb c 58) (follow 58 (one ColonColon) (one Colon))
-    (pick (eqb c 44) (one Comma)
-    (pick (eqb c 46) dots
-    (pick (eqb c 61) (one Equal)
-    (pick (eqb c 60) (one LAngle)
-    (pick (eqb c 62) (one RAngle)
-    (pick (eqb c 123) (one LBrace)
-    (pick (eqb c 125) (one RBrace)
-    (pick (eqb c 91) (one LBracket)
-    (pick (eqb c 93) (one RBracket)
-    (pick (eqb c 40) (one LParen)
-    (pick (eqb c 41) (one RParen)
-    (pick (eqb c 45) (follow 62 (one RArrow) (one Minus))
-    (pick (eqb c 43) (one Plus)
-    (pick (eqb c 47) (follow 47 (one SlashSlash) (one Slash))
-    (pick (eqb c 42) (one Star)
-    (pick (eqb c 59) (one Semicolon)
+    (pick (is-char "\"" c) (quoted false true)
+    (pick (is-char "@" c) (one At)
+    (pick (is-char "!" c) (one Bang)
+    (pick (is-char ":" c) (follow (code ":") (one ColonColon) (one Colon))
+    (pick (is-char "," c) (one Comma)
+    (pick (is-char "." c) dots
+    (pick (is-char "=" c) (one Equal)
+    (pick (is-char "<" c) (one LAngle)
+    (pick (is-char ">" c) (one RAngle)
+    (pick (is-char "{" c) (one LBrace)
+    (pick (is-char "}" c) (one RBrace)
+    (pick (is-char "[" c) (one LBracket)
+    (pick (is-char "]" c) (one RBracket)
+    (pick (is-char "(" c) (one LParen)
+    (pick (is-char ")" c) (one RParen)
+    (pick (is-char "-" c) (follow (code ">") (one RArrow) (one Minus))
+    (pick (is-char "+" c) (one Plus)
+    (pick (is-char "/" c) (follow (code "/") (one SlashSlash) (one Slash))
+    (pick (is-char "*" c) (one Star)
+    (pick (is-char ";" c) (one Semicolon)
     other))))))))))))))))))))))))))
 
 -- _ => { self.advance_char(); Error }
 unfoldable pub char-next : ℕ → Lex
-char-next c = match c (one Error)
+char-next c = char-match c (one Error)
 
 -- tokenize, with as many characters to pass over first: those of the token before
 unfoldable pub char-tokens : ℕ → List ℕ → List Token

@@ -1,16 +1,16 @@
 -- The well-formed sources are the encodings of texts, each of one text.
 -- Assumes nothing.
-use Prim.Native.Nat.{ℕ, suc, _+_, _≤_, _<_}
+use Prim.Native.Nat.{ℕ}
 use mathlib.Core.Path.{_≡_, refl, sym, ap, _∙_}
 use mathlib.Core.List.{List, [], _∷_, _++_}
 use native.Mathlib.Omega.{arith}
-use lib.ListN.{length, take, drop, length-append}
+use lib.ListN.{length, length-append}
 use lib.Seq.{take-append-seam, drop-append-seam}
-use Rattle.utf8.specs.Table.{table, charLength}
+use Rattle.utf8.specs.Table.{charLength}
 use Rattle.utf8.specs.TableLaws.{char-length, char-some}
-use Rattle.utf8.specs.WellFormed.{Character, WellFormed, empty, more}
+use Rattle.utf8.specs.WellFormed.{WellFormed, empty, more}
 use Rattle.utf8.specs.Scalar.{Scalar, encode}
-use Rattle.utf8.specs.Code.{code, encode-character, coded, code-encode}
+use Rattle.utf8.specs.Encoding.{code, encode-character, coded, code-encode}
 use Rattle.characters.specs.Text.{Scalars, none, also, encode-all}
 
 -- a text's bytes are well formed

@@ -1,16 +1,15 @@
 -- The lexer's tests on numbers from 0x80 on: none of them asks for one, so a byte and its character give the same answer.
 -- Assumes nothing.
-use Prim.Native.Nat.{ℕ, _≤_, _<_}
+use Prim.Native.Nat.{ℕ, _≤_}
 use mathlib.Core.Path.{_≡_, refl}
-use mathlib.Core.Bool.{Bool, true, false, not, _&&_, _||_}
+use mathlib.Core.Bool.{Bool, true, false, _||_}
 use native.Mathlib.Omega.{arith}
 use borrow.Author.Tests.{ne-eqb, ltb-true}
 use lib.Dec.{eqb, ltb}
-use Rattle.utf8.specs.Table.{_⋯_, inside}
 use Rattle.utf8.specs.TableLaws.{over}
 use Rattle.lexer.specs.Chars.{within, blank, line-end, decimal, hex, binary, letter, word, graphic}
 use Rattle.lexer.specs.Lexer.{Lex, pick, in-line}
-use Rattle.characters.specs.CharLexer.{match}
+use Rattle.characters.specs.CharLexer.{char-match}
 
 neither : (x y : Bool) → x ≡ false → y ≡ false → x || y ≡ false
 neither true y e f = e
@@ -55,6 +54,6 @@ module _ (n : ℕ) (h : 0x80 ≤ n) where
   all-in-line = rw no-line-end
 
   -- it starts nothing
-  pub match-other : (f : Lex) → match n f ≡ f
-  unfolding match
+  pub match-other : (f : Lex) → char-match n f ≡ f
+  unfolding char-match
   match-other f = search (past, no-blank, no-letter, no-decimal, not-at) depth 40

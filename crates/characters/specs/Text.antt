@@ -1,7 +1,6 @@
 -- A text is its characters, one after another.
 -- Assumes nothing: these are definitions.
 use Prim.Native.Nat.{ℕ}
-use mathlib.Core.Path.{_≡_}
 use mathlib.Core.List.{List, [], _∷_, _++_}
 use Rattle.utf8.specs.Scalar.{Scalar, encode}
 

@@ -10,4 +10,4 @@ pub mod Laws
 pub mod Characters
 pub mod Last
 pub mod Scalar
-pub mod Code
+pub mod Encoding

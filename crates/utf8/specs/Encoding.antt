@@ -1,13 +1,12 @@
 -- The encodings of scalar values are the sequences of table 3-7, each that of one scalar value.
 -- Assumes nothing.
 use Prim.Native.Nat.{ℕ, zero, suc, _+_, _-_, _*_, _/_, _%_, _≤_, _<_}
-use mathlib.Core.Path.{_≡_, refl, sym, ap, _∙_}
-use mathlib.Core.Bool.{Bool, true, false, cond}
-use mathlib.Core.List.{List, [], _∷_, _++_}
+use mathlib.Core.Path.{_≡_, refl, _∙_}
+use mathlib.Core.Bool.{Bool, true, false}
+use mathlib.Core.List.{List, [], _∷_}
 use native.Mathlib.Omega.{arith}
 use borrow.Author.Tests.{ltb-true, ltb-false, lt-ltb, le-ltb}
 use lib.Dec.{ltb}
-use lib.ListN.{length}
 use Rattle.utf8.specs.Table.{_⋯_, Row, table}
 use Rattle.utf8.specs.WellFormed.{Sequence, done, byte, Character, here, there}
 use Rattle.utf8.specs.Scalar.{Scalar, below, above, encode}
@@ -54,9 +53,9 @@ of-row i [] bs w = absurd w
 of-row zero (row ∷ rows) bs w = here (sequence row bs w)
 of-row (suc i) (row ∷ rows) bs w = there (of-row i rows bs w)
 
--- c is below n or not
-side : (c n : ℕ) (P : Type 0) → (c < n → P) → (n ≤ c → P) → P
-side c n P f g = go (ltb c n) refl
+-- c is below n, or not
+pub below-or-from : (c n : ℕ) (P : Type 0) → (c < n → P) → (n ≤ c → P) → P
+below-or-from c n P f g = go (ltb c n) refl
   where
     go : (t : Bool) → ltb c n ≡ t → P
     go true e = f (ltb-true c n e)
@@ -66,16 +65,16 @@ side c n P f g = go (ltb c n) refl
 pub encode-character : {c : ℕ} → Scalar c → Character table (encode c)
 unfolding table
 encode-character (below {c} h) =
-    side c 0x80 (Character table (encode c)) (λ a. rw (encode-one c a) (of-row 0 table _ (omega arith))) (λ a.
-    side c 0x800 (Character table (encode c)) (λ b. rw (encode-two c a b) (of-row 1 table _ (omega arith))) (λ b.
+    below-or-from c 0x80 (Character table (encode c)) (λ a. rw (encode-one c a) (of-row 0 table _ (omega arith))) (λ a.
+    below-or-from c 0x800 (Character table (encode c)) (λ b. rw (encode-two c a b) (of-row 1 table _ (omega arith))) (λ b.
     rw (encode-three c b (omega arith))
-    (side c 0x1000 _ (λ d. of-row 2 table _ (omega arith)) (λ d.
-    side c 0xD000 _ (λ e. of-row 3 table _ (omega arith)) (λ e. of-row 4 table _ (omega arith))))))
+    (below-or-from c 0x1000 _ (λ d. of-row 2 table _ (omega arith)) (λ d.
+    below-or-from c 0xD000 _ (λ e. of-row 3 table _ (omega arith)) (λ e. of-row 4 table _ (omega arith))))))
 encode-character (above {c} l h) =
-    side c 0x10000 (Character table (encode c)) (λ a. rw (encode-three c (omega arith) a) (of-row 5 table _ (omega arith))) (λ a.
+    below-or-from c 0x10000 (Character table (encode c)) (λ a. rw (encode-three c (omega arith) a) (of-row 5 table _ (omega arith))) (λ a.
     rw (encode-four c a)
-    (side c 0x40000 _ (λ d. of-row 6 table _ (omega arith)) (λ d.
-    side c 0x100000 _ (λ e. of-row 7 table _ (omega arith)) (λ e. of-row 8 table _ (omega arith)))))
+    (below-or-from c 0x40000 _ (λ d. of-row 6 table _ (omega arith)) (λ d.
+    below-or-from c 0x100000 _ (λ e. of-row 7 table _ (omega arith)) (λ e. of-row 8 table _ (omega arith)))))
 
 -- the scalar value that a sequence encodes
 unfoldable pub code : List ℕ → ℕ
@@ -179,9 +178,9 @@ coded k = by-rows Coded all-coded k
 pub code-encode : (c : ℕ) → code (encode c) ≡ c
 unfolding code
 code-encode c =
-    side c 0x80 _ (λ a. rw (encode-one c a)) (λ a.
-    side c 0x800 _ (λ b. rw (encode-two c a b) (omega arith)) (λ b.
-    side c 0x10000 _ (λ d. rw (encode-three c b d) (omega arith)) (λ d.
+    below-or-from c 0x80 _ (λ a. rw (encode-one c a)) (λ a.
+    below-or-from c 0x800 _ (λ b. rw (encode-two c a b) (omega arith)) (λ b.
+    below-or-from c 0x10000 _ (λ d. rw (encode-three c b d) (omega arith)) (λ d.
     let e : c / 64 / 64 ≡ c / 4096 = omega arith in
     let f : c / 4096 / 64 ≡ c / 262144 = omega arith in
     rw (encode-four c d) (omega arith))))
