@@ -10,7 +10,7 @@ use Rattle.utf8.specs.Table.{charLength}
 use Rattle.utf8.specs.TableLaws.{char-length, char-some}
 use Rattle.utf8.specs.WellFormed.{WellFormed, empty, more}
 use Rattle.utf8.specs.Scalar.{Scalar, encode}
-use Rattle.utf8.specs.Encoding.{code, encode-character, coded, code-encode}
+use Rattle.characters.specs.Encoding.{code, encode-character, coded, code-encode}
 use Rattle.characters.specs.Text.{Scalars, none, also, encode-all}
 
 -- a text's bytes are well formed
@@ -27,13 +27,16 @@ decodes (more {c} {s} k w) =
     let d = decodes w in
     (code c ∷ d .0, also (coded k .scalar) (d .1), rw (coded k .encodes, d .2))
 
--- the first character's bytes, where two texts have the same bytes
-same-first : {c d : ℕ} → Scalar c → Scalar d → (s t : List ℕ) → encode c ++ s ≡ encode d ++ t → (encode c ≡ encode d) × (s ≡ t)
-same-first {c} {d} p q s t e =
-    let n : length (encode c) ≡ length (encode d) = sym (char-length (encode-character p) s) ∙ ap charLength e ∙ char-length (encode-character q) t in (
-      sym (take-append-seam (encode c) s) ∙ rw (e, n) (take-append-seam (encode d) t),
-      sym (drop-append-seam (encode c) s) ∙ rw (e, n) (drop-append-seam (encode d) t),
-    )
+-- where two texts have the same bytes, their first characters have the same, as many as table 3-7 tells, and so has what follows
+module _ {c d : ℕ} (p : Scalar c) (q : Scalar d) (s t : List ℕ) (e : encode c ++ s ≡ encode d ++ t) where
+  same-length : length (encode c) ≡ length (encode d)
+  same-length = sym (char-length (encode-character p) s) ∙ ap charLength e ∙ char-length (encode-character q) t
+
+  same-first : encode c ≡ encode d
+  same-first = sym (take-append-seam (encode c) s) ∙ rw (e, same-length) (take-append-seam (encode d) t)
+
+  same-rest : s ≡ t
+  same-rest = sym (drop-append-seam (encode c) s) ∙ rw (e, same-length) (drop-append-seam (encode d) t)
 
 none-and-some : {c : ℕ} → Scalar c → (s : List ℕ) → [] ≡ encode c ++ s → ⊥
 none-and-some {c} p s e = omega (arith, char-some (encode-character p), length-append (encode c) s, ap length e)
@@ -45,6 +48,5 @@ encode-once none none e = refl
 encode-once none (also {cs = ds} q qs) e = absurd (none-and-some q (encode-all ds) e)
 encode-once (also {cs = cs} p ps) none e = absurd (none-and-some p (encode-all cs) (sym e))
 encode-once (also {c} {cs} p ps) (also {c = d} {cs = ds} q qs) e =
-    let f = same-first p q (encode-all cs) (encode-all ds) e in
-    let i : c ≡ d = sym (code-encode c) ∙ ap code (f .0) ∙ code-encode d in
-    rw i (ap (λ (l : List ℕ). d ∷ l) (encode-once ps qs (f .1)))
+    let i : c ≡ d = sym (code-encode c) ∙ ap code (same-first p q (encode-all cs) (encode-all ds) e) ∙ code-encode d in
+    rw i (ap (λ (l : List ℕ). d ∷ l) (encode-once ps qs (same-rest p q (encode-all cs) (encode-all ds) e)))

@@ -49,5 +49,6 @@ examples =
     ∷ []
 
 pub shown : map lexed examples ≡ examples
-unfolding examples lexed characters-of encode-all encode char-tokenize char-tokens char-next char-match tokenize tokens next arm class punctuation follow advance-while run same special quoted stray ends width
+unfolding examples lexed characters-of encode-all encode char-tokenize char-tokens char-next char-match
+    tokenize tokens next arm class punctuation follow advance-while run same special quoted stray ends width
 shown = refl

@@ -1,9 +1,12 @@
--- A source as characters, not as bytes, and that the lexer over bytes gives the tokens of the lexer over characters.
+-- A source as characters, and that the lexer over its bytes gives the tokens of the lexer over its characters.
 -- Text: a text is a list of characters, and its bytes. CharLexer: lexer.rs over characters. These are the definitions.
--- ByCharacters has the theorem. Decode: the well-formed sources are the bytes of texts, each of one. Spelling, Tests: a character's
--- bytes, and the lexer's tests on them. Agree, AgreeQuoted, AgreeNext: each function says the same over both. Examples are computed.
+-- ByCharacters: the theorem. Examples: computed.
+-- Encoding: the encodings of scalar values are the sequences of table 3-7. Decode: well-formed sources are the bytes of texts.
+-- Spelling, Tests: the bytes of a character, and the lexer's tests on them. Agree, AgreeQuoted, AgreeNext: the lexer's functions
+-- say of the bytes what they say of the characters.
 pub mod Text
 pub mod CharLexer
+pub mod Encoding
 pub mod Decode
 pub mod Spelling
 pub mod Tests

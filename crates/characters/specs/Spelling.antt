@@ -8,7 +8,7 @@ use native.Mathlib.Omega.{arith}
 use lib.ListN.{length}
 use Rattle.utf8.specs.Width.{width, width-two, width-three, width-four}
 use Rattle.utf8.specs.Scalar.{encode}
-use Rattle.utf8.specs.Encoding.{below-or-from, encode-one, encode-two, encode-three, encode-four}
+use Rattle.characters.specs.Encoding.{below-or-from, encode-one, encode-two, encode-three, encode-four}
 
 -- all bytes are 0x80 or more
 abbrev pub High : List ℕ → Type 0

@@ -10,4 +10,3 @@ pub mod Laws
 pub mod Characters
 pub mod Last
 pub mod Scalar
-pub mod Encoding
