@@ -22,8 +22,8 @@ abbrev char-token : ℕ → List ℕ → Token
 char-token c r = record { kind = char-next c r .kind; text = c ∷ take (char-next c r .more) r }
 
 -- a token of bytes by its lexeme, and the tokens behind it
-abbrev cut : ℕ → List ℕ → Lexeme → List Token
-cut b s t = record { kind = t .kind; text = b ∷ take (t .more) s } ∷ tokenize (drop (t .more) s)
+abbrev by-lexeme : ℕ → List ℕ → Lexeme → List Token
+by-lexeme b s t = record { kind = t .kind; text = b ∷ take (t .more) s } ∷ tokenize (drop (t .more) s)
 
 -- the first token over the bytes is that over the characters, encoded, and the bytes of the characters behind it are left
 abbrev First : ℕ → List ℕ → Type 0
@@ -34,7 +34,7 @@ unfolding encode-all
 first-ascii c r h e =
     let m = char-next c r .more in
     rw e
-    (tokenize-cons c (encode-all r) ∙ ap (cut c (encode-all r)) (next-ascii c h r)
+    (tokenize-cons c (encode-all r) ∙ ap (by-lexeme c (encode-all r)) (next-ascii c h r)
     ∙ rw (take-encoded m r, drop-encoded m r))
 
 first-wide : (c : ℕ) (r : List ℕ) (b : ℕ) (bs : List ℕ) → 0x80 ≤ c → encode c ≡ b ∷ bs → High (b ∷ bs) → width b ≡ suc (length bs)
@@ -42,7 +42,7 @@ first-wide : (c : ℕ) (r : List ℕ) (b : ℕ) (bs : List ℕ) → 0x80 ≤ c �
 unfolding encode-all
 first-wide c r b bs h e w n =
     rw (e, char-next-wide c r h, append-nil bs)
-    (tokenize-cons b (bs ++ encode-all r) ∙ ap (cut b (bs ++ encode-all r)) (next-wide b bs (encode-all r) (w .0) n)
+    (tokenize-cons b (bs ++ encode-all r) ∙ ap (by-lexeme b (bs ++ encode-all r)) (next-wide b bs (encode-all r) (w .0) n)
     ∙ rw (take-append-seam bs (encode-all r), drop-append-seam bs (encode-all r)))
 
 first : (c : ℕ) (r : List ℕ) → First c r
@@ -81,6 +81,6 @@ by-characters s w =
       characters = d .0;
       scalars = d .1;
       bytes = d .2;
-      only = λ cs p e. encode-once p (d .1) (e ∙ sym (d .2));
+      only = λ cs p e. encode-once cs (d .0) p (d .1) (e ∙ sym (d .2));
       tokens = ap tokenize (sym (d .2)) ∙ encoded-tokens (d .0);
     }

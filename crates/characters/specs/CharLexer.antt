@@ -1,6 +1,7 @@
--- lexer.rs over characters: `next` and `tokenize`. A source is a list of characters, each a number: its scalar value.
--- What they call is the lexer's definition (lexer/specs/Lexer, Chars), which reads lists of numbers: here the numbers are
--- characters. The one thing told otherwise than over bytes is a character that starts nothing: it is one character.
+-- lexer.rs over characters: `next` and `tokenize`. A source is a list of characters, each by its scalar value.
+-- The functions that `next` calls are those of lexer/specs/Lexer, and the tests those of Chars: they read lists of numbers, and an
+-- ASCII character's number is its byte. `next` itself goes by the match of lexer.rs, not by a class, and a character that starts
+-- nothing is taken as one character, not by its bytes.
 -- Assumes nothing: these are definitions.
 use Prim.Native.Nat.{ℕ, zero, suc}
 use Prim.Native.Char.{Char, code}

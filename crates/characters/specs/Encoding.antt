@@ -8,6 +8,7 @@ use native.Mathlib.Omega.{arith}
 use borrow.Author.Tests.{ltb-true, ltb-false, lt-ltb, le-ltb}
 use lib.Dec.{ltb}
 use Rattle.utf8.specs.Table.{_⋯_, Row, table}
+use Rattle.utf8.specs.Last.{Continuation}
 use Rattle.utf8.specs.WellFormed.{Sequence, done, byte, Character, here, there}
 use Rattle.utf8.specs.Scalar.{Scalar, below, above, encode}
 
@@ -76,51 +77,47 @@ encode-character (above {c} l h) =
     (below-or-from c 0x40000 _ (λ d. of-row 6 table _ (omega arith)) (λ d.
     below-or-from c 0x100000 _ (λ e. of-row 7 table _ (omega arith)) (λ e. of-row 8 table _ (omega arith)))))
 
--- the scalar value that a sequence encodes
-unfoldable pub code : List ℕ → ℕ
-code [] = 0
-code (a ∷ []) = a
-code (a ∷ b ∷ []) = (a - 0xC0) * 64 + (b - 0x80)
-code (a ∷ b ∷ c ∷ []) = (a - 0xE0) * 4096 + (b - 0x80) * 64 + (c - 0x80)
-code (a ∷ b ∷ c ∷ d ∷ bs) = (a - 0xF0) * 262144 + (b - 0x80) * 4096 + (c - 0x80) * 64 + (d - 0x80)
+-- the number that a sequence encodes
+unfoldable pub scalar-of : List ℕ → ℕ
+scalar-of [] = 0
+scalar-of (a ∷ []) = a
+scalar-of (a ∷ b ∷ []) = (a - 0xC0) * 64 + (b - 0x80)
+scalar-of (a ∷ b ∷ c ∷ []) = (a - 0xE0) * 4096 + (b - 0x80) * 64 + (c - 0x80)
+scalar-of (a ∷ b ∷ c ∷ d ∷ bs) = (a - 0xF0) * 262144 + (b - 0x80) * 4096 + (c - 0x80) * 64 + (d - 0x80)
 
--- a statement on all sequences of a row, and of each of some rows
-abbrev All : Row → (List ℕ → Type 0) → Type 0
-All [] P = P []
-All (low ⋯ high ∷ row) P = (b : ℕ) → low ≤ b → b ≤ high → All row (λ bs. P (b ∷ bs))
+-- a statement on each sequence of a row, and of some rows
+abbrev EachSequence : Row → (List ℕ → Type 0) → Type 0
+EachSequence [] P = P []
+EachSequence (low ⋯ high ∷ row) P = (b : ℕ) → low ≤ b → b ≤ high → EachSequence row (λ bs. P (b ∷ bs))
 
-abbrev AllRows : List Row → (List ℕ → Type 0) → Type 0
-AllRows [] P = Unit {0}
-AllRows (row ∷ rows) P = All row P × AllRows rows P
+abbrev EachRow : List Row → (List ℕ → Type 0) → Type 0
+EachRow [] P = Unit {0}
+EachRow (row ∷ rows) P = EachSequence row P × EachRow rows P
 
-by-bytes : (P : List ℕ → Type 0) {row : Row} {bs : List ℕ} → All row P → Sequence row bs → P bs
+by-bytes : (P : List ℕ → Type 0) {row : Row} {bs : List ℕ} → EachSequence row P → Sequence row bs → P bs
 by-bytes P a done = a
 by-bytes P a (byte {b = b} l h q) = by-bytes (λ bs. P (b ∷ bs)) (a b l h) q
 
-by-rows : (P : List ℕ → Type 0) {rows : List Row} {bs : List ℕ} → AllRows rows P → Character rows bs → P bs
+by-rows : (P : List ℕ → Type 0) {rows : List Row} {bs : List ℕ} → EachRow rows P → Character rows bs → P bs
 by-rows P a (here q) = by-bytes P (a .0) q
 by-rows P a (there k) = by-rows P (a .1) k
 
--- the code is a scalar value whose encoding the bytes are
-pub record Coded (bs : List ℕ) : Type 0 where
-  pub scalar : Scalar (code bs)
-  pub encodes : encode (code bs) ≡ bs
+-- the bytes are the encoding of the scalar value that is read off them
+pub record Decoded (bs : List ℕ) : Type 0 where
+  pub scalar : Scalar (scalar-of bs)
+  pub encodes : encode (scalar-of bs) ≡ bs
 
--- a continuation byte
-abbrev Tail : ℕ → Type 0
-Tail b = (0x80 ≤ b) × (b ≤ 0xBF)
-
-two : (a b : ℕ) → (0xC2 ≤ a) × (a ≤ 0xDF) × Tail b → Coded (a ∷ b ∷ [])
-unfolding code
+two : (a b : ℕ) → (0xC2 ≤ a) × (a ≤ 0xDF) × Continuation b → Decoded (a ∷ b ∷ [])
+unfolding scalar-of
 two a b w =
     let n : ℕ = (a - 0xC0) * 64 + (b - 0x80) in
     let p : 0xC0 + n / 64 ≡ a = omega arith in
     let q : 0x80 + n % 64 ≡ b = omega arith in
     record { scalar = below {c = n} (omega arith); encodes = encode-two n (omega arith) (omega arith) ∙ cc }
 
-three : (a b c : ℕ) → let n = code (a ∷ b ∷ c ∷ []) in
-    (0xE0 ≤ a) × (a ≤ 0xEF) × Tail b × Tail c × (0x800 ≤ n) → Scalar n → Coded (a ∷ b ∷ c ∷ [])
-unfolding code
+three : (a b c : ℕ) → let n = scalar-of (a ∷ b ∷ c ∷ []) in
+    (0xE0 ≤ a) × (a ≤ 0xEF) × Continuation b × Continuation c × (0x800 ≤ n) → Scalar n → Decoded (a ∷ b ∷ c ∷ [])
+unfolding scalar-of
 three a b c w s =
     let n : ℕ = (a - 0xE0) * 4096 + (b - 0x80) * 64 + (c - 0x80) in
     let p : 0xE0 + n / 4096 ≡ a = omega arith in
@@ -128,9 +125,9 @@ three a b c w s =
     let r : 0x80 + n % 64 ≡ c = omega arith in
     record { scalar = s; encodes = encode-three n (omega arith) (omega arith) ∙ cc }
 
-four : (a b c d : ℕ) → let n = code (a ∷ b ∷ c ∷ d ∷ []) in
-    (0xF0 ≤ a) × Tail b × Tail c × Tail d × (0x10000 ≤ n) → Scalar n → Coded (a ∷ b ∷ c ∷ d ∷ [])
-unfolding code
+four : (a b c d : ℕ) → let n = scalar-of (a ∷ b ∷ c ∷ d ∷ []) in
+    (0xF0 ≤ a) × Continuation b × Continuation c × Continuation d × (0x10000 ≤ n) → Scalar n → Decoded (a ∷ b ∷ c ∷ d ∷ [])
+unfolding scalar-of
 four a b c d w s =
     let n : ℕ = (a - 0xF0) * 262144 + (b - 0x80) * 4096 + (c - 0x80) * 64 + (d - 0x80) in
     let p : 0xF0 + n / 262144 ≡ a = omega arith in
@@ -139,9 +136,9 @@ four a b c d w s =
     let t : 0x80 + n % 64 ≡ d = omega arith in
     record { scalar = s; encodes = encode-four n (omega arith) ∙ cc }
 
-all-coded : AllRows table Coded
-unfolding table code
-all-coded = (
+all-decoded : EachRow table Decoded
+unfolding table scalar-of
+all-decoded = (
   λ a l h. record { scalar = below {c = a} (omega arith); encodes = encode-one a (omega arith) },
   (
     λ a l h b i j. two a b (omega arith),
@@ -170,14 +167,14 @@ all-coded = (
   ),
 )
 
--- every sequence of the table encodes the scalar value that is its code
-pub coded : {bs : List ℕ} → Character table bs → Coded bs
-coded k = by-rows Coded all-coded k
+-- every sequence of the table is the encoding of a scalar value
+pub decoded : {bs : List ℕ} → Character table bs → Decoded bs
+decoded k = by-rows Decoded all-decoded k
 
--- and the code of an encoding is what was encoded: no two characters have one encoding
-pub code-encode : (c : ℕ) → code (encode c) ≡ c
-unfolding code
-code-encode c =
+-- what is read off an encoding is what was encoded: no two characters have one encoding
+pub scalar-of-encode : (c : ℕ) → scalar-of (encode c) ≡ c
+unfolding scalar-of
+scalar-of-encode c =
     below-or-from c 0x80 _ (λ a. rw (encode-one c a)) (λ a.
     below-or-from c 0x800 _ (λ b. rw (encode-two c a b) (omega arith)) (λ b.
     below-or-from c 0x10000 _ (λ d. rw (encode-three c b d) (omega arith)) (λ d.

@@ -4,9 +4,9 @@ use Prim.Native.Nat.{ℕ}
 use mathlib.Core.List.{List, [], _∷_, _++_}
 use Rattle.utf8.specs.Scalar.{Scalar, encode}
 
-pub data Scalars : List ℕ → Type 0 where
-  none : Scalars []
-  also : {c : ℕ} {cs : List ℕ} → Scalar c → Scalars cs → Scalars (c ∷ cs)
+abbrev pub Scalars : List ℕ → Type 0
+Scalars [] = Unit {0}
+Scalars (c ∷ cs) = Scalar c × Scalars cs
 
 -- the bytes of a text
 unfoldable pub encode-all : List ℕ → List ℕ
