@@ -1,34 +1,65 @@
--- lexer.rs over characters: `next` and `tokenize`. A source is a list of characters, each by its scalar value.
--- The functions that `next` calls are those of lexer/specs/Lexer, and the tests those of Chars: they read lists of numbers, and an
--- ASCII character's number is its byte. `next` itself goes by the match of lexer.rs, not by a class, and a character that starts
--- nothing is taken as one character, not by its bytes.
+-- lexer.rs over characters. A source is a list of characters, each by its scalar value.
+-- What lexer/specs/Lexer and Chars say as lexer.rs does is taken from there: they read lists of numbers, and an ASCII character's
+-- number is its byte. What they say in another form stands here as in lexer.rs: `match` where they go by classes, the loop of
+-- lex_quoted, and a character that starts nothing, which is one character and not some bytes.
 -- Assumes nothing: these are definitions.
 use Prim.Native.Nat.{ℕ, zero, suc}
 use Prim.Native.Char.{Char, code}
-use mathlib.Core.Bool.{Bool, true, false}
+use mathlib.Core.Bool.{Bool, true, false, not, _&&_, _||_, cond}
 use mathlib.Core.List.{List, [], _∷_}
 use lib.Dec.{eqb}
 use lib.ListN.{take}
-use Rattle.lexer.specs.Syntax.{Error, Whitespace, Newline, Ident, At, Bang, Colon, ColonColon, Comma, Equal, LAngle, LBrace, LBracket, LParen, Minus, Plus, RAngle, RArrow, RBrace, RBracket, RParen, Semicolon, Slash, SlashSlash, Star}
-use Rattle.lexer.specs.Chars.{blank, decimal, letter, word}
-use Rattle.lexer.specs.Lexer.{Lex, one, pick, follow, run, cr, comment, special, number, quoted, dots, Token}
+use Rattle.lexer.specs.Syntax.{Error, Whitespace, Newline, Ident, QuotedIdent, QuotedString, At, Bang, Colon, ColonColon, Comma, Equal, LAngle, LBrace, LBracket, LParen, Minus, Plus, RAngle, RArrow, RBrace, RBracket, RParen, Semicolon, Slash, SlashSlash, Star}
+use Rattle.lexer.specs.Chars.{blank, line-end, decimal, letter, word, graphic}
+use Rattle.lexer.specs.Lexer.{Lexeme, Lex, one, later, pick, follow, run, cr, comment, special, number, dots, Token}
 use Rattle.characters.specs.Text.{encode-all}
 
--- c is the character x
+-- ch == x
 abbrev pub is-char : Char → ℕ → Bool
 is-char x c = eqb c (code x)
 
--- match current { .. }, in its order; `other` stands for what its last arm, `_`, does
+-- lex_trivia
+abbrev pub char-trivia : ℕ → Lex
+char-trivia first =
+    pick (blank first) (run Whitespace blank)
+    (pick (is-char "\n" first) (one Newline)
+    (pick (is-char "\r" first) cr
+    comment))
+
+-- lex_identifier
+abbrev pub char-identifier : ℕ → Lex
+char-identifier first = pick (is-char "$" first) special (run Ident word)
+
+-- lex_quoted: not closed, and closed
+abbrev pub unclosed : Lexeme
+unclosed = record { kind = Error; more = 0 }
+
+abbrev pub closed : (escaped identifier-like : Bool) → Lexeme
+closed escaped identifier-like = record { kind = cond (escaped || not identifier-like) QuotedString QuotedIdent; more = 1 }
+
+-- while let Some(ch) = self.current_char() { match ch { .. } }; behind a backslash the next character is taken, if there is one
+unfoldable mutual
+  pub char-quoted : (escaped identifier-like : Bool) → Lex
+  char-quoted escaped identifier-like [] = unclosed
+  char-quoted escaped identifier-like (c ∷ r) =
+      let t = later (char-escaped r) in
+      let u = later (char-quoted escaped (identifier-like && graphic c) r) in
+      cond (line-end c) unclosed
+      (cond (is-char "\\" c) t
+      (cond (is-char "\"" c) (closed escaped identifier-like)
+      u))
+
+  pub char-escaped : Lex
+  char-escaped [] = unclosed
+  char-escaped (c ∷ r) = later (char-quoted true false r)
+
+-- match current { .. }; `other` stands for what its last arm, `_`, does
 unfoldable pub char-match : ℕ → Lex → Lex
 char-match c other =
-    pick (blank c) (run Whitespace blank)
-    (pick (is-char "\n" c) (one Newline)
-    (pick (is-char "\r" c) cr
-    (pick (is-char "#" c) comment
-    (pick (letter c) (run Ident word)
-    (pick (is-char "$" c) special
+    pick (blank c || (is-char "\n" c || (is-char "\r" c || is-char "#" c))) (char-trivia c)
+    (pick (letter c || is-char "$" c) (char-identifier c)
     (pick (decimal c) (number c)
-    (pick (is-char "\"" c) (quoted false true)
+    (pick (is-char "\"" c) (char-quoted false true)
     (pick (is-char "@" c) (one At)
     (pick (is-char "!" c) (one Bang)
     (pick (is-char ":" c) (follow (code ":") (one ColonColon) (one Colon))
@@ -48,7 +79,7 @@ char-match c other =
     (pick (is-char "/" c) (follow (code "/") (one SlashSlash) (one Slash))
     (pick (is-char "*" c) (one Star)
     (pick (is-char ";" c) (one Semicolon)
-    other))))))))))))))))))))))))))
+    other))))))))))))))))))))))
 
 -- _ => { self.advance_char(); Error }
 unfoldable pub char-next : ℕ → Lex

@@ -110,7 +110,7 @@ pub record Decoded (bs : List ℕ) : Type 0 where
 two : (a b : ℕ) → (0xC2 ≤ a) × (a ≤ 0xDF) × Continuation b → Decoded (a ∷ b ∷ [])
 unfolding scalar-of
 two a b w =
-    let n : ℕ = (a - 0xC0) * 64 + (b - 0x80) in
+    let n = scalar-of (a ∷ b ∷ []) in
     let p : 0xC0 + n / 64 ≡ a = omega arith in
     let q : 0x80 + n % 64 ≡ b = omega arith in
     record { scalar = below {c = n} (omega arith); encodes = encode-two n (omega arith) (omega arith) ∙ cc }
@@ -119,7 +119,7 @@ three : (a b c : ℕ) → let n = scalar-of (a ∷ b ∷ c ∷ []) in
     (0xE0 ≤ a) × (a ≤ 0xEF) × Continuation b × Continuation c × (0x800 ≤ n) → Scalar n → Decoded (a ∷ b ∷ c ∷ [])
 unfolding scalar-of
 three a b c w s =
-    let n : ℕ = (a - 0xE0) * 4096 + (b - 0x80) * 64 + (c - 0x80) in
+    let n = scalar-of (a ∷ b ∷ c ∷ []) in
     let p : 0xE0 + n / 4096 ≡ a = omega arith in
     let q : 0x80 + n / 64 % 64 ≡ b = omega arith in
     let r : 0x80 + n % 64 ≡ c = omega arith in
@@ -129,7 +129,7 @@ four : (a b c d : ℕ) → let n = scalar-of (a ∷ b ∷ c ∷ d ∷ []) in
     (0xF0 ≤ a) × Continuation b × Continuation c × Continuation d × (0x10000 ≤ n) → Scalar n → Decoded (a ∷ b ∷ c ∷ d ∷ [])
 unfolding scalar-of
 four a b c d w s =
-    let n : ℕ = (a - 0xF0) * 262144 + (b - 0x80) * 4096 + (c - 0x80) * 64 + (d - 0x80) in
+    let n = scalar-of (a ∷ b ∷ c ∷ d ∷ []) in
     let p : 0xF0 + n / 262144 ≡ a = omega arith in
     let q : 0x80 + n / 4096 % 64 ≡ b = omega arith in
     let r : 0x80 + n / 64 % 64 ≡ c = omega arith in

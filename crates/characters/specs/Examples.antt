@@ -12,7 +12,7 @@ use Rattle.lexer.specs.Chars.{class, punctuation}
 use Rattle.lexer.specs.Lexer.{follow, advance-while, run, same, special, quoted, stray, arm, next, tokens, tokenize}
 use Rattle.lexer.specs.Tokens.{kindOf, ends, token-ends}
 use Rattle.characters.specs.Text.{encode-all}
-use Rattle.characters.specs.CharLexer.{char-match, char-next, char-tokens, char-tokenize}
+use Rattle.characters.specs.CharLexer.{char-quoted, char-match, char-next, char-tokens, char-tokenize}
 
 unfoldable pub characters-of : String → List ℕ
 characters-of empty = []
@@ -49,6 +49,6 @@ examples =
     ∷ []
 
 pub shown : map lexed examples ≡ examples
-unfolding examples lexed characters-of encode-all encode char-tokenize char-tokens char-next char-match
+unfolding examples lexed characters-of encode-all encode char-tokenize char-tokens char-next char-match char-quoted
     tokenize tokens next arm class punctuation follow advance-while run same special quoted stray ends width
 shown = refl

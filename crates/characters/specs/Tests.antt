@@ -56,4 +56,4 @@ module _ (n : ℕ) (h : 0x80 ≤ n) where
   -- it starts nothing
   pub match-other : (f : Lex) → char-match n f ≡ f
   unfolding char-match
-  match-other f = search (past, no-blank, no-letter, no-decimal, not-at) depth 40
+  match-other f = search (past, neither, no-blank, no-letter, no-decimal, not-at) depth 40
