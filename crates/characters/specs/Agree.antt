@@ -13,7 +13,7 @@ use Rattle.lexer.specs.Chars.{word}
 use Rattle.lexer.specs.Lexer.{Lexeme, Lex, one, later, pick, follow, advance-while, run, same, kernel, exec, special}
 use Rattle.utf8.specs.Scalar.{encode}
 use Rattle.characters.specs.Text.{encode-all}
-use Rattle.characters.specs.Spelling.{High, Spelling, ascii, wide, spelling}
+use Rattle.characters.specs.Spelling.{HighBytes, Spelling, ascii, wide, spelling}
 use Rattle.characters.specs.Tests.{not-at, no-word}
 
 -- a lexeme of the characters cs, counted in bytes
@@ -61,13 +61,13 @@ agree-follow x {f} {g} l p q = record { agrees = follows x l f g p q }
 abbrev pub Plain : (ℕ → Bool) → Bool → Type 0
 Plain p t = (n : ℕ) → 0x80 ≤ n → p n ≡ t
 
-advance-high : (p : ℕ → Bool) → Plain p true → (bs s : List ℕ) → High bs → advance-while p (bs ++ s) ≡ length bs + advance-while p s
+advance-high : (p : ℕ → Bool) → Plain p true → (bs s : List ℕ) → HighBytes bs → advance-while p (bs ++ s) ≡ length bs + advance-while p s
 unfolding advance-while
 advance-high p a [] s w = omega arith
 advance-high p a (b ∷ bs) s w = rw (a b (w .0), advance-high p a bs s (w .1)) (omega arith)
 
 module _ (p : ℕ → Bool) where
-  advance-wide : (t : Bool) → Plain p t → (c : ℕ) (r : List ℕ) (b : ℕ) (bs : List ℕ) → 0x80 ≤ c → encode c ≡ b ∷ bs → High (b ∷ bs)
+  advance-wide : (t : Bool) → Plain p t → (c : ℕ) (r : List ℕ) (b : ℕ) (bs : List ℕ) → 0x80 ≤ c → encode c ≡ b ∷ bs → HighBytes (b ∷ bs)
       → advance-while p (encode-all r) ≡ length (encode-all (take (advance-while p r) r))
       → advance-while p (b ∷ (bs ++ encode-all r)) ≡ length (encode-all (take (advance-while p (c ∷ r)) (c ∷ r)))
   unfolding advance-while encode-all

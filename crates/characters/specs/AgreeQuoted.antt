@@ -11,7 +11,7 @@ use Rattle.lexer.specs.Chars.{line-end, graphic}
 use Rattle.lexer.specs.Lexer.{Lexeme, later, unescaped, quoted}
 use Rattle.utf8.specs.Scalar.{encode}
 use Rattle.characters.specs.Text.{encode-all}
-use Rattle.characters.specs.Spelling.{High, Spelling, ascii, wide, spelling}
+use Rattle.characters.specs.Spelling.{HighBytes, Spelling, ascii, wide, spelling}
 use Rattle.characters.specs.Tests.{not-at, no-line-end, no-graphic}
 use Rattle.characters.specs.Agree.{Agrees, spelled, spelled-later}
 
@@ -28,14 +28,14 @@ plus n t = record { kind = t .kind; more = n + t .more }
 by-more : (k m n : ℕ) → m ≡ n → _≡_ {A = Lexeme} (record { kind = k; more = m }) (record { kind = k; more = n })
 by-more k m n e = ap (λ (x : ℕ). record { kind = k; more = x }) e
 
-quoted-highs : (bs s : List ℕ) → High bs → quoted false false (bs ++ s) ≡ plus (length bs) (quoted false false s)
+quoted-highs : (bs s : List ℕ) → HighBytes bs → quoted false false (bs ++ s) ≡ plus (length bs) (quoted false false s)
 quoted-highs [] s w = by-more (quoted false false s .kind) _ _ (omega arith)
 quoted-highs (b ∷ bs) s w =
     quoted-high false b (bs ++ s) (w .0) ∙ ap later (quoted-highs bs s (w .1))
     ∙ by-more (quoted false false s .kind) _ _ (omega arith)
 
 -- a character of several bytes, of which the first is passed over
-rest-passed : (c : ℕ) (r : List ℕ) (b : ℕ) (bs : List ℕ) → encode c ≡ b ∷ bs → High bs
+rest-passed : (c : ℕ) (r : List ℕ) (b : ℕ) (bs : List ℕ) → encode c ≡ b ∷ bs → HighBytes bs
     → quoted false false (encode-all r) ≡ spelled (quoted false false r) r
     → later (quoted false false (bs ++ encode-all r)) ≡ spelled (later (quoted false false r)) (c ∷ r)
 unfolding encode-all

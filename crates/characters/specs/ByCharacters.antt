@@ -13,7 +13,7 @@ use Rattle.utf8.specs.WellFormed.{WellFormed}
 use Rattle.characters.specs.Text.{Scalars, encode-all}
 use Rattle.characters.specs.Decode.{decodes, encode-once}
 use Rattle.characters.specs.CharLexer.{char-next, char-tokens, char-tokenize, encoded}
-use Rattle.characters.specs.Spelling.{High, Spelling, ascii, wide, spelling}
+use Rattle.characters.specs.Spelling.{HighBytes, Spelling, ascii, wide, spelling}
 use Rattle.characters.specs.Agree.{take-encoded, drop-encoded}
 use Rattle.characters.specs.AgreeNext.{next-ascii, next-wide, char-next-wide}
 
@@ -37,7 +37,7 @@ first-ascii c r h e =
     (tokenize-cons c (encode-all r) ∙ ap (by-lexeme c (encode-all r)) (next-ascii c h r)
     ∙ rw (take-encoded m r, drop-encoded m r))
 
-first-wide : (c : ℕ) (r : List ℕ) (b : ℕ) (bs : List ℕ) → 0x80 ≤ c → encode c ≡ b ∷ bs → High (b ∷ bs) → width b ≡ suc (length bs)
+first-wide : (c : ℕ) (r : List ℕ) (b : ℕ) (bs : List ℕ) → 0x80 ≤ c → encode c ≡ b ∷ bs → HighBytes (b ∷ bs) → width b ≡ suc (length bs)
     → First c r
 unfolding encode-all
 first-wide c r b bs h e w n =

@@ -30,27 +30,27 @@ char-trivia first =
 abbrev pub char-identifier : ℕ → Lex
 char-identifier first = pick (is-char "$" first) special (run Ident word)
 
--- lex_quoted: not closed, and closed
-abbrev pub unclosed : Lexeme
-unclosed = record { kind = Error; more = 0 }
+-- what lex_quoted gives where the quote was not closed, and where it was, by its flags
+abbrev pub unclosed-quote : Lexeme
+unclosed-quote = record { kind = Error; more = 0 }
 
-abbrev pub closed : (escaped identifier-like : Bool) → Lexeme
-closed escaped identifier-like = record { kind = cond (escaped || not identifier-like) QuotedString QuotedIdent; more = 1 }
+abbrev pub closed-quote : (escaped identifier-like : Bool) → Lexeme
+closed-quote escaped identifier-like = record { kind = cond (escaped || not identifier-like) QuotedString QuotedIdent; more = 1 }
 
 -- while let Some(ch) = self.current_char() { match ch { .. } }; behind a backslash the next character is taken, if there is one
 unfoldable mutual
   pub char-quoted : (escaped identifier-like : Bool) → Lex
-  char-quoted escaped identifier-like [] = unclosed
+  char-quoted escaped identifier-like [] = unclosed-quote
   char-quoted escaped identifier-like (c ∷ r) =
       let t = later (char-escaped r) in
       let u = later (char-quoted escaped (identifier-like && graphic c) r) in
-      cond (line-end c) unclosed
+      cond (line-end c) unclosed-quote
       (cond (is-char "\\" c) t
-      (cond (is-char "\"" c) (closed escaped identifier-like)
+      (cond (is-char "\"" c) (closed-quote escaped identifier-like)
       u))
 
   pub char-escaped : Lex
-  char-escaped [] = unclosed
+  char-escaped [] = unclosed-quote
   char-escaped (c ∷ r) = later (char-quoted true false r)
 
 -- match current { .. }; `other` stands for what its last arm, `_`, does

@@ -19,15 +19,15 @@ characters-of empty = []
 characters-of (c before s) = code c ∷ characters-of s
 
 -- the kinds of a source's tokens, and where they end
-pub record Example : Type 0 where
+pub record WideExample : Type 0 where
   pub source : String
   pub kinds : List ℕ
   pub in-characters : List ℕ
   pub in-bytes : List ℕ
 
 -- by characters: the kinds and the ends; by bytes: the ends
-unfoldable pub lexed : Example → Example
-lexed e =
+unfoldable pub lexed-both-ways : WideExample → WideExample
+lexed-both-ways e =
     let cs = characters-of (e .source) in
     record {
       source = e .source;
@@ -37,8 +37,8 @@ lexed e =
     }
 
 -- Stray characters are a token each, behind a word too. A comment, a quote and a backslash take whole characters.
-pub examples : List Example
-examples =
+pub wide-examples : List WideExample
+wide-examples =
     record { source = "é€😀"; kinds = Error ∷ Error ∷ Error ∷ []; in-characters = 1 ∷ 2 ∷ 3 ∷ []; in-bytes = 2 ∷ 5 ∷ 9 ∷ [] }
     ∷ record { source = "aé1"; kinds = Ident ∷ Error ∷ Number ∷ []; in-characters = 1 ∷ 2 ∷ 3 ∷ []; in-bytes = 1 ∷ 3 ∷ 4 ∷ [] }
     ∷ record { source = "$é"; kinds = Error ∷ Error ∷ []; in-characters = 1 ∷ 2 ∷ []; in-bytes = 1 ∷ 3 ∷ [] }
@@ -48,7 +48,7 @@ examples =
     ∷ record { source = "\"é\n"; kinds = Error ∷ Newline ∷ []; in-characters = 2 ∷ 3 ∷ []; in-bytes = 3 ∷ 4 ∷ [] }
     ∷ []
 
-pub shown : map lexed examples ≡ examples
-unfolding examples lexed characters-of encode-all encode char-tokenize char-tokens char-next char-match char-quoted
+pub wide-shown : map lexed-both-ways wide-examples ≡ wide-examples
+unfolding wide-examples lexed-both-ways characters-of encode-all encode char-tokenize char-tokens char-next char-match char-quoted
     tokenize tokens next arm class punctuation follow advance-while run same special quoted stray ends width
-shown = refl
+wide-shown = refl

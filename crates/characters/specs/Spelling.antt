@@ -11,13 +11,13 @@ use Rattle.utf8.specs.Scalar.{encode}
 use Rattle.characters.specs.Encoding.{below-or-from, encode-one, encode-two, encode-three, encode-four}
 
 -- all bytes are 0x80 or more
-abbrev pub High : List ℕ → Type 0
-High [] = Unit {0}
-High (b ∷ bs) = (0x80 ≤ b) × High bs
+abbrev pub HighBytes : List ℕ → Type 0
+HighBytes [] = Unit {0}
+HighBytes (b ∷ bs) = (0x80 ≤ b) × HighBytes bs
 
 pub data Spelling (c : ℕ) : Type 0 where
   ascii : c < 0x80 → encode c ≡ c ∷ [] → Spelling c
-  wide : (b : ℕ) (bs : List ℕ) → 0x80 ≤ c → encode c ≡ b ∷ bs → High (b ∷ bs) → width b ≡ suc (length bs) → Spelling c
+  wide : (b : ℕ) (bs : List ℕ) → 0x80 ≤ c → encode c ≡ b ∷ bs → HighBytes (b ∷ bs) → width b ≡ suc (length bs) → Spelling c
 
 pub spelling : (c : ℕ) → Spelling c
 spelling c =
