@@ -1,11 +1,10 @@
 -- Sources written as text, and their readings computed, for examples and samples.
 -- Assumes nothing: these are definitions.
-use Prim.Native.Nat.{ℕ, _+_, _/_, _%_}
+use Prim.Native.Nat.{ℕ}
 use Prim.Native.Char.{code}
 use Prim.Native.String.{String, [] as empty, _∷_ as _before_}
-use mathlib.Core.Bool.{cond}
-use mathlib.Core.List.{List, [], _∷_, _++_}
-use lib.Dec.{ltb}
+use mathlib.Core.List.{List, [], _++_}
+use Rattle.utf8.specs.Scalar.{encode}
 use Rattle.utf8.specs.Width
 use Rattle.utf8.specs.Last
 use Rattle.lexer.specs.Chars
@@ -26,17 +25,10 @@ use Rattle.grammar.specs.Out
 use Rattle.grammar.specs.Out.{Place}
 use Rattle.grammar.specs.Source.{Reading, reading}
 
--- A character's bytes in UTF-8, by its code: behind the first byte six bits a byte.
-unfoldable pub utf8 : ℕ → List ℕ
-utf8 n =
-    cond (ltb n 0x80) (n ∷ [])
-    (cond (ltb n 0x800) ((0xC0 + n / 64) ∷ (0x80 + n % 64) ∷ [])
-    (cond (ltb n 0x10000) ((0xE0 + n / 4096) ∷ (0x80 + n / 64 % 64) ∷ (0x80 + n % 64) ∷ [])
-    ((0xF0 + n / 262144) ∷ (0x80 + n / 4096 % 64) ∷ (0x80 + n / 64 % 64) ∷ (0x80 + n % 64) ∷ [])))
-
+-- a text's bytes
 unfoldable pub bytes : String → List ℕ
 bytes empty = []
-bytes (c before s) = utf8 (code c) ++ bytes s
+bytes (c before s) = encode (code c) ++ bytes s
 
 -- A diagnostic: the message's number, start and end.
 infix 70 _from_to_
@@ -49,7 +41,7 @@ read s k e v d = record { source = bytes s; kinds = k; ends = e; events = v; dia
 
 -- The reading's source, read at the limit 256. To unfold `again` is to unfold what its line names: all that computes.
 unfoldable pub again : Reading → Reading
-unfolding utf8 bytes Last.last-from Width.width Chars.class Chars.punctuation Lexer.tokenize
+unfolding encode bytes Last.last-from Width.width Chars.class Chars.punctuation Lexer.tokenize
     Lexer.tokens Lexer.next Lexer.arm Lexer.stray Lexer.quoted Lexer.special Lexer.run Lexer.same Lexer.advance-while Lexer.follow
     Tokens.ends Out.events Out.diags Words.symOf Words.wordOf Words.numberIn Words.words Item.parse Item.items-in Item.items
     Item.parse-source-item Item.at-procedure Item.at-declaration Item.parse-advice-map Item.parse-type-decl Item.type-name-and-body

@@ -9,3 +9,4 @@ pub mod Rows
 pub mod Laws
 pub mod Characters
 pub mod Last
+pub mod Scalar
