@@ -11,11 +11,13 @@ pub mod StableItem
 pub mod Numbers
 pub mod Here
 pub mod Stops
+pub mod Hush
 pub mod Live
 pub mod Loops
 pub mod LiveLine
 pub mod LiveBlock
 pub mod LiveItem
+pub mod Tame
 pub mod High
 pub mod Cost
 pub mod EventCost

@@ -8,7 +8,7 @@ use Rattle.grammar.specs.Words.{Sym}
 use Rattle.grammar.specs.Words.{File, from}
 use Rattle.grammar.specs.Look
 use Rattle.grammar.specs.Run
-use Rattle.grammar.specs.Run.{Res, Kind, num, P, pure, peek, inNode, pick, _>>=_, _>>_, if_then_else_, take, scan, Round, stop, go, warn, turn}
+use Rattle.grammar.specs.Run.{Kind, num, P, pure, peek, inNode, pick, _>>=_, _>>_, if_then_else_, take, scan, Round, stop, go, warn, turn}
 use Rattle.grammar.specs.Bump.{bump-while}
 use Rattle.grammar.specs.State.{State, after, run}
 use Rattle.grammar.specs.Laws.Code.{run-bind, run-node, run-pure}
