@@ -2,14 +2,13 @@
 -- Assumes nothing.
 use Prim.Native.Nat.{ℕ, zero, suc, _+_, _*_}
 use mathlib.Core.Path.{_≡_, refl}
-use mathlib.Core.Bool.{Bool, true, false, cond, _&&_, _||_}
+use mathlib.Core.Bool.{Bool, true, false}
 use mathlib.Core.List.{List, [], _∷_}
-use lib.Dec.{eqb, leb}
 use lib.ListN.{length}
 use Rattle.grammar.specs.Words.{Sym}
 use Rattle.grammar.specs.Look.{at}
 use Rattle.grammar.specs.Run.{Kind, Res, P, pure, peek, inNode, pick, _>>=_, if_then_else_, take, err, Round, stop, go, warn, turn, scan, repeat, loop}
-use Rattle.grammar.specs.Message.{Message, number, missingEndNumber, blockNumber, NestingTooDeep}
+use Rattle.grammar.specs.Message.{Message, number, missingEndNumber}
 use Rattle.grammar.specs.Nesting.{Nesting, Bumped, bump-by, counted, bump-nesting}
 use Rattle.grammar.specs.Bump.{while-round, bump-while, expect-kind, expect-name, error-token}
 use Rattle.grammar.specs.Path.{path-segment, path-round, parse-path-with-message, group-round, parse-balanced-group}
@@ -18,16 +17,10 @@ use Rattle.grammar.specs.Instruction.{instruction-round, parse-instructi
 use Rattle.grammar.specs.Block.{BlockOwner, BlockRecoveryBoundary, suffix-operand, suffix-round, parse-structured-header-suffixes, recover}
 use Rattle.grammar.specs.Item.{package-in-parens, parse-visibility, optional-visibility, parse-attribute, parse-results, parse-signature, parse-namespace, parse-submodule, attribute-round, parse-constant, type-name-and-body, parse-type-decl, parse-advice-map}
 use Rattle.grammar.specs.declared.nesting.Closer.{Closer}
+use Rattle.grammar.specs.Endings.{ending}
 use Rattle.grammar.specs.Laws.Good.{Calm}
 use Rattle.grammar.specs.Laws.Hush.{Hush, hush-while, hush-tail, hush-group, hush-all, hush-expr, hush-type, hush-result, hush-instruction, scan-calm}
 use Rattle.grammar.specs.Laws.Live.{calm-join}
-
--- A missing closer, 1 to 7; or the depth diagnostic, 49.
-abbrev pub missing : ℕ → Bool
-missing m = leb 1 m && leb m 7
-
-abbrev pub ending : ℕ → Bool
-ending m = missing m || eqb (blockNumber NestingTooDeep) m
 
 pub record Tame {A : Type 0} (f : P A) : Type 0 where
   pub tame : (r : List Sym) → Calm ending (f r .out)
