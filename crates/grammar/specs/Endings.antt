@@ -2,7 +2,7 @@
 -- control form more than the limit puts the rest of the file in one Error node, and no missing closer is then reported.
 -- Assumes nothing: these are definitions.
 use Prim.Native.Nat.{ℕ}
-use mathlib.Core.Bool.{Bool, true, false, cond, _&&_, _||_}
+use mathlib.Core.Bool.{Bool, cond, _&&_, _||_}
 use mathlib.Core.List.{List, [], _∷_}
 use lib.Dec.{eqb, leb}
 use Rattle.grammar.specs.Run.{Kind, Error, BeginBlock, Procedure, Block, IfOp, WhileOp, DoWhileOp, RepeatOp, Forest, nil, node, say, _<>_}

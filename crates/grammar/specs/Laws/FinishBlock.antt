@@ -29,7 +29,14 @@ pub data BlockEnd (w : BlockOwner) : Forest → Type 0 where
 pub data LastBlock : Kind → Forest → Type 0 where
   of-block : (w : BlockOwner) (y z : Forest) → Calm ending y → BlockEnd w z → LastBlock (holder w) (node Block (y <> z) nil)
 
-block-node : (w : BlockOwner) {f : P BlockParseOutcome} → Finishes (BlockEnd w) BlockParseOutcome.ReachedEof f → Finishes (LastBlock (holder w)) BlockParseOutcome.ReachedEof (inNode Block f)
+-- A block of w, and the Block node around it.
+abbrev pub EndsBlock : BlockOwner → P BlockParseOutcome → Type 0
+EndsBlock w f = Finishes (BlockEnd w) BlockParseOutcome.ReachedEof f
+
+abbrev pub EndsNode : BlockOwner → P BlockParseOutcome → Type 0
+EndsNode w f = Finishes (LastBlock (holder w)) BlockParseOutcome.ReachedEof f
+
+block-node : (w : BlockOwner) {f : P BlockParseOutcome} → EndsBlock w f → EndsNode w (inNode Block f)
 unfolding inNode
 block-node w {f} F = record { finish = λ r. c r (F .finish r) }
   where
@@ -49,7 +56,7 @@ form-node k {f} F = record { finish = λ r. c r (F .finish r) }
     c r (silent h) = silent (h, tt)
     c r (met-end y z h q e l v) = met-end nil (node k (y <> z) nil) tt (in-node k y z h q) (ap (λ x. node k x nil) e) l v
 
-module _ {blk : Blocks} (h : (w : BlockOwner) (t : Terminators) (d : ℕ) → Finishes (LastBlock (holder w)) BlockParseOutcome.ReachedEof (blk w t d)) (s : (w : BlockOwner) (t : Terminators) (d : ℕ) → Stops t (blk w t d)) where
+module _ {blk : Blocks} (h : (w : BlockOwner) (t : Terminators) (d : ℕ) → EndsNode w (blk w t d)) (s : (w : BlockOwner) (t : Terminators) (d : ℕ) → Stops t (blk w t d)) where
   -- A form's last block.
   last-of : (w : BlockOwner) (d : ℕ) → Finishes (LastBlock (holder w)) true (parse-line-tail >> blk w Terminators.End d >>= ended w)
   last-of w d = finishes-after tame-tail (λ a. finishes-ended w (h w Terminators.End d) (s w Terminators.End d))
@@ -112,8 +119,8 @@ unfolding reject-excessive-control-flow-nesting _>>=_ inNode err pure number
 finishes-reject = record { finish = λ r. met-end nil _ tt (Unclosed.rest-of-file (scan all-round true r .out) (scan-calm all-round hush-all true r)) refl (rejected r) refl }
 
 -- The end of the file.
-finishes-eof : (w : BlockOwner) {g : P BlockParseOutcome} → Finishes (BlockEnd w) BlockParseOutcome.ReachedEof g →
-    Finishes (BlockEnd w) BlockParseOutcome.ReachedEof (if eof then (err (number (Message.MissingEnd w)) >> pure BlockParseOutcome.ReachedEof) else g)
+finishes-eof : (w : BlockOwner) {g : P BlockParseOutcome} → EndsBlock w g →
+    EndsBlock w (if eof then (err (number (Message.MissingEnd w)) >> pure BlockParseOutcome.ReachedEof) else g)
 unfolding _>>=_ peek eof err pure number
 finishes-eof w {g} G = record { finish = c }
   where
@@ -121,8 +128,8 @@ finishes-eof w {g} G = record { finish = c }
     c [] = met-end nil (say (missingEndNumber w) nil) tt own-report refl refl refl
     c (s ∷ r) = G .finish (s ∷ r)
 
-module _ {again : Blocks} (h : (w : BlockOwner) (t : Terminators) (d : ℕ) → Finishes (BlockEnd w) BlockParseOutcome.ReachedEof (again w t d)) (s : (w : BlockOwner) (t : Terminators) (d : ℕ) → Stops t (again w t d)) where
-  finishes-round : (lim : ℕ) (w : BlockOwner) (t : Terminators) (d : ℕ) → Finishes (BlockEnd w) BlockParseOutcome.ReachedEof (block-round again lim w t d)
+module _ {again : Blocks} (h : (w : BlockOwner) (t : Terminators) (d : ℕ) → EndsBlock w (again w t d)) (s : (w : BlockOwner) (t : Terminators) (d : ℕ) → Stops t (again w t d)) where
+  finishes-round : (lim : ℕ) (w : BlockOwner) (t : Terminators) (d : ℕ) → EndsBlock w (block-round again lim w t d)
   unfolding block-round number
   finishes-round lim w t d =
       finishes-eof w
@@ -135,7 +142,7 @@ module _ {again : Blocks} (h : (w : BlockOwner) (t : Terminators) (d : ℕ) → 
       (finishes-if (at starts-instruction) (finishes-after tame-instruction (λ a. h w t d))
       (finishes-after (tame-error-token _ refl) (λ a. h w t d)))))))))
     where
-      inner : (w : BlockOwner) (t : Terminators) (d : ℕ) → Finishes (LastBlock (holder w)) BlockParseOutcome.ReachedEof (inNode Block (again w t d))
+      inner : (w : BlockOwner) (t : Terminators) (d : ℕ) → EndsNode w (inNode Block (again w t d))
       inner w t d = block-node w (h w t d)
 
       stop : (w : BlockOwner) (t : Terminators) (d : ℕ) → Stops t (inNode Block (again w t d))
@@ -144,14 +151,14 @@ module _ {again : Blocks} (h : (w : BlockOwner) (t : Terminators) (d : ℕ) → 
       next : Bool → P BlockParseOutcome
       next e = pick e (pure BlockParseOutcome.ReachedEof) (again w t d)
 
-      into : (e : Bool) → Finishes (BlockEnd w) BlockParseOutcome.ReachedEof (next e)
+      into : (e : Bool) → EndsBlock w (next e)
       into e = finishes-pick e (finishes-tame (tame-pure _)) (h w t d)
 
-finishes-loop : (n lim : ℕ) (w : BlockOwner) (t : Terminators) (d : ℕ) → Finishes (BlockEnd w) BlockParseOutcome.ReachedEof (block-loop n lim w t d)
+finishes-loop : (n lim : ℕ) (w : BlockOwner) (t : Terminators) (d : ℕ) → EndsBlock w (block-loop n lim w t d)
 unfolding block-loop
 finishes-loop zero lim w t d = finishes-tame (tame-bind (tame-err 0 refl) (λ a. tame-pure _))
 finishes-loop (suc n) lim w t d = finishes-round (finishes-loop n lim) (stops-loop n lim) lim w t d
 
-pub finishes-block : (lim : ℕ) (w : BlockOwner) (t : Terminators) (d : ℕ) → Finishes (LastBlock (holder w)) BlockParseOutcome.ReachedEof (parse-block lim w t d)
+pub finishes-block : (lim : ℕ) (w : BlockOwner) (t : Terminators) (d : ℕ) → EndsNode w (parse-block lim w t d)
 unfolding parse-block block-in
 finishes-block lim w t d = block-node w (record { finish = λ r. finishes-loop (suc (length r)) lim w t d .finish r })

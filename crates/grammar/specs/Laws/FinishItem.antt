@@ -2,7 +2,7 @@
 -- Assumes nothing.
 use Prim.Native.Nat.{ℕ, zero, suc, _<_}
 use mathlib.Core.Path.{_≡_, refl, _∙_, ap}
-use mathlib.Core.Bool.{Bool, true, false, not}
+use mathlib.Core.Bool.{Bool, true, not}
 use mathlib.Core.List.{List, [], _∷_}
 use lib.ListN.{length}
 use native.Mathlib.Omega.{arith}
@@ -11,18 +11,18 @@ use Rattle.grammar.specs.Words.{Sym, is, ADV-MAP, BEGIN, CONST, ENUM, MO
 use Rattle.grammar.specs.Look.{regular-trivia, at, eof}
 use Rattle.grammar.specs.Run.{BeginBlock, Procedure, _<>_, Res, pure, peek, _>>=_}
 use Rattle.grammar.specs.Message.{number}
-use Rattle.grammar.specs.Block.{BlockOwner, Terminators, BlockParseOutcome, Blocks, parse-block}
+use Rattle.grammar.specs.Block.{BlockOwner, Terminators, Blocks, parse-block}
 use Rattle.grammar.specs.Item.{procedure-body, parse-procedure, parse-begin-block, at-declaration, at-procedure, parse-source-item, items}
-use Rattle.grammar.specs.Endings.{holder, Unclosed}
+use Rattle.grammar.specs.Endings.{Unclosed}
 use Rattle.grammar.specs.Laws.Stops.{Stops, stops-block}
 use Rattle.grammar.specs.Laws.Live.{some}
 use Rattle.grammar.specs.Laws.LiveBlock.{live-block}
 use Rattle.grammar.specs.Laws.LiveItem.{eats-item}
 use Rattle.grammar.specs.Laws.Tame.{tame-pure, tame-take, tame-node, tame-if, tame-while, tame-tail, tame-expect, tame-name, tame-error-token, tame-visibility, tame-attributes, tame-signature, tame-namespace, tame-submodule, tame-constant, tame-type, tame-advice-map}
 use Rattle.grammar.specs.Laws.Finish.{Final, silent, met-end, Finishes, app-nil, after, finishes-tame, finishes-pick, finishes-if, finishes-after, finishes-closing}
-use Rattle.grammar.specs.Laws.FinishBlock.{LastBlock, form-node, finishes-block}
+use Rattle.grammar.specs.Laws.FinishBlock.{LastBlock, EndsNode, form-node, finishes-block}
 
-module _ {blk : Blocks} (h : (w : BlockOwner) (t : Terminators) (d : ℕ) → Finishes (LastBlock (holder w)) BlockParseOutcome.ReachedEof (blk w t d)) (s : (w : BlockOwner) (t : Terminators) (d : ℕ) → Stops t (blk w t d)) where
+module _ {blk : Blocks} (h : (w : BlockOwner) (t : Terminators) (d : ℕ) → EndsNode w (blk w t d)) (s : (w : BlockOwner) (t : Terminators) (d : ℕ) → Stops t (blk w t d)) where
   begin-item : Finishes Unclosed true (parse-begin-block blk)
   unfolding parse-begin-block number
   begin-item = form-node BeginBlock (finishes-after (tame-expect _ _ refl) (λ a. finishes-after tame-tail (λ a. finishes-closing BlockOwner.Begin (h BlockOwner.Begin Terminators.End 0) (s BlockOwner.Begin Terminators.End 0))))

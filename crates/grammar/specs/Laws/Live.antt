@@ -3,13 +3,13 @@
 -- Assumes nothing.
 use Prim.Native.Nat.{ℕ, zero, suc, _≤_, _<_}
 use mathlib.Core.Path.{_≡_, refl, ap}
-use mathlib.Core.Bool.{Bool, true, false, cond, not, _&&_, false≢true}
+use mathlib.Core.Bool.{Bool, true, false, not, _&&_, false≢true}
 use mathlib.Core.List.{List, [], _∷_}
 use lib.ListN.{length, length-append}
 use native.Mathlib.Omega.{arith}
 use Rattle.grammar.specs.Words.{Sym}
 use Rattle.grammar.specs.Look.{at, eof}
-use Rattle.grammar.specs.Run.{Kind, Forest, nil, leaf, node, say, _<>_, Res, P, pure, peek, inNode, pick, _>>=_, if_then_else_, take, err, Round, stop, go, warn, turn, scan, repeat, loop}
+use Rattle.grammar.specs.Run.{Kind, Forest, nil, leaf, node, say, _<>_, P, pure, peek, inNode, pick, _>>=_, if_then_else_, take, err, Round, stop, go, warn, turn, scan, repeat, loop}
 use Rattle.grammar.specs.Laws.Good.{Calm, scan-split}
 use Rattle.grammar.specs.Laws.Hush.{Hush, scan-calm}
 use Rattle.grammar.specs.Laws.Numbers.{stray}

@@ -6,10 +6,8 @@ use mathlib.Core.Bool.{Bool, true, false}
 use mathlib.Core.List.{List, [], _∷_}
 use lib.ListN.{length}
 use Rattle.grammar.specs.Words.{Sym}
-use Rattle.grammar.specs.Look.{at}
-use Rattle.grammar.specs.Run.{Kind, Res, P, pure, peek, inNode, pick, _>>=_, if_then_else_, take, err, Round, stop, go, warn, turn, scan, repeat, loop}
+use Rattle.grammar.specs.Run.{Kind, P, pure, peek, inNode, pick, _>>=_, if_then_else_, take, err, Round, scan, repeat, loop}
 use Rattle.grammar.specs.Message.{Message, number, missingEndNumber}
-use Rattle.grammar.specs.Nesting.{Nesting, Bumped, bump-by, counted, bump-nesting}
 use Rattle.grammar.specs.Bump.{while-round, bump-while, expect-kind, expect-name, error-token}
 use Rattle.grammar.specs.Path.{path-segment, path-round, parse-path-with-message, group-round, parse-balanced-group}
 use Rattle.grammar.specs.Line.{expr-round, parse-expr-until-line-end, type-round, parse-type-body, tail-round, parse-line-tail, result-round, parse-signature-result-until-line-end}
@@ -19,7 +17,7 @@ use Rattle.grammar.specs.Item.{package-in-parens, parse-visibility, opti
 use Rattle.grammar.specs.declared.nesting.Closer.{Closer}
 use Rattle.grammar.specs.Endings.{ending}
 use Rattle.grammar.specs.Laws.Good.{Calm}
-use Rattle.grammar.specs.Laws.Hush.{Hush, hush-while, hush-tail, hush-group, hush-all, hush-expr, hush-type, hush-result, hush-instruction, scan-calm}
+use Rattle.grammar.specs.Laws.Hush.{Hush, hush-while, hush-tail, hush-group, hush-expr, hush-type, hush-result, hush-instruction, scan-calm}
 use Rattle.grammar.specs.Laws.Live.{calm-join}
 
 pub record Tame {A : Type 0} (f : P A) : Type 0 where
