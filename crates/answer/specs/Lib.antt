@@ -7,3 +7,4 @@ pub mod Accepts
 pub mod JoinedTokens
 pub mod JoinedCalls
 pub mod Facts
+pub mod MissingEnds

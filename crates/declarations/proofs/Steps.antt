@@ -7,8 +7,9 @@ use lib.ListN.{length}
 use Rattle.grammar.specs.Words.{Sym, File}
 use Rattle.grammar.specs.Run.{Forest, _<>_, Res, P, pure, pick, _>>=_, _>>_, loop}
 use Rattle.grammar.specs.Laws.Good.{app-assoc}
+use Rattle.grammar.specs.Laws.Loops.{loop-eq}
 use Rattle.parser.specs.Rep.{World, Went, WentTo}
-use Rattle.parser.proofs.Kit.{like, like-to, done-to, bind-to, loop-eq}
+use Rattle.parser.proofs.Kit.{like, like-to, done-to, bind-to}
 use Rattle.parser.proofs.Laws.{past-here}
 
 -- ---- steps and then what comes behind them, as the definition puts them: one step and then the others

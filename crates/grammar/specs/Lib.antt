@@ -2,7 +2,7 @@
 -- Words: tokens as the grammar reads them. Look: lookahead. Run: the ways to put functions together. Message: the numbers.
 -- Nesting: delimiter counts. Bump: small steps. Path: paths and groups. Line: line forms. Instruction, Block, Item.
 -- Out: events, diagnostics and their places. Source: all of it from a source's bytes. Joins: demand 3 over tokens.
--- State: what a function does to what was written before.
+-- Endings: which block reports a missing closer. State: what a function does to what was written before.
 -- Theorems has what is proved for all token lists and limits, Laws what the proofs rest on.
 -- Compute: sources as text, and what computes. Examples: document 01's table and other examples.
 pub mod Words
@@ -19,6 +19,7 @@ pub mod Item
 pub mod Out
 pub mod Source
 pub mod Joins
+pub mod Endings
 pub mod State
 pub mod Laws
 pub mod Theorems

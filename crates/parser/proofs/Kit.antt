@@ -2,14 +2,13 @@
 use mathlib.Core.Bool.{Bool, true, false, false≢true}
 use mathlib.Core.List.{List, [], _∷_}
 use mathlib.Core.Path.{_≡_, refl, sym, ap, ap₂, subst, fun-ext, _∙_}
-use Prim.Native.Nat.{ℕ, zero, suc, _<_}
-use native.Mathlib.Omega.{arith}
+use Prim.Native.Nat.{ℕ}
 use lib.ListN.{length}
 use Rattle.grammar.specs.Words.{Sym}
 use Rattle.grammar.specs.Words.{File, from}
 use Rattle.grammar.specs.Look
 use Rattle.grammar.specs.Run
-use Rattle.grammar.specs.Run.{Res, _<>_, Kind, num, P, pure, peek, inNode, pick, _>>=_, _>>_, if_then_else_, take, repeat, loop, scan, Round, stop, go, warn, turn}
+use Rattle.grammar.specs.Run.{Kind, num, P, pure, peek, inNode, pick, _>>=_, _>>_, if_then_else_, take, scan, Round, stop, go, warn, turn}
 use Rattle.grammar.specs.Bump.{bump-while}
 use Rattle.grammar.specs.State.{State, after, run}
 use Rattle.grammar.specs.Laws.Code.{run-bind, run-node, run-pure}
@@ -188,25 +187,3 @@ module _ {L : Type 0} (step : L → List Sym → Round L) where
 
     pub scan-go : (l l′ : L) {v w′ : World} {r : L} → Look.eof (from F (w .c .pos)) ≡ false → step l (from F (w .c .pos)) ≡ go l′ → Went F take w v → WentTo F (scan step l′) v w′ r → WentTo F (scan step l) w w′ r
     scan-go l l′ z e t h = like-to (take >> scan step l′) (scan-go-eq l l′ _ z e) (t then-to h)
-
--- ---- loop: a round of several tokens. Where a round that goes on takes a token, the loop is the round and then the loop
-module _ (f : P Bool) (more : (r : List Sym) → f r .val ≡ true → length (f r .rest) < length r) where
-  repeat-same : (n m : ℕ) (r : List Sym) → length r < n → length r < m → repeat n f r ≡ repeat m f r
-  unfolding repeat _>>=_
-  repeat-same zero m r h k = absurd (omega arith)
-  repeat-same (suc n) zero r h k = absurd (omega arith)
-  repeat-same (suc n) (suc m) r h k =
-      ap (λ (y : Res Bool). record { rest = y .rest; out = f r .out <> y .out; val = y .val })
-      (next (λ e. repeat-same n m (f r .rest) (omega (arith, more r e)) (omega (arith, more r e))) (f r .val) refl)
-    where
-      next : (f r .val ≡ true → repeat n f (f r .rest) ≡ repeat m f (f r .rest)) → (u : Bool) → f r .val ≡ u → pick u (repeat n f) (pure false) (f r .rest) ≡ pick u (repeat m f) (pure false) (f r .rest)
-      next i true e = i e
-      next i false e = refl
-
-  pub loop-eq : (r : List Sym) → loop f r ≡ (f >>= λ c. pick c (loop f) (pure false)) r
-  unfolding loop repeat _>>=_
-  loop-eq r = ap (λ (y : Res Bool). record { rest = y .rest; out = f r .out <> y .out; val = y .val }) (next (f r .val) refl)
-    where
-      next : (u : Bool) → f r .val ≡ u → pick u (repeat (length r) f) (pure false) (f r .rest) ≡ pick u (loop f) (pure false) (f r .rest)
-      next true e = repeat-same (length r) (suc (length (f r .rest))) (f r .rest) (more r e) (omega arith)
-      next false e = refl

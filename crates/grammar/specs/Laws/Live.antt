@@ -3,14 +3,15 @@
 -- Assumes nothing.
 use Prim.Native.Nat.{ℕ, zero, suc, _≤_, _<_}
 use mathlib.Core.Path.{_≡_, refl, ap}
-use mathlib.Core.Bool.{Bool, true, false, cond, not, _&&_, false≢true}
+use mathlib.Core.Bool.{Bool, true, false, not, _&&_, false≢true}
 use mathlib.Core.List.{List, [], _∷_}
 use lib.ListN.{length, length-append}
 use native.Mathlib.Omega.{arith}
 use Rattle.grammar.specs.Words.{Sym}
 use Rattle.grammar.specs.Look.{at, eof}
-use Rattle.grammar.specs.Run.{Kind, Forest, nil, leaf, node, say, _<>_, Res, P, pure, peek, inNode, pick, _>>=_, if_then_else_, take, err, Round, stop, go, warn, turn, scan, repeat, loop}
+use Rattle.grammar.specs.Run.{Kind, Forest, nil, leaf, node, say, _<>_, P, pure, peek, inNode, pick, _>>=_, if_then_else_, take, err, Round, stop, go, warn, turn, scan, repeat, loop}
 use Rattle.grammar.specs.Laws.Good.{Calm, scan-split}
+use Rattle.grammar.specs.Laws.Hush.{Hush, scan-calm}
 use Rattle.grammar.specs.Laws.Numbers.{stray}
 
 -- Where q holds and fewer than n tokens are left.
@@ -226,28 +227,6 @@ module _ {f : P Bool} (F : (n : ℕ) → Live any n f) (E : Truly f) where
       c true r h = omega (arith, repeat-less (length r) (f r .rest))
       c false r h = h
 
--- What a round says has a number.
-abbrev Hushed : {L : Type 0} → Round L → Type 0
-Hushed stop = Unit {0}
-Hushed (go l) = Unit {0}
-Hushed (warn m l) = stray m ≡ false
-
-pub record Hush {L : Type 0} (u : Round L) : Type 0 where
-  hush : Hushed u
-
-pub hush-stop : {L : Type 0} → Hush {L = L} stop
-hush-stop = record { hush = tt }
-
-pub hush-go : {L : Type 0} (l : L) → Hush (go l)
-hush-go l = record { hush = tt }
-
-pub hush-warn : {L : Type 0} (m : ℕ) (l : L) → stray m ≡ false → Hush (warn m l)
-hush-warn m l e = record { hush = e }
-
-pub hush-cond : {L : Type 0} (u : Bool) {x y : Round L} → Hush x → Hush y → Hush (cond u x y)
-hush-cond true p q = p
-hush-cond false p q = q
-
 -- The round takes the token.
 abbrev pub takes : {L : Type 0} → Round L → Bool
 takes stop = false
@@ -255,21 +234,11 @@ takes (go l) = true
 takes (warn m l) = true
 
 module _ {L : Type 0} (step : L → List Sym → Round L) where
-  turn-calm : (u : Round L) (l : L) (s : Sym) (r : List Sym) (k : L → Res L) → Hush u → ((l′ : L) → Calm stray (k l′ .out)) → Calm stray (turn u l s r k .out)
-  turn-calm stop l s r k q h = tt
-  turn-calm (go l′) l s r k q h = h l′
-  turn-calm (warn m l′) l s r k q h = (q .hush, h l′)
-
-  scan-calm : ((l : L) (r : List Sym) → Hush (step l r)) → (l : L) (r : List Sym) → Calm stray (scan step l r .out)
-  unfolding scan
-  scan-calm q l [] = tt
-  scan-calm q l (s ∷ r) = turn-calm (step l (s ∷ r)) l s r (λ l′. scan step l′ r) (q l (s ∷ r)) (λ l′. scan-calm q l′ r)
-
   pub scan-less : (l : L) (r : List Sym) → length (scan step l r .rest) ≤ length r
   scan-less l r = omega (arith, simp length-append at (ap length (scan-split step l r)))
 
-  pub live-scan : {n : ℕ} → ((l : L) (r : List Sym) → Hush (step l r)) → (l : L) → Live any n (scan step l)
-  live-scan q l = record { calm = λ r e h. scan-calm q l r; less = scan-less l }
+  pub live-scan : {n : ℕ} → ((l : L) (r : List Sym) → Hush stray (step l r)) → (l : L) → Live any n (scan step l)
+  live-scan q l = record { calm = λ r e h. scan-calm step q l r; less = scan-less l }
 
   pub eats-scan : (p : Sym → Bool) (l : L) → ((s : Sym) (r : List Sym) → p s ≡ true → takes (step l (s ∷ r)) ≡ true) → Eats (at p) (scan step l)
   unfolding at scan

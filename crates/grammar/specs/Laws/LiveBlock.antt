@@ -18,12 +18,13 @@ use Rattle.grammar.specs.Laws.Numbers.{stray, quiet-block}
 use Rattle.grammar.specs.Laws.Here.{and-l}
 use Rattle.grammar.specs.Laws.Stops.{Stops, stops-node, stops-loop}
 use Rattle.grammar.specs.Laws.Live.{Live, Eats, any, calm-join, live-pure, live-take, live-pick, live-node, live-weak, live-all, live-bind, live-if, live-case, live-cases, live-eof, live-eat, eats-weak, at-some, eats-cases, live-scan}
-use Rattle.grammar.specs.Laws.LiveLine.{live-tail, live-expect, live-error-token, live-instruction, eats-at, live-suffixes, eats-error-token, eats-instruction, live-expect-at, live-eats-key, live·rules, hush·rules}
+use Rattle.grammar.specs.Laws.LiveLine.{live-tail, live-expect, live-error-token, live-instruction, eats-at, live-suffixes, eats-error-token, eats-instruction, live-expect-at, live-eats-key, live·rules}
+use Rattle.grammar.specs.Laws.Hush.{hush-all}
 
 module _ {n : ℕ} where
   live-reject : Live any n reject-excessive-control-flow-nesting
-  unfolding reject-excessive-control-flow-nesting all-round
-  live-reject = search (live·rules, live-scan all-round {n = n} (λ l r. search hush·rules))
+  unfolding reject-excessive-control-flow-nesting
+  live-reject = search (live·rules, live-scan all-round {n = n} hush-all)
 
   pub live-closing : (w : BlockOwner) (o : BlockParseOutcome) → Live any n (closing w o)
   unfolding closing

@@ -21,27 +21,17 @@ use Rattle.grammar.specs.Laws.Good.{Calm}
 use Rattle.grammar.specs.Laws.Stable.{good-expect}
 use Rattle.grammar.specs.Laws.Numbers.{stray, quiet·rules, quiet-closer}
 use Rattle.grammar.specs.Laws.Here.{expect-here, is-not, oneOf-not, none}
-use Rattle.grammar.specs.Laws.Live.{Live, Eats, Truly, any, some, live-pure, live-take, live-err, live-pick, live-node, live-bind, live-if, live-eat, eats-bind, eats-node, eats-take, eats-weak, at-some, truly-bind, truly-case, truly-if, truly-false, live-loop, Hush, hush-stop, hush-go, hush-warn, hush-cond, takes, live-scan, eats-scan}
-
-pub ruleset hush·rules = (hush-stop, hush-go, hush-warn, hush-cond)
-
-hush-counted : {L : Type 0} (n : Nesting) (f : Nesting → L) (x : Bumped) → Hush (counted n f x)
-unfolding counted
-hush-counted n f (Bumped.Counts m) = hush-go (f m)
-hush-counted n f (Bumped.Refused c) = hush-warn _ (f n) (quiet-closer c)
-
-hush-nesting : {L : Type 0} (n : Nesting) (k : Sym) (f : Nesting → L) → Hush (bump-nesting n k f)
-unfolding bump-nesting
-hush-nesting n k f = hush-counted n f (bump-by n k)
+use Rattle.grammar.specs.Laws.Live.{Live, Eats, Truly, any, some, live-pure, live-take, live-err, live-pick, live-node, live-bind, live-if, live-eat, eats-bind, eats-node, eats-take, eats-weak, at-some, truly-bind, truly-case, truly-if, truly-false, live-loop, takes, live-scan, eats-scan}
+use Rattle.grammar.specs.Laws.Hush.{hush-while, hush-tail, hush-group, hush-expr, hush-type, hush-result, hush-instruction}
 
 module _ {n : ℕ} where
   pub live-while : (p : Sym → Bool) → Live any n (bump-while p)
-  unfolding bump-while while-round
-  live-while p = live-scan (while-round p) (λ l r. search hush·rules) true
+  unfolding bump-while
+  live-while p = live-scan (while-round p) (hush-while p) true
 
   pub live-tail : Live any n parse-line-tail
-  unfolding parse-line-tail tail-round
-  live-tail = live-scan tail-round (λ l r. search hush·rules) true
+  unfolding parse-line-tail
+  live-tail = live-scan tail-round hush-tail true
 
 pub ruleset live·rules = (live-pure, live-take, live-err, live-node, live-pick, live-if, live-bind, live-while, live-tail, quiet·rules)
 
@@ -63,24 +53,24 @@ module _ {n : ℕ} where
   live-segment = search live·rules depth 12
 
   pub live-group : (o k : Sym) (m : Message) → stray (number m) ≡ false → Live any n (parse-balanced-group o k m)
-  unfolding parse-balanced-group group-round
-  live-group o k m e = search (live·rules, live-expect, live-scan (group-round o k) {n = n} (λ l r. search hush·rules)) depth 9
+  unfolding parse-balanced-group
+  live-group o k m e = search (live·rules, live-expect, live-scan (group-round o k) {n = n} (hush-group o k)) depth 9
 
   pub live-expr : Live any n parse-expr-until-line-end
-  unfolding parse-expr-until-line-end expr-round
-  live-expr = search (live·rules, live-scan expr-round {n = n} (λ l r. search (hush·rules, hush-nesting)))
+  unfolding parse-expr-until-line-end
+  live-expr = search (live·rules, live-scan expr-round {n = n} (hush-expr quiet-closer))
 
   pub live-type-body : Live any n parse-type-body
-  unfolding parse-type-body type-round
-  live-type-body = live-node _ (live-scan type-round (λ l r. search (hush·rules, hush-nesting)) _)
+  unfolding parse-type-body
+  live-type-body = live-node _ (live-scan type-round (hush-type quiet-closer) _)
 
   pub live-result : Live any n parse-signature-result-until-line-end
-  unfolding parse-signature-result-until-line-end result-round
-  live-result = search (live·rules, live-scan result-round {n = n} (λ l r. search (hush·rules, hush-nesting)))
+  unfolding parse-signature-result-until-line-end
+  live-result = search (live·rules, live-scan result-round {n = n} (hush-result quiet-closer))
 
   pub live-instruction : Live any n parse-instruction
-  unfolding parse-instruction instruction-round
-  live-instruction = live-node _ (live-scan instruction-round (λ l r. search (hush·rules, hush-nesting) depth 9) _)
+  unfolding parse-instruction
+  live-instruction = live-node _ (live-scan instruction-round (hush-instruction quiet-closer) _)
 
 -- ---- Loops whose rounds take a token.
 pub eats-at : (p : Sym → Bool) → Eats (at p) take

@@ -19,7 +19,7 @@ module _ {t : Terminators} where
   unfolding inNode
   stops-node k S = record { stops = S .stops }
 
-  stops-bind : {A : Type 0} (f : P A) {g : A → P BlockParseOutcome} → ((a : A) → Stops t (g a)) → Stops t (f >>= g)
+  pub stops-bind : {A : Type 0} (f : P A) {g : A → P BlockParseOutcome} → ((a : A) → Stops t (g a)) → Stops t (f >>= g)
   unfolding _>>=_
   stops-bind f {g} G = record { stops = λ r e. G (f r .val) .stops (f r .rest) e }
 

@@ -1,4 +1,4 @@
--- A file without the depth diagnostic at some limit has the same events and diagnostics at any higher one.
+-- A file without the depth diagnostic at some limit has the same forest, so the same events and diagnostics, at any higher one.
 -- Assumes nothing.
 use Prim.Native.Nat.{ℕ, suc, _+_, _≤_}
 use mathlib.Core.Path.{_≡_, refl, sym, _∙_}
@@ -45,9 +45,14 @@ calm-both i (node n c x) k e =
     (calm-both i c (k .0) (and-l (calmly (dg i c)) _ p), calm-both (i + length (leaves c)) x (k .1) (and-r (calmly (dg i c)) _ p))
 calm-both i (say m x) k e = (rw (k .0) (not-true (eqb mDepth m) (and-l (not (eqb mDepth m)) _ e)), calm-both i x (k .1) (and-r (not (eqb mDepth m)) _ e))
 
-pub higher-limit : (limit limit′ : ℕ) (a : List Sym) → limit ≤ limit′ → calmly (diags limit a) ≡ true → (events limit′ a ≡ events limit a) × (diags limit′ a ≡ diags limit a)
-unfolding events diags parse items-in number
-higher-limit limit limit′ a le e =
+-- The forest is the same.
+pub higher-limit-forest : (limit limit′ : ℕ) (a : List Sym) → limit ≤ limit′ → calmly (diags limit a) ≡ true → parse limit′ a ≡ parse limit a
+unfolding diags parse items-in number
+higher-limit-forest limit limit′ a le e =
     let n : ℕ = suc (length a) in
-    let q : parse limit′ a ≡ parse limit a = same-run isBad refl limit limit′ (higher refl le) n n (omega arith) a (calm-both 0 (parse limit a) (live-items n limit .calm a refl (omega arith)) e) in
-    (rw q, rw q)
+    same-run isBad refl limit limit′ (higher refl le) n n (omega arith) a (calm-both 0 (parse limit a) (live-items n limit .calm a refl (omega arith)) e)
+
+-- So are events and diagnostics.
+pub higher-limit : (limit limit′ : ℕ) (a : List Sym) → limit ≤ limit′ → calmly (diags limit a) ≡ true → (events limit′ a ≡ events limit a) × (diags limit′ a ≡ diags limit a)
+unfolding events diags
+higher-limit limit limit′ a le e = let q = higher-limit-forest limit limit′ a le e in (rw q, rw q)

@@ -1,4 +1,4 @@
--- The equations without fuel: parse_block's loop and parse's loop are what the Rust has, a round and then the loop.
+-- The equations without fuel, of all five loops: each is what the Rust has, a round and then the loop.
 -- Assumes nothing.
 use Prim.Native.Nat.{ℕ, suc, _≤_}
 use mathlib.Core.Path.{_≡_, refl, sym, _∙_}
@@ -10,17 +10,20 @@ use native.Mathlib.Decide.{decLe}
 use Rattle.lexer.specs.Syntax.{RParen}
 use Rattle.grammar.specs.Words.{Sym, is}
 use Rattle.grammar.specs.Look.{at, skip, eof, next-relevant-top-level-token}
-use Rattle.grammar.specs.Run.{Res, P, pure, _>>_, if_then_else_}
-use Rattle.grammar.specs.Block.{BlockOwner, Terminators, block-round, block-loop, block-in, parse-block}
-use Rattle.grammar.specs.Item.{parse-source-item, items, items-in}
+use Rattle.grammar.specs.Run.{Res, P, pure, pick, _>>=_, _>>_, if_then_else_, loop}
+use Rattle.grammar.specs.Path.{path-round}
+use Rattle.grammar.specs.Block.{BlockOwner, Terminators, suffix-round, parse-structured-header-suffixes, block-round, block-loop, block-in, parse-block}
+use Rattle.grammar.specs.Item.{attribute-round, parse-source-item, items, items-in}
 use Rattle.grammar.specs.Laws.Ahead.{same}
 use Rattle.grammar.specs.Laws.Good.{Calm, ext, Good, good-if, good-bind, good-pure}
 use Rattle.grammar.specs.Laws.Stable.{test-eof}
 use Rattle.grammar.specs.Laws.StableBlock.{equal, good-blocks, good-round}
 use Rattle.grammar.specs.Laws.StableItem.{good-item, good-items}
 use Rattle.grammar.specs.Laws.Numbers.{stray}
+use Rattle.grammar.specs.Laws.Loops.{loop-eq}
+use Rattle.grammar.specs.Laws.LiveLine.{truly-path-round, truly-suffix-round}
 use Rattle.grammar.specs.Laws.LiveBlock.{live-blocks}
-use Rattle.grammar.specs.Laws.LiveItem.{live-items}
+use Rattle.grammar.specs.Laws.LiveItem.{truly-attribute-round, live-items}
 
 ext-nil : {A : Type 0} (x : Res A) → ext [] x ≡ x
 ext-nil x = rw append-nil
@@ -60,3 +63,16 @@ items-eq limit r =
     let F = good-free (λ n. items n limit) (good-items [] no-paren stray refl limit limit (equal refl)) (λ r. live-items (suc (length r)) limit .calm r refl (omega arith)) (length r) in
     let G = good-if eof test-eof (good-pure true) (good-bind (good-item [] no-paren stray refl limit limit (equal refl)) (λ a. F)) in
     sym ((rw (append-nil r) at (G .goes r (same refl) (live-items (suc (length r)) limit .calm r refl (omega arith)))) ∙ ext-nil _)
+
+-- parse_path_with_message's loop over the segments
+pub path-eq : (r : List Sym) → loop path-round r ≡ (path-round >>= λ more. pick more (loop path-round) (pure false)) r
+path-eq = loop-eq path-round (truly-path-round .truly)
+
+-- parse_structured_header_suffixes' loop
+pub suffixes-eq : (r : List Sym) → parse-structured-header-suffixes r ≡ (suffix-round >>= λ more. pick more parse-structured-header-suffixes (pure false)) r
+unfolding parse-structured-header-suffixes
+suffixes-eq = loop-eq suffix-round (truly-suffix-round .truly)
+
+-- parse_procedure's loop over the attributes
+pub attributes-eq : (r : List Sym) → loop attribute-round r ≡ (attribute-round >>= λ more. pick more (loop attribute-round) (pure false)) r
+attributes-eq = loop-eq attribute-round (truly-attribute-round .truly)

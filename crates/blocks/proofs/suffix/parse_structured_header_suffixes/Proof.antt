@@ -8,9 +8,10 @@ use borrow.Author.Tests.{not-true, not-false}
 use Rattle.grammar.specs.Block.{suffix-round, parse-structured-header-suffixes}
 use Rattle.grammar.specs.Laws.LiveLine.{truly-suffix-round}
 use Rattle.grammar.specs.Run.{pure, pick, loop}
+use Rattle.grammar.specs.Theorems.NoFuel.{suffixes-eq}
 use Rattle.parser.specs.Rep.{world}
 use Rattle.blocks.proofs.Laws.{round}
-use Rattle.parser.proofs.Kit.{like-to, on-to, off-to, done-to, bind-to, begins, goes-on, Held, loop-eq}
+use Rattle.parser.proofs.Kit.{like-to, on-to, off-to, done-to, bind-to, begins, goes-on, Held}
 use Rattle.parser.proofs.Laws.{past-here}
 use Rattle.blocks.proofs.suffix.parse_structured_header_suffixes.Statement.{statement}
 use Rattle.blocks.proofs.suffix.parse_structured_header_suffixes.Tie as tie
@@ -57,7 +58,7 @@ returns c =
     let c₂ = c₁ .before .before .before .before in
     let c₃ = c₂ .before .before .before .before .before in
     let over = not-true (c₁ .suffix-round .result .ok) (c .if1 .taken) in
-    let round = like-to _ (loop-eq suffix-round (truly-suffix-round .truly) _) (bind-to (λ c. pick c (loop suffix-round) (pure false)) (c₁ .suffix-round .ensures .went) (off-to (loop suffix-round) over (done-to false))) in
+    let round = like-to _ (suffixes-eq _) (bind-to (λ c. pick c (loop suffix-round) (pure false)) (c₁ .suffix-round .ensures .went) (off-to (loop suffix-round) over (done-to false))) in
     record { paid = omega (arith, c₃ .pre, c₂ .loop .inv .paid, c₁ .suffix-round .ensures .paid); went = c₂ .loop .inv .leads .on _ _ round .went }
 
 loop-less : tie.Need-loop-less Inv-loop μ-loop
@@ -81,7 +82,7 @@ loop-again c =
       dm = c₁ .suffix-round .kept .1 .1 .0 ∙ i .dm;
       ds = c₁ .suffix-round .kept .1 .1 .1 .0 ∙ i .ds;
       leads = goes-on (i .leads) (λ w′ r k.
-          like-to _ (loop-eq suffix-round (truly-suffix-round .truly) _) (bind-to (λ c. pick c (loop suffix-round) (pure false)) (c₁ .suffix-round .ensures .went) (on-to (pure false) more k)));
+          like-to _ (suffixes-eq _) (bind-to (λ c. pick c (loop suffix-round) (pure false)) (c₁ .suffix-round .ensures .went) (on-to (pure false) more k)));
     }
 
 pub parse-structured-header-suffixes-spec : {M : Type 1} → statement M

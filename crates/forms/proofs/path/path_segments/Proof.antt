@@ -10,11 +10,12 @@ use Rattle.grammar.specs.Laws.LiveLine.{truly-path-round}
 use Rattle.grammar.specs.Look.{at, skip, non-comment-trivia}
 use Rattle.grammar.specs.Path.{path-segment, path-round}
 use Rattle.grammar.specs.Run.{pure, pick, loop, _>>=_, P}
+use Rattle.grammar.specs.Theorems.NoFuel.{path-eq}
 use Rattle.grammar.specs.Words.{File, from, is}
 use Rattle.lexer.specs.Syntax.{ColonColon}
 use Rattle.parser.specs.Ahead.{Found}
 use Rattle.parser.specs.Rep.{World, world, WentTo}
-use Rattle.parser.proofs.Kit.{like-to, yes-to, no-to, done-to, bind-to, begins, goes-on, Held, loop-eq, answers}
+use Rattle.parser.proofs.Kit.{like-to, yes-to, no-to, done-to, bind-to, begins, goes-on, Held, answers}
 use Rattle.parser.proofs.Laws.{past-here}
 use Rattle.forms.proofs.path.path_segments.Statement.{statement}
 use Rattle.forms.proofs.path.path_segments.Tie as tie
@@ -34,10 +35,10 @@ further u = pick u (loop path-round) (pure false)
 
 -- the last round, and one that goes on
 ends : {F : File} {w v : World} → WentTo F path-round w v false → WentTo F (loop path-round) w v false
-ends h = like-to (path-round >>= further) (loop-eq path-round (truly-path-round .truly) _) (bind-to further h (done-to false))
+ends h = like-to (path-round >>= further) (path-eq _) (bind-to further h (done-to false))
 
 goes : {F : File} {w v w′ : World} {r : Bool} → WentTo F path-round w v true → WentTo F (loop path-round) v w′ r → WentTo F (loop path-round) w w′ r
-goes h k = like-to (path-round >>= further) (loop-eq path-round (truly-path-round .truly) _) (bind-to further h k)
+goes h k = like-to (path-round >>= further) (path-eq _) (bind-to further h k)
 
 moves : {F : File} {w v : World} → WentTo F path-round w v true → w .c .pos < v .c .pos
 moves h = past-here (h .went) (truly-path-round .truly _ (h .val))
