@@ -76,7 +76,7 @@ of-reading source counts t e d =
       messages = length-map (places-of source) _ ∙ sym d;
       leaves-are = leaves-of source;
       texts-are = ap bytes (cut-source source) ∙ lossless source;
-      few-open = few-open limit (symbols source);
+      few-open = omega (arith, few-open limit (symbols source));
       few-events = omega (arith, events-few source);
       few-diagnostics = omega (arith, diagnostics-few source);
     }

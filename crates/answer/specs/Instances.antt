@@ -66,7 +66,7 @@ module _ {source : List ℕ} {g : Given} {counts : List ℕ} (f : Facts source g
   four-tokens t = omega (arith, f .few-diagnostics)
 
   nodes-open : peak 0 (g .events) ≤ 516
-  nodes-open = f .few-open
+  nodes-open = omega (arith, f .few-open)
 
 -- One byte: one token, nine events and two diagnostics are enough.
 room-for-one : made (bytes "x") (room 1 9 2) .status ≡ 0
