@@ -9,7 +9,7 @@ use Rattle.grammar.specs.Compute.{bytes}
 use Rattle.grammar.specs.Theorems.FewOpen.{peak}
 use Rattle.answer.specs.Given.{T, E, D, Given, Joined}
 use Rattle.answer.specs.Facts.{Facts, enough-room}
-use Rattle.answer.specs.Cases.{room, zeros, lent-slices, made, called, concluded}
+use Rattle.answer.specs.Cases.{lent, zeros, lent-slices, made, called, concluded}
 
 -- ---- Demand 3. A, with a diagnostic in its block.
 first : Given
@@ -24,7 +24,14 @@ first = record {
 
 -- B, with a diagnostic.
 second : Given
-second = record { kinds = 31 ∷ []; ends = 1 ∷ []; events = 2 ∷ 1 ∷ 31 ∷ 0 ∷ 0 ∷ []; messages = 22 ∷ []; starts = 0 ∷ []; stops = 1 ∷ [] }
+second = record {
+  kinds = 31 ∷ [];
+  ends = 1 ∷ [];
+  events = 2 ∷ 1 ∷ 31 ∷ 0 ∷ 0 ∷ [];
+  messages = 22 ∷ [];
+  starts = 0 ∷ [];
+  stops = 1 ∷ [];
+}
 
 -- The join.
 both : Given
@@ -41,7 +48,7 @@ both = record {
 two-joined : Joined 12 first second both (6 ∷ 14 ∷ 1 ∷ []) (1 ∷ 5 ∷ 1 ∷ []) (7 ∷ 17 ∷ 2 ∷ []) 0
 unfolding made first second both
 two-joined =
-    concluded (record { a = bytes "begin ) end\n"; b = bytes "x"; for-a = room 6 14 1; for-b = room 1 5 1; for-join = room 7 17 2 })
+    concluded (record { a = bytes "begin ) end\n"; b = bytes "x"; for-a = lent 6 14 1; for-b = lent 1 5 1; for-join = lent 7 17 2 })
     (refl, refl, omega arith, omega arith, omega arith, omega arith, omega arith, refl, refl, refl, refl, refl)
 
 -- With an empty B the join is A.
@@ -51,7 +58,7 @@ nothing = record { kinds = []; ends = []; events = 2 ∷ 0 ∷ []; messages = []
 empty-joined : Joined 12 first nothing first (6 ∷ 14 ∷ 1 ∷ []) (0 ∷ 2 ∷ 0 ∷ []) (6 ∷ 14 ∷ 1 ∷ []) 0
 unfolding made first nothing
 empty-joined =
-    concluded (record { a = bytes "begin ) end\n"; b = bytes ""; for-a = room 6 14 1; for-b = room 0 2 0; for-join = room 6 14 1 })
+    concluded (record { a = bytes "begin ) end\n"; b = bytes ""; for-a = lent 6 14 1; for-b = lent 0 2 0; for-join = lent 6 14 1 })
     (refl, refl, omega arith, omega arith, omega arith, omega arith, omega arith, refl, refl, refl, refl, refl)
 
 -- ---- The bounds of Facts, at numbers. grammar/specs/Examples reaches them: T1, `two-each` and `most-open`.
@@ -69,8 +76,8 @@ module _ {source : List ℕ} {g : Given} {counts : List ℕ} (f : Facts source g
   nodes-open = omega (arith, f .few-open)
 
 -- One byte: one token, nine events and two diagnostics are enough.
-room-for-one : made (bytes "x") (room 1 9 2) .status ≡ 0
+room-for-one : made (bytes "x") (lent 1 9 2) .status ≡ 0
 unfolding made
 room-for-one =
-    enough-room (bytes "x") (lent-slices (room 1 9 2)) (zeros 3) (called (bytes "x") (room 1 9 2)) (omega arith) (well-formed (bytes "x") refl) (refl, tt)
-    (omega arith) (omega arith) (omega arith) (omega arith)
+    enough-room (bytes "x") (lent-slices (lent 1 9 2)) (zeros 3) (called (bytes "x") (lent 1 9 2))
+    (omega arith) (well-formed (bytes "x") refl) (refl, tt) (omega arith) (omega arith) (omega arith) (omega arith)

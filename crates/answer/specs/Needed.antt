@@ -21,13 +21,13 @@ use Rattle.answer.specs.Call.{Called}
 use Rattle.answer.specs.Given.{Given, given, cut, end-before-last}
 use Rattle.answer.specs.Accepts.{reading, gives, accepting}
 use Rattle.answer.specs.JoinedTokens.{cut-source, newline-last, word-before-last}
-use Rattle.answer.specs.Cases.{room, made, first-accepted, second-accepted, room-for-tokens, room-for-events, room-for-diagnostics, three-words, last-is-newline, last-is-line-feed, end-closes, no-parenthesis, Needed}
+use Rattle.answer.specs.Cases.{lent, made, first-accepted, second-accepted, room-for-tokens, room-for-events, room-for-diagnostics, three-words, last-is-newline, last-is-line-feed, end-closes, no-parenthesis, Needed}
 
 -- A was lent one event too few: its last event is not given.
 pub first-accepted-needed : Needed first-accepted
 unfolding made
 first-accepted-needed = record {
-  case = record { a = bytes "begin end\n"; b = bytes ""; for-a = room 4 9 0; for-b = room 0 2 0; for-join = room 4 10 0 };
+  case = record { a = bytes "begin end\n"; b = bytes ""; for-a = lent 4 9 0; for-b = lent 0 2 0; for-join = lent 4 10 0 };
   others = (tt, refl, omega arith, omega arith, omega arith, omega arith, omega arith, refl, refl, refl, refl, refl);
   otherwise = λ j. let z : _≡_ {A = ℕ} 10 9 = ap length (j .events-are) in omega arith;
 }
@@ -36,7 +36,7 @@ first-accepted-needed = record {
 pub second-accepted-needed : Needed second-accepted
 unfolding made
 second-accepted-needed = record {
-  case = record { a = bytes "begin end\n"; b = bytes "use"; for-a = room 4 10 0; for-b = room 1 5 1; for-join = room 5 13 1 };
+  case = record { a = bytes "begin end\n"; b = bytes "use"; for-a = lent 4 10 0; for-b = lent 1 5 1; for-join = lent 5 13 1 };
   others = (refl, tt, omega arith, omega arith, omega arith, omega arith, omega arith, refl, refl, refl, refl, refl);
   otherwise = λ j. let z : _≡_ {A = ℕ} 4 0 = j .returned in omega arith;
 }
@@ -45,7 +45,7 @@ second-accepted-needed = record {
 pub token-room-needed : Needed room-for-tokens
 unfolding made
 token-room-needed = record {
-  case = record { a = bytes "begin end\n"; b = bytes "x"; for-a = room 4 10 0; for-b = room 1 5 1; for-join = room 4 13 1 };
+  case = record { a = bytes "begin end\n"; b = bytes "x"; for-a = lent 4 10 0; for-b = lent 1 5 1; for-join = lent 4 13 1 };
   others = (refl, refl, omega arith, tt, omega arith, omega arith, omega arith, refl, refl, refl, refl, refl);
   otherwise = λ j. let z : _≡_ {A = ℕ} 3 0 = j .returned in omega arith;
 }
@@ -53,7 +53,7 @@ token-room-needed = record {
 pub event-room-needed : Needed room-for-events
 unfolding made
 event-room-needed = record {
-  case = record { a = bytes "begin end\n"; b = bytes "x"; for-a = room 4 10 0; for-b = room 1 5 1; for-join = room 5 12 1 };
+  case = record { a = bytes "begin end\n"; b = bytes "x"; for-a = lent 4 10 0; for-b = lent 1 5 1; for-join = lent 5 12 1 };
   others = (refl, refl, omega arith, omega arith, tt, omega arith, omega arith, refl, refl, refl, refl, refl);
   otherwise = λ j. let z : _≡_ {A = ℕ} 5 0 = j .returned in omega arith;
 }
@@ -61,7 +61,7 @@ event-room-needed = record {
 pub diagnostic-room-needed : Needed room-for-diagnostics
 unfolding made
 diagnostic-room-needed = record {
-  case = record { a = bytes "begin end\n"; b = bytes "x"; for-a = room 4 10 0; for-b = room 1 5 1; for-join = room 5 13 0 };
+  case = record { a = bytes "begin end\n"; b = bytes "x"; for-a = lent 4 10 0; for-b = lent 1 5 1; for-join = lent 5 13 0 };
   others = (refl, refl, omega arith, omega arith, omega arith, tt, omega arith, refl, refl, refl, refl, refl);
   otherwise = λ j. let z : _≡_ {A = ℕ} 5 0 = j .returned in omega arith;
 }
@@ -72,8 +72,8 @@ three-words-needed = record {
   case = record {
     a = bytes "begin end\n";
     b = bytes "x";
-    for-a = room 4 10 0;
-    for-b = room 1 5 1;
+    for-a = lent 4 10 0;
+    for-b = lent 1 5 1;
     for-join = record { tokens = 5; events = 13; diagnostics = 1; words = 2 };
   };
   others = (refl, refl, omega arith, omega arith, omega arith, omega arith, tt, refl, refl, refl, refl, refl);
@@ -84,7 +84,7 @@ three-words-needed = record {
 pub newline-needed : Needed last-is-newline
 unfolding made
 newline-needed = record {
-  case = record { a = bytes "begin end\"\\\n"; b = bytes "\""; for-a = room 4 12 2; for-b = room 1 5 2; for-join = room 5 15 4 };
+  case = record { a = bytes "begin end\"\\\n"; b = bytes "\""; for-a = lent 4 12 2; for-b = lent 1 5 2; for-join = lent 5 15 4 };
   others = (refl, refl, omega arith, omega arith, omega arith, omega arith, omega arith, tt, refl, refl, refl, refl);
   otherwise = λ j. let z : _≡_ {A = ℕ} 4 5 = j .t-is in omega arith;
 }
@@ -93,7 +93,7 @@ newline-needed = record {
 pub line-feed-needed : Needed last-is-line-feed
 unfolding made
 line-feed-needed = record {
-  case = record { a = bytes "begin end\r"; b = bytes "\n"; for-a = room 4 10 0; for-b = room 1 3 0; for-join = room 5 11 0 };
+  case = record { a = bytes "begin end\r"; b = bytes "\n"; for-a = lent 4 10 0; for-b = lent 1 3 0; for-join = lent 5 11 0 };
   others = (refl, refl, omega arith, omega arith, omega arith, omega arith, omega arith, refl, tt, refl, refl, refl);
   otherwise = λ j. let z : _≡_ {A = ℕ} 4 5 = j .t-is in omega arith;
 }
@@ -102,7 +102,7 @@ line-feed-needed = record {
 pub closing-needed : Needed end-closes
 unfolding made
 closing-needed = record {
-  case = record { a = bytes "type a = end\n"; b = bytes "x"; for-a = room 8 14 0; for-b = room 1 5 1; for-join = room 9 17 1 };
+  case = record { a = bytes "type a = end\n"; b = bytes "x"; for-a = lent 8 14 0; for-b = lent 1 5 1; for-join = lent 9 17 1 };
   others = (refl, refl, omega arith, omega arith, omega arith, omega arith, omega arith, refl, refl, refl, tt, refl);
   otherwise = λ j. let z : _≡_ {A = ℕ} 17 19 = j .e-is in omega arith;
 }
@@ -111,7 +111,7 @@ closing-needed = record {
 pub parenthesis-needed : Needed no-parenthesis
 unfolding made
 parenthesis-needed = record {
-  case = record { a = bytes "proc a pub ( end\n"; b = bytes ") proc b end"; for-a = room 10 20 2; for-b = room 7 15 1; for-join = room 17 37 6 };
+  case = record { a = bytes "proc a pub ( end\n"; b = bytes ") proc b end"; for-a = lent 10 20 2; for-b = lent 7 15 1; for-join = lent 17 37 6 };
   others = (refl, refl, omega arith, omega arith, omega arith, omega arith, omega arith, refl, refl, refl, refl, tt);
   otherwise = λ j. let z : _≡_ {A = ℕ} 39 35 = j .e-is in omega arith;
 }

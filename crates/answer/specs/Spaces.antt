@@ -21,7 +21,7 @@ use Rattle.marks.specs.Marks.{first-refused}
 use Rattle.answer.specs.Answer.{events-of, places-of}
 use Rattle.answer.specs.Given.{T, E, D, Given}
 use Rattle.answer.specs.Accepts.{accepted, Gave, gives}
-use Rattle.answer.specs.Cases.{Lent, room, zeros, lent-slices, made, called, within-limit, Needed}
+use Rattle.answer.specs.Cases.{Lent, lent, zeros, lent-slices, made, called, within-limit, Needed}
 
 pub spaces : ℕ → List ℕ
 spaces zero = []
@@ -69,9 +69,11 @@ unfolding made
 not-refused n = rw (one-token n)
 
 abbrev one-space : Lent
-one-space = room 1 3 0
+one-space = lent 1 3 0
 
-taken : (n : ℕ) → suc n ≤ 1048576 → (made (spaces (suc n)) one-space .status ≡ 0) × Gave (spaces (suc n)) (made (spaces (suc n)) one-space .slices) (made (spaces (suc n)) one-space .counts)
+taken : (n : ℕ) → suc n ≤ 1048576
+    → (made (spaces (suc n)) one-space .status ≡ 0)
+    × Gave (spaces (suc n)) (made (spaces (suc n)) one-space .slices) (made (spaces (suc n)) one-space .counts)
 taken n h =
     gives (spaces (suc n)) (lent-slices one-space) (zeros 3) (record {
       words = omega arith;
@@ -98,12 +100,16 @@ too-many-spaces = rw (many 1048577)
 pub limit-needed : Needed within-limit
 unfolding made
 limit-needed =
+    let b : List ℕ = spaces 1048567 in
     let g = taken 1048566 (omega arith) in
-    let t : T (made (spaces 1048567) one-space .counts) ≡ 1 = g .1 .t-is ∙ ap length (one-token 1048566) in
-    let e : E (made (spaces 1048567) one-space .counts) ≡ 3 = g .1 .e-is ∙ ap length (their-events 1048566) in
-    let d : D (made (spaces 1048567) one-space .counts) ≡ 0 = g .1 .d-is ∙ ap length (no-places 1048566) in
+    let t : T (made b one-space .counts) ≡ 1 = g .1 .t-is ∙ ap length (one-token 1048566) in
+    let e : E (made b one-space .counts) ≡ 3 = g .1 .e-is ∙ ap length (their-events 1048566) in
+    let d : D (made b one-space .counts) ≡ 0 = g .1 .d-is ∙ ap length (no-places 1048566) in
+    let p = ap (λ (x : Given). at (is RParen) (next-relevant-block-token (x .kinds))) (g .1 .given-is) ∙ no-parenthesis-there 1048566 in
     record {
-      case = record { a = bytes "begin end\n"; b = spaces 1048567; for-a = room 4 10 0; for-b = one-space; for-join = room 5 11 0 };
-      others = (refl, g .0, tt, omega arith, omega arith, omega arith, omega arith, refl, refl, refl, refl, ap (λ (x : Given). at (is RParen) (next-relevant-block-token (x .kinds))) (g .1 .given-is) ∙ no-parenthesis-there 1048566);
-      otherwise = λ j. let s = accepted (bytes "begin end\n" ++ spaces 1048567) (lent-slices (room 5 11 0)) (zeros 3) (j .returned) .small in omega (arith, many 1048567);
+      case = record { a = bytes "begin end\n"; b = b; for-a = lent 4 10 0; for-b = one-space; for-join = lent 5 11 0 };
+      others = (refl, g .0, tt, omega arith, omega arith, omega arith, omega arith, refl, refl, refl, refl, p);
+      otherwise = λ j.
+          let s = accepted (bytes "begin end\n" ++ b) (lent-slices (lent 5 11 0)) (zeros 3) (j .returned) .small in
+          omega (arith, many 1048567);
     }

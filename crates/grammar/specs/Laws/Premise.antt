@@ -157,20 +157,28 @@ data Found (k : Kind) (r : ℕ) (c : Forest) (es : List ℕ) : Type 0 where
 
 child : (k : Kind) (r : ℕ) (c : Forest) (es : List ℕ) → shutBy (num k ∷ r ∷ []) (ev c ++ 0 ∷ es) ≡ true → Found k r c es
 child k r nil es h = past h
-child k r (leaf s c) es h = go (here (num k ∷ r ∷ []) (ev c ++ 0 ∷ es)) refl (sym (step-leaf s (num k ∷ r ∷ []) (ev c ++ 0 ∷ es)) ∙ h) (child k r c es)
+child k r (leaf s c) es h =
+    go (here (num k ∷ r ∷ []) (ev c ++ 0 ∷ es)) refl (sym (step-leaf s (num k ∷ r ∷ []) (ev c ++ 0 ∷ es)) ∙ h) (child k r c es)
   where
     more : Found k r c es → Found k r (leaf s c) es
     more (inside t q) = inside (rw (and-l (top k) _ t, and-r (top k) _ t) (or-true (empty c))) q
     more (past q) = past q
 
-    go : (u : Bool) → here (num k ∷ r ∷ []) (ev c ++ 0 ∷ es) ≡ u → (u || shutBy (num k ∷ r ∷ []) (ev c ++ 0 ∷ es)) ≡ true → (shutBy (num k ∷ r ∷ []) (ev c ++ 0 ∷ es) ≡ true → Found k r c es) → Found k r (leaf s c) es
+    go : (u : Bool) → here (num k ∷ r ∷ []) (ev c ++ 0 ∷ es) ≡ u → (u || shutBy (num k ∷ r ∷ []) (ev c ++ 0 ∷ es)) ≡ true
+        → (shutBy (num k ∷ r ∷ []) (ev c ++ 0 ∷ es) ≡ true → Found k r c es) → Found k r (leaf s c) es
     go true e q ih =
         let one = and-l (eqb 1 (length (leaf-events (ev c ++ 0 ∷ es)))) _ e in
         let two = and-r (eqb 1 (length (leaf-events (ev c ++ 0 ∷ es)))) _ e in
         let p : empty c ≡ true = no-tree c es (and-l (zero-next (ev c ++ 0 ∷ es)) _ two) in
-        inside (rw p (rw (and-r (zero-next (ev c ++ 0 ∷ es)) _ two))) (sym (eqb→eq 1 (length (leaf-events es)) (subst T (sym (rw (empty-events c (0 ∷ es) p) at one)) tt)))
+        let q : eqb 1 (length (leaf-events es)) ≡ true = rw (empty-events c (0 ∷ es) p) at one in
+        inside (rw p (rw (and-r (zero-next (ev c ++ 0 ∷ es)) _ two))) (sym (eqb→eq 1 (length (leaf-events es)) (subst T (sym q) tt)))
     go false e q ih = more (ih q)
-child k r (node n d c) es h = more (child k r c es (sym (deep-in (num n) (num k) r [] d (0 ∷ (ev c ++ 0 ∷ es))) ∙ sym (ap (shutBy (num n ∷ num k ∷ r ∷ [])) (append-assoc (ev d) (0 ∷ ev c) (0 ∷ es))) ∙ sym (step-node n (num k ∷ r ∷ []) ((ev d ++ 0 ∷ ev c) ++ 0 ∷ es)) ∙ h))
+child k r (node n d c) es h =
+    more (child k r c es
+    (sym (deep-in (num n) (num k) r [] d (0 ∷ (ev c ++ 0 ∷ es)))
+    ∙ sym (ap (shutBy (num n ∷ num k ∷ r ∷ [])) (append-assoc (ev d) (0 ∷ ev c) (0 ∷ es)))
+    ∙ sym (step-node n (num k ∷ r ∷ []) ((ev d ++ 0 ∷ ev c) ++ 0 ∷ es))
+    ∙ h))
   where
     more : Found k r c es → Found k r (node n d c) es
     more (inside t q) = inside t q
@@ -191,13 +199,14 @@ only d [] h e = absurd (omega arith)
 only d (s ∷ []) h e = ap (λ (t : Sym). t ∷ []) e
 only d (s ∷ t ∷ r) h e = absurd (omega arith)
 
-root : (n lim d : ℕ) (r : List Sym) → length r < n → last d r ≡ Newline → shutBy (2 ∷ []) (ev (items n lim r .out) ++ 0 ∷ []) ≡ true → closed (items n lim r .out) ≡ true
+root : (n lim d : ℕ) (r : List Sym) → length r < n → last d r ≡ Newline → shutBy (2 ∷ []) (ev (items n lim r .out) ++ 0 ∷ []) ≡ true
+    → closed (items n lim r .out) ≡ true
 unfolding items _>>=_ peek eof pure some at skip
 root zero lim d r h l e = absurd (omega arith)
 root (suc n) lim d [] h l e = absurd (false≢true e)
 root (suc n) lim d (s ∷ r) h l e =
     by (root n lim (last d (leaves (x .out))) (x .rest) less last-left) (item-single (parse-block lim) (s ∷ r)) (closes-item [] refl lim .word (s ∷ r))
-    (ap (shutBy (2 ∷ [])) (sym (append-assoc (ev (x .out)) (ev (y .out)) (0 ∷ [])) ∙ ap (λ (l : List ℕ). l ++ 0 ∷ []) (sym (ev-app (x .out) (y .out)))) ∙ e)
+    (ap (shutBy (2 ∷ [])) (sym (ap (λ (l : List ℕ). l ++ 0 ∷ []) (ev-app (x .out) (y .out)) ∙ append-assoc (ev (x .out)) (ev (y .out)) (0 ∷ []))) ∙ e)
   where
     x : Res Bool
     x = parse-source-item (parse-block lim) (s ∷ r)
@@ -212,7 +221,10 @@ root (suc n) lim d (s ∷ r) h l e =
     es = ev (y .out) ++ 0 ∷ []
 
     last-left : last (last d (leaves (x .out))) (x .rest) ≡ Newline
-    last-left = sym (last-app d (leaves (x .out)) (x .rest)) ∙ ap (last d) (good-item [] refl stray refl lim lim (equal refl) .split (s ∷ r)) ∙ l
+    last-left =
+        sym (last-app d (leaves (x .out)) (x .rest))
+        ∙ ap (last d) (good-item [] refl stray refl lim lim (equal refl) .split (s ∷ r))
+        ∙ l
 
     count : length (leaf-events es) ≡ length (x .rest)
     count =
@@ -220,11 +232,12 @@ root (suc n) lim d (s ∷ r) h l e =
         ∙ length-map (leaves (y .out)) kind
         ∙ ap length (items-leaves n lim (x .rest) less)
 
-    by : (shutBy (2 ∷ []) es ≡ true → closed (y .out) ≡ true) → {o : Forest} → Single o → (x .rest ≡ Newline ∷ [] → shutsLeaf o ≡ true → shuts o ≡ true)
-        → shutBy (2 ∷ []) (ev o ++ es) ≡ true → closed (o <> y .out) ≡ true
+    by : (shutBy (2 ∷ []) es ≡ true → closed (y .out) ≡ true) → {o : Forest} → Single o
+        → (x .rest ≡ Newline ∷ [] → shutsLeaf o ≡ true → shuts o ≡ true) → shutBy (2 ∷ []) (ev o ++ es) ≡ true → closed (o <> y .out) ≡ true
     by ih none w q = ih q
     by ih (token {s}) w q = ih (sym (pass-leaf s (2 ∷ []) es refl) ∙ q)
-    by ih (branch {k} {c}) w q = at-found (child k 2 c es (sym (ap (shutBy (num k ∷ 2 ∷ [])) (append-assoc (ev c) (0 ∷ []) es)) ∙ sym (step-node k (2 ∷ []) ((ev c ++ 0 ∷ []) ++ es)) ∙ q))
+    by ih (branch {k} {c}) w q = at-found
+        (child k 2 c es (sym (step-node k (2 ∷ []) ((ev c ++ 0 ∷ []) ++ es) ∙ ap (shutBy (num k ∷ 2 ∷ [])) (append-assoc (ev c) (0 ∷ []) es)) ∙ q))
       where
         at-found : Found k 2 c es → closed (node k c (y .out)) ≡ true
         at-found (inside t m) =
