@@ -1,14 +1,15 @@
 -- Document 01's examples, computed from source bytes. Where it does not say the whole reading, the rest is the compiled reference's answer.
 -- Assumes nothing.
 use Prim.Native.Nat.{ℕ, zero, suc, _+_, _*_}
+use Prim.Native.String.{String}
 use mathlib.Core.Path.{_≡_, refl}
-use mathlib.Core.Bool.{true}
+use mathlib.Core.Bool.{Bool, true, false}
 use mathlib.Core.List.{List, [], _∷_, _++_, map}
 use lib.ListN.{length}
 use Rattle.lexer.specs.Syntax.{Error, Whitespace, Newline, Comment, Ident, Number, QuotedIdent, QuotedString, Dot, Equal, RParen}
 use Rattle.grammar.specs.Words.{words, wordOf}
 use Rattle.grammar.specs.Block.{MAX-CONTROL-FLOW-NESTING as limit}
-use Rattle.grammar.specs.Joins.{here, there, Joined}
+use Rattle.grammar.specs.Joins.{here, there, shutBy, Joined}
 use Rattle.grammar.specs.Source.{symbols, source-events, source-places, Reading}
 use Rattle.grammar.specs.Compute.{bytes, _from_to_, again}
 use Rattle.grammar.specs.Theorems.FewOpen.{peak}
@@ -213,7 +214,18 @@ five-for-two : source-places limit (bytes "pub(#!d\n)const") ≡
 unfolding again
 five-for-two = refl
 
--- ---- A join. That the premises are needed is shown of calls, in answer/specs/Needed.
+-- ---- Joins. That the premises are needed is shown of calls, in answer/specs/Needed.
+-- Whether by the events the last token but one closes a procedure or begin block under the root.
+closing : String → Bool
+closing a = shutBy [] (source-events limit (bytes a))
+
+-- It does; it is a type's body's last token, a procedure's name, an inner block's `end`, or an earlier `end` closes.
+closing-shown :
+    map closing ("begin end\n" ∷ "@a pub proc b if add end end\n" ∷ "type a = end\n" ∷ "proc end\n" ∷ "begin if end\n" ∷ "begin end type a = end\n" ∷ [])
+    ≡ true ∷ true ∷ false ∷ false ∷ false ∷ false ∷ []
+unfolding again closing
+closing-shown = refl
+
 joined-files : Joined limit (symbols (bytes "proc a pub ( end\n")) (symbols (bytes "proc b end"))
 unfolding again
 joined-files = joined limit (symbols (bytes "proc a pub ( end\n")) (symbols (bytes "proc b end")) (record { ends = there (there (there (there (there (there (there (there here))))))); closes = refl; starts = refl })

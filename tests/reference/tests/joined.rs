@@ -38,6 +38,8 @@ fn the_premise_is_checked() {
         ("begin if end\n", ""),
         ("begin if end end end\n", ""),
         ("type a = end\n", "x"),
+        ("proc end\n", "end"),
+        ("begin end type a = end\n", "x"),
         ("type T = a begin end\n", ""),
         ("begin end\"\\\n", "\""),
         ("begin end\n", ") a"),
