@@ -216,15 +216,17 @@ five-for-two = refl
 
 -- ---- Joins. That the premises are needed is shown of calls, in answer/specs/Needed.
 -- Whether by the events the last token but one closes a procedure or begin block under the root.
-closing : String → Bool
-closing a = shutBy [] (source-events limit (bytes a))
+end-closes : String → Bool
+end-closes a = shutBy [] (source-events limit (bytes a))
 
--- It does; it is a type's body's last token, a procedure's name, an inner block's `end`, or an earlier `end` closes.
-closing-shown :
-    map closing ("begin end\n" ∷ "@a pub proc b if add end end\n" ∷ "type a = end\n" ∷ "proc end\n" ∷ "begin if end\n" ∷ "begin end type a = end\n" ∷ [])
+-- In the first two it does. Then it is the last token of a type's body, a procedure's name, an inner block's `end`, and once more a type's
+-- token, where an earlier `end` closes.
+ends-close :
+    map end-closes
+    ("begin end\n" ∷ "@a pub proc b if add end end\n" ∷ "type a = end\n" ∷ "proc end\n" ∷ "begin if end\n" ∷ "begin end type a = end\n" ∷ [])
     ≡ true ∷ true ∷ false ∷ false ∷ false ∷ false ∷ []
-unfolding again closing
-closing-shown = refl
+unfolding again end-closes
+ends-close = refl
 
 joined-files : Joined limit (symbols (bytes "proc a pub ( end\n")) (symbols (bytes "proc b end"))
 unfolding again
