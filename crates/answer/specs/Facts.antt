@@ -2,10 +2,8 @@
 -- Assumes nothing.
 use Prim.Native.Nat.{ℕ, _+_, _*_, _≤_}
 use mathlib.Core.Path.{_≡_, refl, sym, ap, _∙_}
-use mathlib.Core.Bool.{true, false, cond}
-use mathlib.Core.List.{List, [], _∷_, _++_, map, map-append, append-nil, append-assoc}
+use mathlib.Core.List.{List, [], _∷_, map, append-nil}
 use native.Mathlib.Omega.{arith}
-use lib.Dec.{ltb}
 use lib.ListN.{length, length-map}
 use Rattle.utf8.specs.WellFormed.{WellFormed}
 use Rattle.utf8.specs.Laws.{accepts as valid}
@@ -14,12 +12,13 @@ use Rattle.lexer.specs.Tokens.{token-kinds}
 use Rattle.lexer.specs.Tokens
 use Rattle.lexer.specs.Laws.{Every, bytes, lossless, few-tokens, length-ends}
 use Rattle.grammar.specs.Words.{Sym, kindOf, eventOf}
-use Rattle.grammar.specs.Run.{Forest, nil, leaf, node, say, leaves, num}
+use Rattle.grammar.specs.Run.{leaves}
 use Rattle.grammar.specs.Item.{parse}
-use Rattle.grammar.specs.Out.{kind, ev, events, diags}
+use Rattle.grammar.specs.Out.{kind, events, diags}
 use Rattle.grammar.specs.Source.{symbols}
 use Rattle.grammar.specs.Source
-use Rattle.grammar.specs.Laws.Premise.{kind-high, num-node}
+use Rattle.grammar.specs.Joins.{leaf-events}
+use Rattle.grammar.specs.Laws.Premise.{leaf-events-of}
 use Rattle.grammar.specs.Theorems.AllTokens.{all-tokens}
 use Rattle.grammar.specs.Theorems.FewOpen.{peak, few-open}
 use Rattle.grammar.specs.Theorems.FewEvents.{few-events}
@@ -31,11 +30,6 @@ use Rattle.answer.specs.Call.{Called}
 use Rattle.answer.specs.Given.{T, E, D, Given, given, cut}
 use Rattle.answer.specs.Accepts.{reading, gives, accepting}
 use Rattle.answer.specs.JoinedTokens.{cut-source}
-
--- The events of tokens.
-abbrev pub leaf-events : List ℕ → List ℕ
-leaf-events [] = []
-leaf-events (e ∷ es) = cond (ltb e 27) (leaf-events es) (e ∷ leaf-events es)
 
 -- The counts are those of what is given. The leaves in order are the tokens, and their texts the source, byte for byte. At most 516 nodes are
 -- open together.
@@ -50,24 +44,6 @@ pub record Facts (source : List ℕ) (g : Given) (counts : List ℕ) : Type 0 wh
   pub few-events : E counts ≤ 7 * T counts + 2
   pub few-diagnostics : D counts ≤ 2 * T counts
 
-node-event : (e : ℕ) (es : List ℕ) → ltb e 27 ≡ true → leaf-events (e ∷ es) ≡ leaf-events es
-node-event e es h = rw h
-
-token-event : (e : ℕ) (es : List ℕ) → ltb e 27 ≡ false → leaf-events (e ∷ es) ≡ e ∷ leaf-events es
-token-event e es h = rw h
-
-of-forest : (x : Forest) (es : List ℕ) → leaf-events (ev x ++ es) ≡ map kind (leaves x) ++ leaf-events es
-of-forest nil es = refl
-of-forest (leaf s x) es = token-event (kind s) (ev x ++ es) (kind-high s) ∙ ap (λ (l : List ℕ). kind s ∷ l) (of-forest x es)
-of-forest (node k c x) es =
-    node-event (num k) ((ev c ++ 0 ∷ ev x) ++ es) (num-node k .1)
-    ∙ ap leaf-events (append-assoc (ev c) (0 ∷ ev x) es)
-    ∙ of-forest c (0 ∷ (ev x ++ es))
-    ∙ ap (λ (l : List ℕ). map kind (leaves c) ++ l) (of-forest x es)
-    ∙ sym (ap (λ (l : List ℕ). l ++ leaf-events es) (map-append kind (leaves c) (leaves x))
-    ∙ append-assoc (map kind (leaves c)) (map kind (leaves x)) (leaf-events es))
-of-forest (say m x) es = of-forest x es
-
 by-kinds : (ss : List Sym) → map kind ss ≡ map eventOf (map kindOf ss)
 by-kinds [] = refl
 by-kinds (s ∷ ss) = ap (λ (l : List ℕ). kind s ∷ l) (by-kinds ss)
@@ -75,7 +51,7 @@ by-kinds (s ∷ ss) = ap (λ (l : List ℕ). kind s ∷ l) (by-kinds ss)
 leaves-of : (source : List ℕ) → leaf-events (events-of source) ≡ map eventOf (token-kinds source)
 unfolding events
 leaves-of source =
-    of-forest (parse limit (symbols source)) (0 ∷ [])
+    leaf-events-of (parse limit (symbols source)) (0 ∷ [])
     ∙ append-nil (map kind (leaves (parse limit (symbols source))))
     ∙ ap (map kind) (all-tokens limit (symbols source))
     ∙ by-kinds (symbols source)
@@ -100,7 +76,7 @@ of-reading source counts t e d =
       messages = length-map (places-of source) _ ∙ sym d;
       leaves-are = leaves-of source;
       texts-are = ap bytes (cut-source source) ∙ lossless source;
-      few-open = few-open limit (symbols source);
+      few-open = omega (arith, few-open limit (symbols source));
       few-events = omega (arith, events-few source);
       few-diagnostics = omega (arith, diagnostics-few source);
     }

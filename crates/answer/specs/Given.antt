@@ -55,18 +55,19 @@ end-text = 101 ∷ 110 ∷ 100 ∷ []
 abbrev pub is-end : Token → Bool
 is-end t = eqb Ident (t .kind) && same end-text (t .text)
 
--- The last two tokens are an Ident `end` and a newline.
-abbrev pub end-and-newline : List Token → Bool
-end-and-newline [] = false
-end-and-newline (t ∷ []) = false
-end-and-newline (t ∷ u ∷ []) = is-end t && eqb Newline (u .kind)
-end-and-newline (t ∷ u ∷ v ∷ ts) = end-and-newline (u ∷ v ∷ ts)
+-- The last token but one is an Ident `end`.
+abbrev pub end-before-last : List Token → Bool
+end-before-last [] = false
+end-before-last (t ∷ []) = false
+end-before-last (t ∷ u ∷ []) = is-end t
+end-before-last (t ∷ u ∷ v ∷ ts) = end-before-last (u ∷ v ∷ ts)
 
 -- A, the source a, and B may be joined: A's last token is a newline ending in LF, and the token before it is the `end` that closes a
 -- procedure or `begin` block under the root; B's first token that is no whitespace, newline or comment isn't `)`, or B has none.
 pub record Joins (a : List ℕ) (A B : Given) : Type 0 where
+  pub newline : last 0 (A .kinds) ≡ Newline
   pub line-feed : last 0 a ≡ 10
-  pub end-newline : end-and-newline (cut 0 (A .kinds) (A .ends) a) ≡ true
+  pub word : end-before-last (cut 0 (A .kinds) (A .ends) a) ≡ true
   pub closes : shutBy [] (A .events) ≡ true
   pub starts : at (is RParen) (next-relevant-block-token (B .kinds)) ≡ false
 

@@ -2,17 +2,15 @@
 -- Assumes nothing.
 use Prim.Native.Nat.{ℕ, _+_, _≤_}
 use mathlib.Core.Path.{_≡_, refl, sym, ap, ap₂, _∙_}
-use mathlib.Core.Bool.{true}
 use mathlib.Core.List.{List, [], _∷_, _++_, map, map-id, map-append, tail, dropLast}
 use native.Mathlib.Omega.{arith}
 use lib.ListN.{length, length-append, length-map}
 use Rattle.utf8.specs.WellFormed.{WellFormed}
 use Rattle.utf8.specs.Last.{last-char, last-append}
 use Rattle.utf8.specs.Laws.{accepted as well-formed, joined as valid-join}
-use Rattle.lexer.specs.Syntax.{Newline}
 use Rattle.lexer.specs.Lexer.{tokenize}
-use Rattle.lexer.specs.Tokens.{token-kinds, token-ends}
-use Rattle.lexer.specs.Laws.{last, last-end, length-ends, tokenize-nil}
+use Rattle.lexer.specs.Tokens.{token-ends}
+use Rattle.lexer.specs.Laws.{last-end, length-ends, tokenize-nil}
 use Rattle.lexer.specs.Join.{join, join-kinds, join-ends}
 use Rattle.grammar.specs.Look.{at}
 use Rattle.grammar.specs.Out.{Place, events, diags, places}
@@ -20,32 +18,30 @@ use Rattle.grammar.specs.Source.{syms, symbols}
 use Rattle.grammar.specs.Source
 use Rattle.grammar.specs.Joins.{shift}
 use Rattle.grammar.specs.Joins
-use Rattle.grammar.specs.Theorems.Joined.{joined, joined-events}
+use Rattle.grammar.specs.Theorems.Joined.{end-follows, joined, joined-events}
 use Rattle.grammar.specs.Theorems.JoinedBytes.{joined-bytes}
 use Rattle.grammar.specs.Block.{MAX-CONTROL-FLOW-NESTING as limit}
 use Rattle.marks.specs.Laws.{join-syms, join-kept}
 use Rattle.answer.specs.Answer.{Slices, events-of, places-of}
 use Rattle.answer.specs.Call.{Called}
-use Rattle.answer.specs.Given.{T, E, D, given, end-and-newline, Joins, Fits, Joined}
+use Rattle.answer.specs.Given.{T, E, D, given, Joins, Fits, Joined}
 use Rattle.answer.specs.Accepts.{Accepted, reading, gives, accepting}
-use Rattle.answer.specs.JoinedTokens.{cut-source, to-tail, to-newline, same-start}
+use Rattle.answer.specs.JoinedTokens.{newline-last, same-start}
 
 -- the readings of A, of B and of the join
 module _ (a b : List ℕ) (j : Joins a (reading a) (reading b)) where
-  ended : end-and-newline (tokenize a) ≡ true
-  ended = rw (cut-source a) at (j .end-newline)
-
-  newline : last 0 (token-kinds a) ≡ Newline
-  newline = to-newline 0 (tokenize a) ended
-
   premise : Joins.Joins limit (symbols a) (symbols b)
-  premise = record { ends = to-tail (tokenize a) ended; closes = j .closes; starts = same-start (tokenize b) ∙ j .starts }
+  premise = record {
+    ends = end-follows limit (symbols a) (newline-last 0 (tokenize a) (j .newline)) (j .closes);
+    closes = j .closes;
+    starts = same-start (tokenize b) ∙ j .starts;
+  }
 
   symbols-are : symbols (a ++ b) ≡ symbols a ++ symbols b
-  symbols-are = join-syms a b newline (j .line-feed)
+  symbols-are = join-syms a b (j .newline) (j .line-feed)
 
   pub token-count : length (tokenize (a ++ b)) ≡ length (tokenize a) + length (tokenize b)
-  token-count = ap length (join a b newline (j .line-feed)) ∙ length-append (tokenize a) (tokenize b)
+  token-count = ap length (join a b (j .newline) (j .line-feed)) ∙ length-append (tokenize a) (tokenize b)
 
   pub events-are : events-of (a ++ b) ≡ dropLast (events-of a) ++ tail (events-of b)
   events-are = ap (events limit) symbols-are ∙ joined limit (symbols a) (symbols b) premise .events-are
@@ -64,7 +60,7 @@ module _ (a b : List ℕ) (j : Joins a (reading a) (reading b)) where
 
     pub places-are : places-of (a ++ b) ≡ places-of a ++ map (shift (length a)) (places-of b)
     places-are =
-        ap₂ (λ (es : List ℕ) (ss : List ℕ). places es (last-char (a ++ b)) (diags limit ss)) (join-ends a b newline (j .line-feed)) symbols-are
+        ap₂ (λ (es : List ℕ) (ss : List ℕ). places es (last-char (a ++ b)) (diags limit ss)) (join-ends a b (j .newline) (j .line-feed)) symbols-are
         ∙ joined-bytes limit (length a) (token-ends a) (token-ends b) (last-char b) (last-char (a ++ b)) (last-end a)
         (symbols a) (symbols b) premise (last-char a) (length-ends 0 (tokenize a) ∙ sym (length-map (tokenize a) Source.sym)) anchor
 
@@ -97,8 +93,8 @@ module _ (a b : List ℕ) (j : Joins a (reading a) (reading b)) where
       t-is = t;
       e-is = e;
       d-is = d;
-      kinds-are = join-kinds a b newline (j .line-feed);
-      ends-are = join-ends a b newline (j .line-feed);
+      kinds-are = join-kinds a b (j .newline) (j .line-feed);
+      ends-are = join-ends a b (j .newline) (j .line-feed);
       events-are = events-are;
       messages-are = messages-are;
       starts-are = by-place (λ p. p .start) (λ n. length a + n) (λ p. refl);
@@ -120,13 +116,12 @@ module _
         let gb = gives b sb cb pb on-b .1 in
         let j : Joins a (reading a) (reading b) = rw (ga .given-is, gb .given-is) at joins in
         let well = well-formed a (pa .utf8) in
-        let nl = newline a b j in
         let pj : Accepted (a ++ b) sj cj = record {
           words = fits .words;
           small = small;
           utf8 = valid-join a b (pa .utf8) (pb .utf8);
           tokens = omega (arith, token-count a b j, ga .t-is, gb .t-is, fits .tokens);
-          kept = join-kept a b nl (j .line-feed) (pa .kept) (pb .kept);
+          kept = join-kept a b (j .newline) (j .line-feed) (pa .kept) (pb .kept);
           events = omega (arith, event-count a b j, ga .e-is, gb .e-is, fits .events);
           places = omega (arith, place-count a b j well, ga .d-is, gb .d-is, fits .diagnostics);
         } in

@@ -1,26 +1,25 @@
 -- From what a call gave to the tokens and symbols of the definitions: demand 3's premises.
 -- Assumes nothing.
-use Prim.Native.Nat.{ℕ, _+_, _-_, _<_}
+use Prim.Native.Nat.{ℕ, zero, suc, _+_, _-_, _<_}
 use mathlib.Core.Path.{_≡_, refl, sym, ap, ap₂, _∙_}
-use mathlib.Core.Bool.{Bool, true, false, cond, _||_, false≢true}
+use mathlib.Core.Bool.{Bool, true, false, cond, _&&_, _||_, false≢true}
 use mathlib.Core.List.{List, [], _∷_, map}
 use native.Mathlib.Omega.{arith}
 use borrow.Author.Tests.{eqb-true, eqb-false, ne-eqb}
 use lib.Dec.{eqb}
-use lib.ListN.{length}
+use lib.ListN.{length, getD}
 use lib.Seq.{take-append-seam, drop-append-seam}
 use Rattle.lexer.specs.Syntax.{Ident, Newline, RParen}
 use Rattle.lexer.specs.Lexer.{Token, same, tokenize}
 use Rattle.lexer.specs.Tokens.{kindOf, ends, token-kinds, token-ends}
-use Rattle.lexer.specs.Laws.{bytes, last, lossless}
-use Rattle.grammar.specs.Words.{is, key, END, words, numberIn, wordOf, symOf}
+use Rattle.lexer.specs.Laws.{Every, bytes, last, lossless}
+use Rattle.grammar.specs.Words.{Sym, is, key, END, words, numberIn, wordOf, symOf}
 use Rattle.grammar.specs.Look.{at, oneOf, is-trivia, skip, next-relevant-block-token}
 use Rattle.grammar.specs.Source.{syms}
 use Rattle.grammar.specs.Source
 use Rattle.grammar.specs.Joins.{Tail, here, there}
-use Rattle.grammar.specs.Laws.Here.{and-l, and-r}
-use Rattle.marks.specs.Code.{equal}
-use Rattle.answer.specs.Given.{cut, end-text, is-end, end-and-newline}
+use Rattle.grammar.specs.Laws.Ahead.{tail-nil}
+use Rattle.answer.specs.Given.{cut, end-text, is-end, end-before-last}
 
 -- kinds, ends and bytes make the tokens again
 cut-tokens : (n : ℕ) (ts : List Token) → cut n (map kindOf ts) (ends n ts) (bytes ts) ≡ ts
@@ -34,29 +33,62 @@ cut-tokens n (t ∷ ts) =
 pub cut-source : (s : List ℕ) → cut 0 (token-kinds s) (token-ends s) s ≡ tokenize s
 cut-source s = ap (cut 0 (token-kinds s) (token-ends s)) (sym (lossless s)) ∙ cut-tokens 0 (tokenize s)
 
--- `end` as the grammar reads it
-end-sym : (t : Token) → is-end t ≡ true → Source.sym t ≡ END
-unfolding symOf wordOf numberIn words same
-end-sym t e =
-    let k = eqb-true Ident (t .kind) (and-l (eqb Ident (t .kind)) (same end-text (t .text)) e) in
-    let x = equal end-text (t .text) (and-r (eqb Ident (t .kind)) (same end-text (t .text)) e) in
-    ap₂ symOf (sym k) (sym x)
-
-newline-sym : (t : Token) → eqb Newline (t .kind) ≡ true → Source.sym t ≡ Newline
+-- the last token is a newline as the grammar reads it
+newline-sym : (t : Token) → t .kind ≡ Newline → Source.sym t ≡ Newline
 unfolding symOf
-newline-sym t e = ap (λ (k : ℕ). symOf k (t .text)) (sym (eqb-true Newline (t .kind) e))
+newline-sym t e = ap (λ (k : ℕ). symOf k (t .text)) e
 
-pub to-tail : (ts : List Token) → end-and-newline ts ≡ true → Tail (syms ts)
-to-tail [] e = absurd (false≢true e)
-to-tail (t ∷ []) e = absurd (false≢true e)
-to-tail (t ∷ u ∷ []) e = rw (end-sym t (and-l (is-end t) (eqb Newline (u .kind)) e), newline-sym u (and-r (is-end t) (eqb Newline (u .kind)) e)) here
-to-tail (t ∷ u ∷ v ∷ ts) e = there (to-tail (u ∷ v ∷ ts) e)
+pub newline-last : (d : ℕ) (ts : List Token) → last d (map kindOf ts) ≡ Newline → last d (syms ts) ≡ Newline
+newline-last d [] e = e
+newline-last d (t ∷ []) e = newline-sym t e
+newline-last d (t ∷ u ∷ ts) e = newline-last d (u ∷ ts) e
 
-pub to-newline : (d : ℕ) (ts : List Token) → end-and-newline ts ≡ true → last d (map kindOf ts) ≡ Newline
-to-newline d [] e = absurd (false≢true e)
-to-newline d (t ∷ []) e = absurd (false≢true e)
-to-newline d (t ∷ u ∷ []) e = sym (eqb-true Newline (u .kind) (and-r (is-end t) (eqb Newline (u .kind)) e))
-to-newline d (t ∷ u ∷ v ∷ ts) e = to-newline (t .kind) (u ∷ v ∷ ts) e
+-- the text with a word's number is that word
+no-less : (n m : ℕ) (ws : List (List ℕ)) (t : List ℕ) → 0 < m → m < n → numberIn n ws t ≡ m → ⊥
+unfolding numberIn
+no-less n m [] t p q e = omega arith
+no-less n m (w ∷ ws) t p q e = by-test (same w t) e (no-less (suc n) m ws t p (omega arith))
+  where
+    by-test : (u : Bool) → cond u n (numberIn (suc n) ws t) ≡ m → (numberIn (suc n) ws t ≡ m → ⊥) → ⊥
+    by-test true e ih = omega arith
+    by-test false e ih = ih e
+
+text-of : (n k : ℕ) (ws : List (List ℕ)) (t : List ℕ) → 0 < n → numberIn n ws t ≡ n + k → same (getD ws k []) t ≡ true
+unfolding numberIn
+text-of n k [] t p e = absurd (omega arith)
+text-of n k (w ∷ ws) t p e = by-test k (same w t) refl e (λ k. text-of (suc n) k ws t (omega arith))
+  where
+    by-test : (k : ℕ) (u : Bool) → same w t ≡ u → cond u n (numberIn (suc n) ws t) ≡ n + k
+        → ((k : ℕ) → numberIn (suc n) ws t ≡ suc n + k → same (getD ws k []) t ≡ true) → same (getD (w ∷ ws) k []) t ≡ true
+    by-test zero true h e ih = h
+    by-test zero false h e ih = absurd (no-less (suc n) n ws t p (omega arith) (omega arith))
+    by-test (suc k) true h e ih = absurd (omega arith)
+    by-test (suc k) false h e ih = ih k (omega arith)
+
+-- `end` as the grammar reads it is an Ident `end`
+end-token : (t : Token) → t .kind < 60 → Source.sym t ≡ END → is-end t ≡ true
+unfolding symOf wordOf words
+end-token t low e = by-test (eqb Ident (t .kind)) refl e
+  where
+    by-test : (u : Bool) → eqb Ident (t .kind) ≡ u → cond u (key (wordOf (t .text))) (t .kind) ≡ END → (u && same end-text (t .text)) ≡ true
+    by-test true h e = text-of 1 5 words (t .text) (omega arith) (omega arith)
+    by-test false h e = absurd (omega arith)
+
+tail-one : {s : Sym} → Tail (s ∷ []) → ⊥
+tail-one (there h) = tail-nil h
+
+tail-two : {s u : Sym} → Tail (s ∷ u ∷ []) → s ≡ END
+tail-two here = refl
+tail-two (there h) = absurd (tail-one h)
+
+tail-more : {s u v : Sym} {r : List Sym} → Tail (s ∷ u ∷ v ∷ r) → Tail (u ∷ v ∷ r)
+tail-more (there h) = h
+
+pub word-before-last : (ts : List Token) → Every (λ t. t .kind < 60) ts → Tail (syms ts) → end-before-last ts ≡ true
+word-before-last [] low h = absurd (tail-nil h)
+word-before-last (t ∷ []) low h = absurd (tail-one h)
+word-before-last (t ∷ u ∷ []) low h = end-token t (low .0) (tail-two h)
+word-before-last (t ∷ u ∷ v ∷ ts) low h = word-before-last (u ∷ v ∷ ts) (low .1) (tail-more h)
 
 -- a kind that is no Ident's is met in the symbols where it is met in the kinds
 plain : (k : ℕ) (t : Token) → k < 256 → eqb k Ident ≡ false → is k (Source.sym t) ≡ is k (t .kind)

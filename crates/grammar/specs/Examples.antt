@@ -1,15 +1,14 @@
 -- Document 01's examples, computed from source bytes. Where it does not say the whole reading, the rest is the compiled reference's answer.
 -- Assumes nothing.
-use Prim.Native.Nat.{ℕ, zero, suc}
+use Prim.Native.Nat.{ℕ, zero, suc, _+_, _*_}
 use Prim.Native.String.{String}
 use mathlib.Core.Path.{_≡_, refl}
-use mathlib.Core.Bool.{true, false}
-use mathlib.Core.List.{List, [], _∷_, _++_, map, tail, dropLast}
+use mathlib.Core.Bool.{Bool, true, false}
+use mathlib.Core.List.{List, [], _∷_, _++_, map}
 use lib.ListN.{length}
-use native.Mathlib.Omega.{arith}
 use Rattle.lexer.specs.Syntax.{Error, Whitespace, Newline, Comment, Ident, Number, QuotedIdent, QuotedString, Dot, Equal, RParen}
-use Rattle.grammar.specs.Words.{is, words, wordOf}
-use Rattle.grammar.specs.Look.{at, next-relevant-block-token}
+use Rattle.grammar.specs.Words.{words, wordOf}
+use Rattle.grammar.specs.Block.{MAX-CONTROL-FLOW-NESTING as limit}
 use Rattle.grammar.specs.Joins.{here, there, shutBy, Joined}
 use Rattle.grammar.specs.Source.{symbols, source-events, source-places, Reading}
 use Rattle.grammar.specs.Compute.{bytes, _from_to_, again}
@@ -186,67 +185,49 @@ unfolding again
 word-numbers = refl
 
 -- ---- The bounds are reached.
--- `begin` and n times ` if`: at 256 one missing `end`, at 257 the depth diagnostic; 516 nodes are open.
+-- `begin` and n times ` if`: at the limit one missing `end`, one further the depth diagnostic, 774 to 776 at 256; as many nodes are open
+-- as ever, 516 at 256.
 ifs : ℕ → List ℕ
 ifs zero = []
 ifs (suc n) = bytes " if" ++ ifs n
 
-deep-256 : source-places 256 (bytes "begin" ++ ifs 256) ≡ 3 from 772 to 772 ∷ []
+deepest : source-places limit (bytes "begin" ++ ifs limit) ≡ 3 from (3 * limit + 4) to (3 * limit + 4) ∷ []
 unfolding again ifs
-deep-256 = refl
+deepest = refl
 
-deep-257 : source-places 256 (bytes "begin" ++ ifs 257) ≡ 49 from 774 to 776 ∷ []
+too-deep : source-places limit (bytes "begin" ++ ifs (suc limit)) ≡ 49 from (3 * limit + 6) to (3 * limit + 8) ∷ []
 unfolding again ifs
-deep-257 = refl
+too-deep = refl
 
-open-516 : peak 0 (source-events 256 (bytes "begin" ++ ifs 257)) ≡ 516
+most-open : peak 0 (source-events limit (bytes "begin" ++ ifs (suc limit))) ≡ 2 * limit + 4
 unfolding again ifs
-open-516 = refl
+most-open = refl
 
 -- Two diagnostics for a token.
-two-each : length (source-places 256 (bytes "@$@$")) ≡ 8
+two-each : length (source-places limit (bytes "@$@$")) ≡ 8
 unfolding again
 two-each = refl
 
 -- A constant that reports five times for two tokens, and ends at the doc comment.
-five-for-two : source-places 256 (bytes "pub(#!d\n)const") ≡
+five-for-two : source-places limit (bytes "pub(#!d\n)const") ≡
     40 from 4 to 7 ∷ 41 from 4 to 7 ∷ 26 from 4 to 7 ∷ 27 from 4 to 7 ∷ 28 from 4 to 7 ∷ 22 from 8 to 9 ∷ 27 from 13 to 13 ∷ 28 from 13 to 13 ∷ []
 unfolding again
 five-for-two = refl
 
--- ---- The join, and that its premises are needed.
--- The join of two texts is not A's events and then B's.
-NotJoined : String → String → Type 0
-NotJoined a b = source-events 256 (bytes a ++ bytes b) ≡ dropLast (source-events 256 (bytes a)) ++ tail (source-events 256 (bytes b)) → ⊥
+-- ---- Joins. That the premises are needed is shown of calls, in answer/specs/Needed.
+-- Whether by the events the last token but one closes a procedure or begin block under the root.
+end-closes : String → Bool
+end-closes a = shutBy [] (source-events limit (bytes a))
 
--- B starts with `)`: lookahead finds `pub ( end ) proc` across the joint.
-paren-a : shutBy [] (source-events 256 (bytes "proc a pub ( end\n")) ≡ true
+-- In the first two it does. Then it is the last token of a type's body, a procedure's name, an inner block's `end`, and once more a type's
+-- token, where an earlier `end` closes.
+ends-close :
+    map end-closes
+    ("begin end\n" ∷ "@a pub proc b if add end end\n" ∷ "type a = end\n" ∷ "proc end\n" ∷ "begin if end\n" ∷ "begin end type a = end\n" ∷ [])
+    ≡ true ∷ true ∷ false ∷ false ∷ false ∷ false ∷ []
+unfolding again end-closes
+ends-close = refl
+
+joined-files : Joined limit (symbols (bytes "proc a pub ( end\n")) (symbols (bytes "proc b end"))
 unfolding again
-paren-a = refl
-
-paren-b : at (is RParen) (next-relevant-block-token (symbols (bytes ") proc b end"))) ≡ true
-unfolding again
-paren-b = refl
-
-paren-needed : NotJoined "proc a pub ( end\n" ") proc b end"
-unfolding again NotJoined
-paren-needed e = let z : _≡_ {A = ℕ} 0 1 = cc in omega arith
-
--- A ends in no `end`: the space leaves the Expr once `proc` follows.
-end-needed : NotJoined "const X = 1 \n" "proc"
-unfolding again NotJoined
-end-needed e = let z : _≡_ {A = ℕ} 0 1 = cc in omega arith
-
--- A's `end` closes nothing: it stands in a type's body, which goes on into B.
-open-a : shutBy [] (source-events 256 (bytes "type a = end\n")) ≡ false
-unfolding again
-open-a = refl
-
-closing-needed : NotJoined "type a = end\n" "x"
-unfolding again NotJoined
-closing-needed e = let z : _≡_ {A = ℕ} 0 1 = cc in omega arith
-
--- With another B the first A is joined.
-joined-files : Joined 256 (symbols (bytes "proc a pub ( end\n")) (symbols (bytes "proc b end"))
-unfolding again
-joined-files = joined 256 (symbols (bytes "proc a pub ( end\n")) (symbols (bytes "proc b end")) (record { ends = there (there (there (there (there (there (there (there here))))))); closes = refl; starts = refl })
+joined-files = joined limit (symbols (bytes "proc a pub ( end\n")) (symbols (bytes "proc b end")) (record { ends = there (there (there (there (there (there (there (there here))))))); closes = refl; starts = refl })

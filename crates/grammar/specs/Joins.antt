@@ -2,11 +2,11 @@
 -- Assumes nothing: these are definitions.
 use Prim.Native.Nat.{ℕ, _+_}
 use mathlib.Core.Path.{_≡_}
-use mathlib.Core.Bool.{Bool, true, false, cond, _&&_, _||_}
+use mathlib.Core.Bool.{Bool, true, false, cond, not, _&&_, _||_}
 use mathlib.Core.List.{List, [], _∷_, _++_, map, tail, dropLast}
 use lib.Dec.{eqb, ltb}
 use lib.ListN.{length}
-use Rattle.lexer.specs.Syntax.{BeginBlock, Procedure, Newline, Ident, RParen}
+use Rattle.lexer.specs.Syntax.{BeginBlock, Procedure, Newline, RParen}
 use Rattle.grammar.specs.Words.{Sym, is, END}
 use Rattle.grammar.specs.Look.{at, next-relevant-block-token}
 use Rattle.grammar.specs.Out.{events, Diag, diags, Place}
@@ -16,13 +16,19 @@ pub data Tail : List Sym → Type 0 where
   here : Tail (END ∷ Newline ∷ [])
   there : {s : Sym} {r : List Sym} → Tail r → Tail (s ∷ r)
 
--- The events left are 0, Newline, 0.
-abbrev pub lastThree : List ℕ → Bool
-lastThree [] = false
-lastThree (x ∷ []) = false
-lastThree (x ∷ y ∷ []) = false
-lastThree (x ∷ y ∷ z ∷ []) = eqb 0 x && (eqb Newline y && eqb 0 z)
-lastThree (x ∷ y ∷ z ∷ w ∷ l) = false
+-- The events of tokens: 27 and above.
+abbrev pub leaf-events : List ℕ → List ℕ
+leaf-events [] = []
+leaf-events (e ∷ es) = cond (ltb e 27) (leaf-events es) (e ∷ leaf-events es)
+
+-- e is the event of the last token but one: behind it, in es, stands one more token's.
+abbrev pub last-but-one : ℕ → List ℕ → Bool
+last-but-one e es = not (ltb e 27) && eqb 1 (length (leaf-events es))
+
+-- The next event closes a node.
+abbrev pub zero-next : List ℕ → Bool
+zero-next [] = false
+zero-next (e ∷ es) = eqb 0 e
 
 -- The open nodes, innermost first, are a procedure or begin block, and one around it: the root.
 abbrev pub inTop : List ℕ → Bool
@@ -35,11 +41,11 @@ inTop (k ∷ r ∷ x ∷ l) = false
 abbrev pub opened : ℕ → List ℕ → List ℕ
 opened e st = cond (eqb 0 e) (tail st) (cond (ltb e 27) (e ∷ st) st)
 
--- An Ident stands just before the 0 of a procedure's or begin block's node, a child of the root; then come the newline and the root's 0.
+-- The event of the last token but one stands just before the 0 of a procedure's or begin block's node, that node being a child of the root.
 -- st: the nodes that are open before these events.
 abbrev pub shutBy : List ℕ → List ℕ → Bool
 shutBy st [] = false
-shutBy st (e ∷ es) = ((eqb Ident e && lastThree es) && inTop st) || shutBy (opened e st) es
+shutBy st (e ∷ es) = (last-but-one e es && (zero-next es && inTop st)) || shutBy (opened e st) es
 
 -- The premise. A's last tokens are `end` and a newline; by A's events that `end` closes a procedure or begin block that is a child of the
 -- root; B's first token that is no whitespace, newline or comment of either kind is no `)`, or B has none.

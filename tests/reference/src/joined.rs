@@ -36,35 +36,39 @@ fn accepted(source: &[u8]) -> Option<Parsed> {
     unwanted(text).is_none().then(|| parsed(text))
 }
 
-/// The last token is a newline ending in LF, behind the `end` that closes an item.
+/// The last token is a newline ending in LF, and the token before it is the `end` that closes a
+/// procedure or `begin` block under the root.
 fn may_end(source: &[u8], reading: &Parsed) -> bool {
-    let [.., before, end, _] = reading.tokens.as_slice() else { return false };
-    let text = &source[before.end as usize..end.end as usize];
-    let [newline, ident] = [SyntaxKind::Newline, SyntaxKind::Ident].map(|kind| kind as u16);
-    text == b"end"
+    let [before @ .., end, newline] = reading.tokens.as_slice() else { return false };
+    let start = before.last().map_or(0, |token| token.end);
+    newline.kind == SyntaxKind::Newline as u16
         && source.ends_with(b"\n")
-        && reading.events.ends_with(&[ident, 0, newline, 0])
-        && [SyntaxKind::BeginBlock, SyntaxKind::Procedure]
-            .iter()
-            .any(|kind| last_item(&reading.events) == Some(*kind as u16))
+        && end.kind == SyntaxKind::Ident as u16
+        && source[start as usize..end.end as usize] == *b"end"
+        && closed_behind(&reading.events, before.len()).is_some_and(|open| is_top_level(&open))
 }
 
-/// The kind of the last node that is a child of the root.
-fn last_item(events: &[u16]) -> Option<u16> {
-    let (mut open, mut last) = (0, None);
-    for &event in events {
+/// The nodes that are open, outermost first, at the 0 that stands just behind the event of token
+/// `index`; nothing where no 0 stands there.
+fn closed_behind(events: &[u16], index: usize) -> Option<Vec<u16>> {
+    let (mut open, mut tokens) = (Vec::new(), 0);
+    for (place, &event) in events.iter().enumerate() {
         match event {
-            0 => open -= 1,
-            1..=26 => {
-                if open == 1 {
-                    last = Some(event);
-                }
-                open += 1;
+            0 => {
+                open.pop();
             },
-            _ => {},
+            1..=26 => open.push(event),
+            _ if tokens == index => return (events.get(place + 1) == Some(&0)).then_some(open),
+            _ => tokens += 1,
         }
     }
-    last
+    None
+}
+
+/// The innermost node is a procedure or `begin` block, and its parent the root.
+fn is_top_level(open: &[u16]) -> bool {
+    let items = [SyntaxKind::BeginBlock, SyntaxKind::Procedure].map(|kind| kind as u16);
+    matches!(open, [_, item] if items.contains(item))
 }
 
 /// The first token that is no trivia is not `)`.
@@ -87,4 +91,48 @@ fn joined(first: Parsed, second: Parsed, length: u32) -> Parsed {
         ..found
     }));
     Parsed { tokens, events, diagnostics }
+}
+
+#[cfg(test)]
+mod tests {
+    use super::*;
+
+    /// `begin end` and a newline, with these events: BeginBlock is 13, Block 18, Error 1.
+    fn may_end_with(events: &[u16]) -> bool {
+        let token = |(kind, end): (SyntaxKind, u32)| Token { kind: kind as u16, end };
+        let tokens = [
+            (SyntaxKind::Ident, 5),
+            (SyntaxKind::Whitespace, 6),
+            (SyntaxKind::Ident, 9),
+            (SyntaxKind::Newline, 10),
+        ];
+        let (events, diagnostics) = (events.to_vec(), vec![]);
+        let reading = Parsed { tokens: tokens.map(token).to_vec(), events, diagnostics };
+        may_end(b"begin end\n", &reading)
+    }
+
+    /// Only the event of the `end`, the 0 behind it and the nodes open there count: where the
+    /// newline stands does not.
+    #[test]
+    fn the_end_closes_a_child_of_the_root() {
+        assert!(may_end_with(&[2, 13, 31, 27, 18, 0, 31, 0, 28, 0]));
+        assert!(may_end_with(&[2, 14, 31, 27, 18, 0, 31, 0, 28, 0]));
+        assert!(may_end_with(&[2, 13, 31, 27, 18, 0, 31, 0, 1, 28, 0, 0]));
+        assert!(may_end_with(&[2, 13, 31, 27, 31, 0, 18, 0, 28, 1, 0, 0]));
+    }
+
+    #[test]
+    fn the_end_closes_something_else() {
+        let outside: [&[u16]; 6] = [
+            &[2, 11, 31, 27, 18, 0, 31, 0, 28, 0],
+            &[2, 13, 31, 27, 18, 31, 0, 0, 28, 0],
+            &[2, 13, 31, 27, 31, 18, 0, 0, 28, 0],
+            &[2, 13, 31, 27, 31, 28, 0, 0],
+            &[2, 1, 13, 31, 27, 31, 0, 0, 28, 0],
+            &[13, 31, 27, 31, 0, 28, 0],
+        ];
+        for events in outside {
+            assert!(!may_end_with(events), "{events:?}");
+        }
+    }
 }

@@ -9,7 +9,7 @@ use native.Mathlib.Omega.{arith}
 use Rattle.lexer.specs.Syntax.{Newline, RParen}
 use Rattle.grammar.specs.Words.{Sym, is}
 use Rattle.grammar.specs.Look.{oneOf, at, skip, eof, next-relevant-top-level-token}
-use Rattle.grammar.specs.Run.{Kind, Forest, nil, leaf, _<>_, leaves, Res, P, pure, peek, inNode, pick, _>>=_, if_then_else_, take, mNever}
+use Rattle.grammar.specs.Run.{Kind, Forest, nil, leaf, node, _<>_, leaves, Res, P, pure, peek, inNode, pick, _>>=_, if_then_else_, take, mNever}
 use Rattle.grammar.specs.Bump.{error-token}
 use Rattle.grammar.specs.Block.{Blocks, parse-block}
 use Rattle.grammar.specs.Item.{parse-procedure, parse-begin-block, parse-namespace, parse-submodule, parse-constant, parse-type-decl, parse-advice-map, parse-source-item, items, items-in, parse}
@@ -24,33 +24,48 @@ use Rattle.grammar.specs.Laws.LiveItem.{live-item, eats-item, live-items
 use Rattle.grammar.specs.Laws.Shut.{closed, closed-tail, nl-leaves, Where, later, between, earlier, closed-app}
 use Rattle.grammar.specs.Laws.Ends.{closes-item}
 
--- One item is one tree, so it does not hold the newline too.
+-- One tree, a token or a node, or nothing.
+pub data Single : Forest → Type 0 where
+  none : Single nil
+  token : {s : Sym} → Single (leaf s nil)
+  branch : {k : Kind} {c : Forest} → Single (node k c nil)
+
+-- Such a forest does not hold the newline too.
+single-open : {x : Forest} → Single x → closed x ≡ false
+single-open none = refl
+single-open token = refl
+single-open branch = refl
+
 record One {A : Type 0} (f : P A) : Type 0 where
-  one : (r : List Sym) → closed (f r .out) ≡ false
+  one : (r : List Sym) → Single (f r .out)
 
 one-if : {A : Type 0} (t : List Sym → Bool) {f g : P A} → One f → One g → One (if t then f else g)
 unfolding _>>=_ peek
 one-if t {f} {g} F G = record { one = λ r. c (t r) r }
   where
-    c : (u : Bool) (r : List Sym) → closed (pick u f g r .out) ≡ false
+    c : (u : Bool) (r : List Sym) → Single (pick u f g r .out)
     c true r = F .one r
     c false r = G .one r
 
 one-node : (j : Kind) {A : Type 0} (f : P A) → One (inNode j f)
 unfolding inNode
-one-node j f = record { one = λ r. refl }
+one-node j f = record { one = λ r. branch }
 
 one-take : One take
 unfolding take
 one-take = record { one = c }
   where
-    c : (r : List Sym) → closed (take r .out) ≡ false
-    c [] = refl
-    c (s ∷ r) = refl
+    c : (r : List Sym) → Single (take r .out)
+    c [] = none
+    c (s ∷ r) = token
 
 one-item : (blk : Blocks) → One (parse-source-item blk)
 unfolding parse-source-item parse-procedure parse-begin-block parse-namespace parse-submodule parse-constant parse-type-decl parse-advice-map error-token
 one-item blk = search (one-if, one-node, one-take) depth 12
+
+-- One item is one tree.
+pub item-single : (blk : Blocks) (r : List Sym) → Single (parse-source-item blk r .out)
+item-single blk r = one-item blk .one r
 
 -- More fuel, or a higher limit where the depth diagnostic is bad: the same result.
 pub same-run : (bad : ℕ → Bool) → bad mNever ≡ true → (lim lim′ : ℕ) → Limits bad lim lim′ → (n m : ℕ) → n ≤ m → (r : List Sym) → Calm bad (items n lim r .out) → items m lim′ r .out ≡ items n lim r .out
@@ -58,6 +73,14 @@ unfolding at skip
 same-run bad h lim lim′ l n m le r k =
     let e = good-items [] refl bad h lim lim′ l n m le .goes r (same refl) k in
     ap (λ (x : Res Bool). x .out) (rw (append-nil r) at e)
+
+-- The leaves are the tokens, by fuel.
+pub items-leaves : (n lim : ℕ) (r : List Sym) → length r < n → leaves (items n lim r .out) ≡ r
+unfolding at skip
+items-leaves n lim r h =
+    sym (append-nil (leaves (items n lim r .out)))
+    ∙ ap (λ l. leaves (items n lim r .out) ++ l) (sym (items-end n lim r h))
+    ∙ good-items [] refl stray refl lim lim (equal refl) n n (omega arith) .split r
 
 nl-item : (n lim : ℕ) (r : List Sym) → items (suc n) lim (Newline ∷ r) .out ≡ leaf Newline (items n lim r .out)
 unfolding items parse-source-item oneOf _>>=_ peek eof at take
@@ -67,12 +90,16 @@ nil-items : (n lim : ℕ) → items (suc n) lim [] .out ≡ nil
 unfolding items _>>=_ peek eof pure
 nil-items n lim = refl
 
+-- The last newline is an item by itself.
+pub one-nl : (n lim : ℕ) → 2 ≤ n → items n lim (Newline ∷ []) .out ≡ leaf Newline nil
+one-nl zero lim h = absurd (omega arith)
+one-nl (suc zero) lim h = absurd (omega arith)
+one-nl (suc (suc n)) lim h = nl-item (suc n) lim [] ∙ ap (leaf Newline) (nil-items n lim)
+
 module _ (b : List Sym) (side : at (is RParen) (next-relevant-top-level-token b) ≡ false) (lim k : ℕ) (hb : length b < k) where
   last-nl : (n m : ℕ) → 2 ≤ n → suc k ≤ m → items m lim (Newline ∷ b) .out ≡ items n lim (Newline ∷ []) .out <> items k lim b .out
-  last-nl zero m h g = absurd (omega arith)
-  last-nl (suc zero) m h g = absurd (omega arith)
-  last-nl (suc (suc n)) zero h g = absurd (omega arith)
-  last-nl (suc (suc n)) (suc m) h g = rw (nl-item, nl-item (suc n) lim [], nil-items n lim)
+  last-nl n zero h g = absurd (omega arith)
+  last-nl n (suc m) h g = rw (nl-item, one-nl n lim h)
       (ap (leaf Newline) (same-run stray refl lim lim (equal refl) k m (omega arith) b (live-items k lim .calm b refl hb)))
 
   join-items : (n m : ℕ) (r : List Sym) → length r < n → n + k ≤ m → closed (items n lim r .out) ≡ true → items m lim (r ++ b) .out ≡ items n lim r .out <> items k lim b .out
@@ -95,7 +122,7 @@ module _ (b : List Sym) (side : at (is RParen) (next-relevant-top-level-token b)
       quiet = live-item {n = suc n} (live-block lim) .calm (s ∷ r) refl (omega arith)
 
       left : leaves (y .out) ≡ x .rest
-      left = sym (append-nil (leaves (y .out))) ∙ ap (λ l. leaves (y .out) ++ l) (sym (items-end n lim (x .rest) less)) ∙ good-items b side stray refl lim lim (equal refl) n n (omega arith) .split (x .rest)
+      left = items-leaves n lim (x .rest) less
 
       Goal : Type 0
       Goal = items (suc m) lim (s ∷ (r ++ b)) .out ≡ items (suc n) lim (s ∷ r) .out <> items k lim b .out
@@ -108,7 +135,7 @@ module _ (b : List Sym) (side : at (is RParen) (next-relevant-top-level-token b)
       at-where ih (between p q) =
           let e : x .rest ≡ Newline ∷ [] = sym left ∙ nl-leaves (y .out) q in
           step (closes-item b side lim .goes (s ∷ r) e p quiet) (subst (λ (l : List Sym). items m lim (l ++ b) .out ≡ items n lim l .out <> items k lim b .out) (sym e) (last-nl n m (omega (arith, less, ap length e)) (omega (arith, less, ap length e))))
-      at-where ih (earlier p) = absurd (false≢true (sym (one-item (parse-block lim) .one (s ∷ r)) ∙ p))
+      at-where ih (earlier p) = absurd (false≢true (sym (single-open (item-single (parse-block lim) (s ∷ r))) ∙ p))
 
 -- Demand 3, of the forest.
 pub join-forest : (lim : ℕ) (a b : List Sym) → at (is RParen) (next-relevant-top-level-token b) ≡ false → closed (parse lim a) ≡ true → parse lim (a ++ b) ≡ parse lim a <> parse lim b
@@ -134,21 +161,16 @@ last-items (suc n) lim (s ∷ r) h c = at-where (last-items n lim (x .rest) less
     less : length (x .rest) < n
     less = omega (arith, eats-item {n = 0} (live-block lim) .eats (s ∷ r) refl)
 
-    one-nl : (n : ℕ) (l : List Sym) → l ≡ Newline ∷ [] → length l < n → items n lim l .out ≡ leaf Newline nil
-    one-nl zero l e h = absurd (omega arith)
-    one-nl (suc zero) l e h = absurd (omega (arith, ap length e))
-    one-nl (suc (suc n)) l e h = rw e (nl-item (suc n) lim [] ∙ ap (leaf Newline) (nil-items n lim))
-
     left : leaves (y .out) ≡ x .rest
-    left = sym (append-nil (leaves (y .out))) ∙ ap (λ l. leaves (y .out) ++ l) (sym (items-end n lim (x .rest) less)) ∙ good-items [] refl stray refl lim lim (equal refl) n n (omega arith) .split (x .rest)
+    left = items-leaves n lim (x .rest) less
 
     Goal : Type 0
     Goal = (z : Forest) × (x .out <> y .out ≡ z <> leaf Newline nil)
 
     at-where : (closed (y .out) ≡ true → (z : Forest) × (y .out ≡ z <> leaf Newline nil)) → Where (x .out) (y .out) → Goal
     at-where ih (later p) = let z = ih p in (x .out <> z .0, ap (λ w. x .out <> w) (z .1) ∙ sym (app-assoc (x .out) (z .0) (leaf Newline nil)))
-    at-where ih (between p q) = (x .out, ap (λ w. x .out <> w) (one-nl n (x .rest) (sym left ∙ nl-leaves (y .out) q) less))
-    at-where ih (earlier p) = absurd (false≢true (sym (one-item (parse-block lim) .one (s ∷ r)) ∙ p))
+    at-where ih (between p q) = (x .out, ap (λ w. x .out <> w) (let e : x .rest ≡ Newline ∷ [] = sym left ∙ nl-leaves (y .out) q in rw e (one-nl n lim (omega (arith, less, ap length e)))))
+    at-where ih (earlier p) = absurd (false≢true (sym (single-open (item-single (parse-block lim) (s ∷ r))) ∙ p))
 
 pub last-tree : (lim : ℕ) (a : List Sym) → closed (parse lim a) ≡ true → (x : Forest) × (parse lim a ≡ x <> leaf Newline nil)
 unfolding parse items-in

@@ -1,20 +1,33 @@
 -- Demand 3's premise, read off A's tokens and events alone.
 -- Assumes nothing.
-use Prim.Native.Nat.{ℕ, _≤_}
-use mathlib.Core.Path.{_≡_, refl, sym, _∙_, ap, ap₂, subst}
+use Prim.Native.Nat.{ℕ, zero, suc, _≤_, _<_}
+use mathlib.Core.Path.{_≡_, refl, sym, _∙_, ap, subst}
 use mathlib.Core.Bool.{Bool, true, false, cond, _&&_, _||_, or-true, false≢true}
-use mathlib.Core.List.{List, [], _∷_, _++_, append-assoc, tail, headD}
+use mathlib.Core.List.{List, [], _∷_, _++_, append-assoc, append-nil, map, map-append}
 use lib.Dec.{eqb, eqb→eq, ltb, T}
+use lib.ListN.{length, length-map}
 use native.Mathlib.Omega.{arith}
 use borrow.Author.Tests.{ltb-false}
 use Rattle.lexer.specs.Syntax.{Newline}
-use Rattle.grammar.specs.Words.{Sym, is, END, kindOf, eventOf}
-use Rattle.grammar.specs.Run.{Kind, Error, SourceFile, Doc, Namespace, Submodule, Constant, TypeDecl, AdviceMap, BeginBlock, Procedure, Attribute, Visibility, Signature, Block, IfOp, WhileOp, DoWhileOp, RepeatOp, Instruction, Path, Expr, TypeBody, num, Forest, nil, leaf, node, say, leaves}
-use Rattle.grammar.specs.Out.{kind, ev}
-use Rattle.grammar.specs.Joins.{lastThree, inTop, shutBy}
-use Rattle.grammar.specs.Laws.Here.{and-l, and-r, is-same}
-use Rattle.grammar.specs.Laws.Ahead.{Tail, here, there, tail-nil}
-use Rattle.grammar.specs.Laws.Shut.{empty, empty-leaves, endsEnd, top, isNl, nl-leaves, closed}
+use Rattle.lexer.specs.Laws.{last}
+use Rattle.grammar.specs.Words.{Sym, kindOf, eventOf}
+use Rattle.grammar.specs.Look.{at, skip, eof}
+use Rattle.grammar.specs.Run.{Kind, Error, SourceFile, Doc, Namespace, Submodule, Constant, TypeDecl, AdviceMap, BeginBlock, Procedure, Attribute, Visibility, Signature, Block, IfOp, WhileOp, DoWhileOp, RepeatOp, Instruction, Path, Expr, TypeBody, num, Forest, nil, leaf, node, say, _<>_, leaves, Res, pure, peek, _>>=_}
+use Rattle.grammar.specs.Block.{parse-block}
+use Rattle.grammar.specs.Item.{parse-source-item, items, items-in, parse}
+use Rattle.grammar.specs.Out.{kind, ev, events}
+use Rattle.grammar.specs.Joins.{leaf-events, zero-next, inTop, shutBy}
+use Rattle.grammar.specs.Laws.Here.{and-l, and-r}
+use Rattle.grammar.specs.Laws.StableBlock.{equal}
+use Rattle.grammar.specs.Laws.StableItem.{good-item}
+use Rattle.grammar.specs.Laws.Numbers.{stray}
+use Rattle.grammar.specs.Laws.Live.{some}
+use Rattle.grammar.specs.Laws.LiveBlock.{live-block}
+use Rattle.grammar.specs.Laws.LiveItem.{eats-item}
+use Rattle.grammar.specs.Laws.Out.{ev-app}
+use Rattle.grammar.specs.Laws.Shut.{empty, endsEnd, endsLeaf, top, shuts, shutsLeaf, isNl, closed}
+use Rattle.grammar.specs.Laws.Ends.{closes-item}
+use Rattle.grammar.specs.Laws.Join.{Single, none, token, branch, item-single, items-leaves, one-nl}
 
 big : (n : ℕ) → 27 ≤ n → eqb 0 n ≡ false
 big n h = c (eqb 0 n) refl
@@ -44,51 +57,79 @@ kind-pos s = event-pos (kindOf s)
 pub kind-high : (s : Sym) → ltb (kind s) 27 ≡ false
 kind-high s = event-high (kindOf s)
 
-step-num : (m : ℕ) (st es : List ℕ) → eqb 0 m ≡ false → ltb m 27 ≡ false → shutBy st (m ∷ es) ≡ (((eqb 31 m && lastThree es) && inTop st) || shutBy st es)
+-- The number of a node is 1 to 26.
+pub num-node : (k : Kind) → (eqb 0 (num k) ≡ false) × (ltb (num k) 27 ≡ true)
+num-node Error = (refl, refl)
+num-node SourceFile = (refl, refl)
+num-node Doc = (refl, refl)
+num-node Namespace = (refl, refl)
+num-node Submodule = (refl, refl)
+num-node Constant = (refl, refl)
+num-node TypeDecl = (refl, refl)
+num-node AdviceMap = (refl, refl)
+num-node BeginBlock = (refl, refl)
+num-node Procedure = (refl, refl)
+num-node Attribute = (refl, refl)
+num-node Visibility = (refl, refl)
+num-node Signature = (refl, refl)
+num-node Block = (refl, refl)
+num-node IfOp = (refl, refl)
+num-node WhileOp = (refl, refl)
+num-node DoWhileOp = (refl, refl)
+num-node RepeatOp = (refl, refl)
+num-node Instruction = (refl, refl)
+num-node Path = (refl, refl)
+num-node Expr = (refl, refl)
+num-node TypeBody = (refl, refl)
+
+-- ---- The events of tokens.
+node-event : (e : ℕ) (es : List ℕ) → ltb e 27 ≡ true → leaf-events (e ∷ es) ≡ leaf-events es
+node-event e es h = rw h
+
+token-event : (e : ℕ) (es : List ℕ) → ltb e 27 ≡ false → leaf-events (e ∷ es) ≡ e ∷ leaf-events es
+token-event e es h = rw h
+
+pub leaf-events-of : (x : Forest) (es : List ℕ) → leaf-events (ev x ++ es) ≡ map kind (leaves x) ++ leaf-events es
+leaf-events-of nil es = refl
+leaf-events-of (leaf s x) es = token-event (kind s) (ev x ++ es) (kind-high s) ∙ ap (λ (l : List ℕ). kind s ∷ l) (leaf-events-of x es)
+leaf-events-of (node k c x) es =
+    node-event (num k) ((ev c ++ 0 ∷ ev x) ++ es) (num-node k .1)
+    ∙ ap leaf-events (append-assoc (ev c) (0 ∷ ev x) es)
+    ∙ leaf-events-of c (0 ∷ (ev x ++ es))
+    ∙ ap (λ (l : List ℕ). map kind (leaves c) ++ l) (leaf-events-of x es)
+    ∙ sym (ap (λ (l : List ℕ). l ++ leaf-events es) (map-append kind (leaves c) (leaves x))
+    ∙ append-assoc (map kind (leaves c)) (map kind (leaves x)) (leaf-events es))
+leaf-events-of (say m x) es = leaf-events-of x es
+
+-- ---- shutBy, event by event.
+abbrev here : List ℕ → List ℕ → Bool
+here st es = eqb 1 (length (leaf-events es)) && (zero-next es && inTop st)
+
+step-num : (m : ℕ) (st es : List ℕ) → eqb 0 m ≡ false → ltb m 27 ≡ false → shutBy st (m ∷ es) ≡ (here st es || shutBy st es)
 step-num m st es h k = rw (h, k)
 
-step-leaf : (s : Sym) (st es : List ℕ) → shutBy st (kind s ∷ es) ≡ (((eqb 31 (kind s) && lastThree es) && inTop st) || shutBy st es)
+step-leaf : (s : Sym) (st es : List ℕ) → shutBy st (kind s ∷ es) ≡ (here st es || shutBy st es)
 step-leaf s st es = step-num (kind s) st es (kind-pos s) (kind-high s)
 
--- The number of a node is 1 to 26.
-pub num-node : (k : Kind) → (eqb 0 (num k) ≡ false) × (ltb (num k) 27 ≡ true) × (eqb 28 (num k) ≡ false) × (eqb 31 (num k) ≡ false)
-num-node Error = (refl, refl, refl, refl)
-num-node SourceFile = (refl, refl, refl, refl)
-num-node Doc = (refl, refl, refl, refl)
-num-node Namespace = (refl, refl, refl, refl)
-num-node Submodule = (refl, refl, refl, refl)
-num-node Constant = (refl, refl, refl, refl)
-num-node TypeDecl = (refl, refl, refl, refl)
-num-node AdviceMap = (refl, refl, refl, refl)
-num-node BeginBlock = (refl, refl, refl, refl)
-num-node Procedure = (refl, refl, refl, refl)
-num-node Attribute = (refl, refl, refl, refl)
-num-node Visibility = (refl, refl, refl, refl)
-num-node Signature = (refl, refl, refl, refl)
-num-node Block = (refl, refl, refl, refl)
-num-node IfOp = (refl, refl, refl, refl)
-num-node WhileOp = (refl, refl, refl, refl)
-num-node DoWhileOp = (refl, refl, refl, refl)
-num-node RepeatOp = (refl, refl, refl, refl)
-num-node Instruction = (refl, refl, refl, refl)
-num-node Path = (refl, refl, refl, refl)
-num-node Expr = (refl, refl, refl, refl)
-num-node TypeBody = (refl, refl, refl, refl)
-
 step-node : (k : Kind) (st es : List ℕ) → shutBy st (num k ∷ es) ≡ shutBy (num k ∷ st) es
-step-node k st es = let n = num-node k in c (num k) (n .0) (n .1) (n .3)
+step-node k st es = let n = num-node k in c (num k) (n .0) (n .1)
   where
-    c : (m : ℕ) → eqb 0 m ≡ false → ltb m 27 ≡ true → eqb 31 m ≡ false → shutBy st (m ∷ es) ≡ shutBy (m ∷ st) es
-    c m h k j = rw (h, k, j)
+    c : (m : ℕ) → eqb 0 m ≡ false → ltb m 27 ≡ true → shutBy st (m ∷ es) ≡ shutBy (m ∷ st) es
+    c m h k = rw (h, k)
 
-drop-false : (u v : Bool) → ((u && false) || v) ≡ v
-drop-false true v = refl
-drop-false false v = refl
+not-in : (u w v : Bool) → ((u && (w && false)) || v) ≡ v
+not-in true true v = refl
+not-in true false v = refl
+not-in false w v = refl
+
+-- Where no procedure or begin block under the root is innermost, a token is passed.
+pass-leaf : (s : Sym) (st es : List ℕ) → inTop st ≡ false → shutBy st (kind s ∷ es) ≡ shutBy st es
+pass-leaf s st es h = step-leaf s st es ∙ rw h (not-in (eqb 1 (length (leaf-events es))) (zero-next es) (shutBy st es))
 
 -- Three or more nodes are open: nothing is found there.
 deep-in : (i j k : ℕ) (st : List ℕ) (x : Forest) (es : List ℕ) → shutBy (i ∷ j ∷ k ∷ st) (ev x ++ es) ≡ shutBy (i ∷ j ∷ k ∷ st) es
 deep-in i j k st nil es = refl
-deep-in i j k st (leaf s x) es = step-leaf s (i ∷ j ∷ k ∷ st) (ev x ++ es) ∙ drop-false (eqb 31 (kind s) && lastThree (ev x ++ es)) (shutBy (i ∷ j ∷ k ∷ st) (ev x ++ es)) ∙ deep-in i j k st x es
+deep-in i j k st (leaf s x) es = pass-leaf s (i ∷ j ∷ k ∷ st) (ev x ++ es) refl ∙ deep-in i j k st x es
 deep-in i j k st (node n c x) es =
     step-node n (i ∷ j ∷ k ∷ st) ((ev c ++ 0 ∷ ev x) ++ es)
     ∙ ap (shutBy (num n ∷ i ∷ j ∷ k ∷ st)) (append-assoc (ev c) (0 ∷ ev x) es)
@@ -96,148 +137,116 @@ deep-in i j k st (node n c x) es =
     ∙ deep-in i j k st x es
 deep-in i j k st (say m x) es = deep-in i j k st x es
 
-head-zero : (e : ℕ) (es : List ℕ) → lastThree (e ∷ es) ≡ true → eqb 0 e ≡ true
-head-zero e [] h = absurd (false≢true h)
-head-zero e (f ∷ []) h = absurd (false≢true h)
-head-zero e (f ∷ g ∷ []) h = and-l (eqb 0 e) _ h
-head-zero e (f ∷ g ∷ i ∷ l) h = absurd (false≢true h)
+-- ---- In a child of the root.
+-- No tree of c is left before the 0.
+no-tree : (c : Forest) (es : List ℕ) → zero-next (ev c ++ 0 ∷ es) ≡ true → empty c ≡ true
+no-tree nil es h = refl
+no-tree (leaf s c) es h = absurd (false≢true (sym (kind-pos s) ∙ h))
+no-tree (node k d c) es h = absurd (false≢true (sym (num-node k .0) ∙ h))
+no-tree (say m c) es h = no-tree c es h
 
-two-left : (es : List ℕ) → lastThree (0 ∷ es) ≡ true → es ≡ 28 ∷ 0 ∷ []
-two-left [] h = absurd (false≢true h)
-two-left (f ∷ []) h = absurd (false≢true h)
-two-left (f ∷ g ∷ []) h = ap₂ (λ x y. x ∷ y ∷ []) (is-same 28 f (and-l (eqb 28 f) (eqb 0 g) h)) (is-same 0 g (and-r (eqb 28 f) (eqb 0 g) h))
-two-left (f ∷ g ∷ i ∷ l) h = absurd (false≢true h)
-
--- Nothing of c is left, and es is the newline and the 0.
-at-close : (c : Forest) (es : List ℕ) → lastThree (ev c ++ 0 ∷ es) ≡ true → (empty c ≡ true) × (es ≡ 28 ∷ 0 ∷ [])
-at-close nil es h = (refl, two-left es h)
-at-close (leaf s c) es h = absurd (false≢true (sym (kind-pos s) ∙ head-zero (kind s) (ev c ++ 0 ∷ es) h))
-at-close (node k d c) es h = absurd (false≢true (sym (num-node k .0) ∙ head-zero (num k) ((ev d ++ 0 ∷ ev c) ++ 0 ∷ es) h))
-at-close (say m c) es h = at-close c es h
-
--- The last tree is an Ident.
-abbrev endsIdent : Forest → Bool
-endsIdent nil = false
-endsIdent (leaf s x) = cond (empty x) (eqb 31 (kind s)) (endsIdent x)
-endsIdent (node k c x) = endsIdent x
-endsIdent (say m x) = endsIdent x
-
-ident-full : (x : Forest) → endsIdent x ≡ true → empty x ≡ false
-ident-full nil e = absurd (false≢true e)
-ident-full (leaf s x) e = refl
-ident-full (node k c x) e = refl
-ident-full (say m x) e = ident-full x e
+empty-events : (c : Forest) (es : List ℕ) → empty c ≡ true → ev c ++ es ≡ es
+empty-events nil es h = refl
+empty-events (leaf s c) es h = absurd (false≢true h)
+empty-events (node k d c) es h = absurd (false≢true h)
+empty-events (say m c) es h = empty-events c es h
 
 data Found (k : Kind) (r : ℕ) (c : Forest) (es : List ℕ) : Type 0 where
-  inside : top k ≡ true → endsIdent c ≡ true → es ≡ 28 ∷ 0 ∷ [] → Found k r c es
+  inside : (top k && endsLeaf c) ≡ true → length (leaf-events es) ≡ 1 → Found k r c es
   past : shutBy (r ∷ []) es ≡ true → Found k r c es
 
--- In a child of the root.
 child : (k : Kind) (r : ℕ) (c : Forest) (es : List ℕ) → shutBy (num k ∷ r ∷ []) (ev c ++ 0 ∷ es) ≡ true → Found k r c es
 child k r nil es h = past h
-child k r (leaf s c) es h = go ((eqb 31 (kind s) && lastThree (ev c ++ 0 ∷ es)) && inTop (num k ∷ r ∷ [])) refl (sym (step-leaf s (num k ∷ r ∷ []) (ev c ++ 0 ∷ es)) ∙ h) (child k r c es)
+child k r (leaf s c) es h =
+    go (here (num k ∷ r ∷ []) (ev c ++ 0 ∷ es)) refl (sym (step-leaf s (num k ∷ r ∷ []) (ev c ++ 0 ∷ es)) ∙ h) (child k r c es)
   where
     more : Found k r c es → Found k r (leaf s c) es
-    more (inside t e q) = inside t (rw (ident-full c e) e) q
+    more (inside t q) = inside (rw (and-l (top k) _ t, and-r (top k) _ t) (or-true (empty c))) q
     more (past q) = past q
 
-    go : (u : Bool) → ((eqb 31 (kind s) && lastThree (ev c ++ 0 ∷ es)) && inTop (num k ∷ r ∷ [])) ≡ u → (u || shutBy (num k ∷ r ∷ []) (ev c ++ 0 ∷ es)) ≡ true → (shutBy (num k ∷ r ∷ []) (ev c ++ 0 ∷ es) ≡ true → Found k r c es) → Found k r (leaf s c) es
+    go : (u : Bool) → here (num k ∷ r ∷ []) (ev c ++ 0 ∷ es) ≡ u → (u || shutBy (num k ∷ r ∷ []) (ev c ++ 0 ∷ es)) ≡ true
+        → (shutBy (num k ∷ r ∷ []) (ev c ++ 0 ∷ es) ≡ true → Found k r c es) → Found k r (leaf s c) es
     go true e q ih =
-        let p = at-close c es (and-r (eqb 31 (kind s)) _ (and-l (eqb 31 (kind s) && lastThree (ev c ++ 0 ∷ es)) _ e)) in
-        inside (and-r (eqb 31 (kind s) && lastThree (ev c ++ 0 ∷ es)) _ e) (rw (p .0) (and-l (eqb 31 (kind s)) _ (and-l (eqb 31 (kind s) && lastThree (ev c ++ 0 ∷ es)) _ e))) (p .1)
+        let one = and-l (eqb 1 (length (leaf-events (ev c ++ 0 ∷ es)))) _ e in
+        let two = and-r (eqb 1 (length (leaf-events (ev c ++ 0 ∷ es)))) _ e in
+        let p : empty c ≡ true = no-tree c es (and-l (zero-next (ev c ++ 0 ∷ es)) _ two) in
+        let q : eqb 1 (length (leaf-events es)) ≡ true = rw (empty-events c (0 ∷ es) p) at one in
+        inside (rw p (rw (and-r (zero-next (ev c ++ 0 ∷ es)) _ two))) (sym (eqb→eq 1 (length (leaf-events es)) (subst T (sym q) tt)))
     go false e q ih = more (ih q)
-child k r (node n d c) es h = more (child k r c es (sym (deep-in (num n) (num k) r [] d (0 ∷ (ev c ++ 0 ∷ es))) ∙ sym (ap (shutBy (num n ∷ num k ∷ r ∷ [])) (append-assoc (ev d) (0 ∷ ev c) (0 ∷ es))) ∙ sym (step-node n (num k ∷ r ∷ []) ((ev d ++ 0 ∷ ev c) ++ 0 ∷ es)) ∙ h))
+child k r (node n d c) es h =
+    more (child k r c es
+    (sym (deep-in (num n) (num k) r [] d (0 ∷ (ev c ++ 0 ∷ es)))
+    ∙ sym (ap (shutBy (num n ∷ num k ∷ r ∷ [])) (append-assoc (ev d) (0 ∷ ev c) (0 ∷ es)))
+    ∙ sym (step-node n (num k ∷ r ∷ []) ((ev d ++ 0 ∷ ev c) ++ 0 ∷ es))
+    ∙ h))
   where
     more : Found k r c es → Found k r (node n d c) es
-    more (inside t e q) = inside t e q
+    more (inside t q) = inside t q
     more (past q) = past q
 child k r (say m c) es h = more (child k r c es h)
   where
     more : Found k r c es → Found k r (say m c) es
-    more (inside t e q) = inside t e q
+    more (inside t q) = inside t q
     more (past q) = past q
 
--- The token before the last is `end`.
-tail-two : (l : List Sym) (s t : Sym) → Tail (l ++ s ∷ t ∷ []) → s ≡ END
-tail-two [] s t h = c h
+-- ---- Under the root, item by item.
+last-app : (d : ℕ) (l r : List ℕ) → last d (l ++ r) ≡ last (last d l) r
+last-app d [] r = refl
+last-app d (x ∷ l) r = last-app x l r
+
+only : (d : ℕ) (r : List Sym) → length r ≡ 1 → last d r ≡ Newline → r ≡ Newline ∷ []
+only d [] h e = absurd (omega arith)
+only d (s ∷ []) h e = ap (λ (t : Sym). t ∷ []) e
+only d (s ∷ t ∷ r) h e = absurd (omega arith)
+
+root : (n lim d : ℕ) (r : List Sym) → length r < n → last d r ≡ Newline → shutBy (2 ∷ []) (ev (items n lim r .out) ++ 0 ∷ []) ≡ true
+    → closed (items n lim r .out) ≡ true
+unfolding items _>>=_ peek eof pure some at skip
+root zero lim d r h l e = absurd (omega arith)
+root (suc n) lim d [] h l e = absurd (false≢true e)
+root (suc n) lim d (s ∷ r) h l e =
+    by (root n lim (last d (leaves (x .out))) (x .rest) less last-left) (item-single (parse-block lim) (s ∷ r)) (closes-item [] refl lim .word (s ∷ r))
+    (ap (shutBy (2 ∷ [])) (sym (ap (λ (l : List ℕ). l ++ 0 ∷ []) (ev-app (x .out) (y .out)) ∙ append-assoc (ev (x .out)) (ev (y .out)) (0 ∷ []))) ∙ e)
   where
-    one : {t : Sym} → Tail (t ∷ []) → ⊥
-    one (there h) = tail-nil h
+    x : Res Bool
+    x = parse-source-item (parse-block lim) (s ∷ r)
 
-    c : {s t : Sym} → Tail (s ∷ t ∷ []) → s ≡ END
-    c here = refl
-    c (there h) = absurd (one h)
-tail-two (x ∷ l) s t h = tail-two l s t (c l h)
-  where
-    c : (l : List Sym) → Tail (x ∷ (l ++ s ∷ t ∷ [])) → Tail (l ++ s ∷ t ∷ [])
-    c [] (there h) = h
-    c (y ∷ []) (there h) = h
-    c (y ∷ z ∷ l) (there h) = h
+    less : length (x .rest) < n
+    less = omega (arith, eats-item {n = 0} (live-block lim) .eats (s ∷ r) refl)
 
-record Last (x : Forest) : Type 0 where
-  before : List Sym
-  last : Sym
-  is-last : leaves x ≡ before ++ last ∷ []
-  then : last ≡ END → endsEnd x ≡ true
+    y : Res Bool
+    y = items n lim (x .rest)
 
-ident-last : (x : Forest) → endsIdent x ≡ true → Last x
-ident-last nil e = absurd (false≢true e)
-ident-last (leaf s x) e = c (empty x) refl e (ident-last x)
-  where
-    c : (u : Bool) → empty x ≡ u → cond u (eqb 31 (kind s)) (endsIdent x) ≡ true → (endsIdent x ≡ true → Last x) → Last (leaf s x)
-    c true h e ih = record { before = []; last = s; is-last = rw (empty-leaves x h); then = λ q. rw (h, q) }
-    c false h e ih = let z = ih e in record { before = s ∷ z .before; last = z .last; is-last = ap (λ l. s ∷ l) (z .is-last); then = λ q. rw h (z .then q) }
-ident-last (node k c x) e = let z = ident-last x e in record { before = leaves c ++ z .before; last = z .last; is-last = rw (z .is-last) (sym (append-assoc (leaves c) (z .before) (z .last ∷ []))); then = z .then }
-ident-last (say m x) e = let z = ident-last x e in record { before = z .before; last = z .last; is-last = z .is-last; then = z .then }
+    es : List ℕ
+    es = ev (y .out) ++ 0 ∷ []
 
-is-nl : (s : Sym) → kind s ≡ 28 → is Newline s ≡ true
-is-nl s e = d (ltb s 256) refl e
-  where
-    c : (n : ℕ) (u : Bool) → ltb n 27 ≡ u → cond u 60 n ≡ 28 → eqb 28 n ≡ true
-    c n true q e = absurd (omega arith)
-    c n false q e = rw e
+    last-left : last (last d (leaves (x .out))) (x .rest) ≡ Newline
+    last-left =
+        sym (last-app d (leaves (x .out)) (x .rest))
+        ∙ ap (last d) (good-item [] refl stray refl lim lim (equal refl) .split (s ∷ r))
+        ∙ l
 
-    d : (u : Bool) → ltb s 256 ≡ u → eventOf (cond u s 31) ≡ 28 → eqb 28 s ≡ true
-    d true q e = c s (ltb s 27) refl e
-    d false q e = absurd (omega arith)
+    count : length (leaf-events es) ≡ length (x .rest)
+    count =
+        ap length (leaf-events-of (y .out) (0 ∷ []) ∙ append-nil (map kind (leaves (y .out))))
+        ∙ length-map (leaves (y .out)) kind
+        ∙ ap length (items-leaves n lim (x .rest) less)
 
-only-close : (x : Forest) → ev x ++ 0 ∷ [] ≡ 0 ∷ [] → empty x ≡ true
-unfolding headD
-only-close nil e = refl
-only-close (leaf s x) e = absurd (false≢true (sym (kind-pos s) ∙ ap (λ l. eqb 0 (headD l 1)) e))
-only-close (node k c x) e = absurd (false≢true (sym (num-node k .0) ∙ ap (λ l. eqb 0 (headD l 1)) e))
-only-close (say m x) e = only-close x e
+    by : (shutBy (2 ∷ []) es ≡ true → closed (y .out) ≡ true) → {o : Forest} → Single o
+        → (x .rest ≡ Newline ∷ [] → shutsLeaf o ≡ true → shuts o ≡ true) → shutBy (2 ∷ []) (ev o ++ es) ≡ true → closed (o <> y .out) ≡ true
+    by ih none w q = ih q
+    by ih (token {s}) w q = ih (sym (pass-leaf s (2 ∷ []) es refl) ∙ q)
+    by ih (branch {k} {c}) w q = at-found
+        (child k 2 c es (sym (step-node k (2 ∷ []) ((ev c ++ 0 ∷ []) ++ es) ∙ ap (shutBy (num k ∷ 2 ∷ [])) (append-assoc (ev c) (0 ∷ []) es)) ∙ q))
+      where
+        at-found : Found k 2 c es → closed (node k c (y .out)) ≡ true
+        at-found (inside t m) =
+            let f : x .rest ≡ Newline ∷ [] = only (last d (leaves (x .out))) (x .rest) (sym count ∙ m) last-left in
+            let z : y .out ≡ leaf Newline nil = ap (λ (l : List Sym). items n lim l .out) f ∙ one-nl n lim (omega (arith, less, ap length f)) in
+            rw (z, w f t)
+        at-found (past q) = rw (ih q) (or-true (isNl (y .out) && (top k && endsEnd c)))
 
-only-nl : (x : Forest) → ev x ++ 0 ∷ [] ≡ 28 ∷ 0 ∷ [] → isNl x ≡ true
-unfolding headD
-only-nl nil e = let z : _≡_ {A = ℕ} 0 28 = cc in absurd (omega arith)
-only-nl (leaf s x) e = rw (is-nl s (ap (λ l. headD l 1) e), only-close x (ap tail e))
-only-nl (node k c x) e = absurd (false≢true (sym (num-node k .2) ∙ ap (λ l. eqb 28 (headD l 1)) e))
-only-nl (say m x) e = only-nl x e
-
-record Shut (x : Forest) : Type 0 where
-  before : List Sym
-  last : Sym
-  is-last : leaves x ≡ before ++ last ∷ Newline ∷ []
-  then : last ≡ END → closed x ≡ true
-
-root : (r : ℕ) (x : Forest) → shutBy (r ∷ []) (ev x ++ 0 ∷ []) ≡ true → Shut x
-root r nil h = absurd (false≢true h)
-root r (leaf s x) h =
-    let z = root r x (sym (step-leaf s (r ∷ []) (ev x ++ 0 ∷ []) ∙ drop-false (eqb 31 (kind s) && lastThree (ev x ++ 0 ∷ [])) (shutBy (r ∷ []) (ev x ++ 0 ∷ []))) ∙ h) in
-    record { before = s ∷ z .before; last = z .last; is-last = ap (λ l. s ∷ l) (z .is-last); then = z .then }
-root r (node k c x) h = go (child k r c (ev x ++ 0 ∷ []) (sym (ap (shutBy (num k ∷ r ∷ [])) (append-assoc (ev c) (0 ∷ ev x) (0 ∷ []))) ∙ sym (step-node k (r ∷ []) ((ev c ++ 0 ∷ ev x) ++ 0 ∷ [])) ∙ h)) (root r x)
-  where
-    go : Found k r c (ev x ++ 0 ∷ []) → (shutBy (r ∷ []) (ev x ++ 0 ∷ []) ≡ true → Shut x) → Shut (node k c x)
-    go (inside t e q) ih =
-        let z = ident-last c e in
-        let n = only-nl x q in
-        record { before = z .before; last = z .last; is-last = rw (z .is-last, nl-leaves x n) (append-assoc (z .before) (z .last ∷ []) (Newline ∷ [])); then = λ i. rw (n, t, z .then i) }
-    go (past q) ih =
-        let z = ih q in
-        record { before = leaves c ++ z .before; last = z .last; is-last = rw (z .is-last) (sym (append-assoc (leaves c) (z .before) (z .last ∷ Newline ∷ []))); then = λ i. rw (z .then i) (or-true (isNl x && (top k && endsEnd c))) }
-root r (say m x) h = let z = root r x h in record { before = z .before; last = z .last; is-last = z .is-last; then = z .then }
-
--- From the tokens and the events to the forest.
-pub premise : (x : Forest) → Tail (leaves x) → shutBy [] (num SourceFile ∷ (ev x ++ 0 ∷ [])) ≡ true → closed x ≡ true
-premise x t h = let z = root 2 x h in z .then (tail-two (z .before) (z .last) Newline (rw (z .is-last) at t))
+-- ---- The premise: A's last token is a newline, and by its events the token before closes a procedure or begin block under the root.
+pub premise : (limit : ℕ) (a : List Sym) → last 0 a ≡ Newline → shutBy [] (events limit a) ≡ true → closed (parse limit a) ≡ true
+unfolding events parse items-in
+premise limit a l e = root (suc (length a)) limit 0 a (omega arith) l e

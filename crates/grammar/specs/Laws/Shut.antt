@@ -1,7 +1,7 @@
 -- A forest whose last trees are a procedure or begin block that its `end` closes, and a newline.
 -- Assumes nothing.
 use mathlib.Core.Path.{_≡_, refl}
-use mathlib.Core.Bool.{Bool, true, false, cond, _&&_, _||_, or-true, false≢true}
+use mathlib.Core.Bool.{Bool, true, false, cond, _&&_, _||_, and-false, or-true, false≢true}
 use mathlib.Core.List.{[], _∷_, _++_, append-nil, append-assoc}
 use lib.Dec.{eqb}
 use Rattle.lexer.specs.Syntax.{Newline}
@@ -24,6 +24,13 @@ endsEnd (leaf s x) = cond (empty x) (is END s) (endsEnd x)
 endsEnd (node k c x) = endsEnd x
 endsEnd (say m x) = endsEnd x
 
+-- The last tree is a token.
+abbrev pub endsLeaf : Forest → Bool
+endsLeaf nil = false
+endsLeaf (leaf s x) = empty x || endsLeaf x
+endsLeaf (node k c x) = endsLeaf x
+endsLeaf (say m x) = endsLeaf x
+
 abbrev pub top : Kind → Bool
 top k = eqb (num Procedure) (num k) || eqb (num BeginBlock) (num k)
 
@@ -33,6 +40,13 @@ shuts nil = false
 shuts (leaf s x) = shuts x
 shuts (node k c x) = cond (empty x) (top k && endsEnd c) (shuts x)
 shuts (say m x) = shuts x
+
+-- The last tree is a procedure or a begin block whose last tree is a token.
+abbrev pub shutsLeaf : Forest → Bool
+shutsLeaf nil = false
+shutsLeaf (leaf s x) = shutsLeaf x
+shutsLeaf (node k c x) = cond (empty x) (top k && endsLeaf c) (shutsLeaf x)
+shutsLeaf (say m x) = shutsLeaf x
 
 -- One tree, a newline.
 abbrev pub isNl : Forest → Bool
@@ -70,6 +84,12 @@ ends-app (leaf s x) y e = rw (empty-app x y, e) (c (empty x) (is END s) (ends-ap
     c false z h = h
 ends-app (node k c x) y e = ends-app x y e
 ends-app (say m x) y e = ends-app x y e
+
+pub leaf-app : (x y : Forest) → empty y ≡ false → endsLeaf (x <> y) ≡ endsLeaf y
+leaf-app nil y e = refl
+leaf-app (leaf s x) y e = rw (empty-app x y, e, and-false (empty x)) (leaf-app x y e)
+leaf-app (node k c x) y e = leaf-app x y e
+leaf-app (say m x) y e = leaf-app x y e
 
 pub ends-tail : (x : Forest) → endsEnd x ≡ true → Tail (leaves x ++ Newline ∷ [])
 ends-tail nil e = absurd (false≢true e)

@@ -8,15 +8,16 @@ use lib.ListN.{length, length-append, length-map}
 use native.Mathlib.Omega.{arith}
 use Rattle.lexer.specs.Syntax
 use Rattle.lexer.specs.Syntax.{Whitespace, Newline, Comment, DocComment, RParen}
+use Rattle.lexer.specs.Laws.{last}
 use Rattle.grammar.specs.Words.{Sym, is}
 use Rattle.grammar.specs.Look.{oneOf, at, skip, next-relevant-top-level-token, next-relevant-block-token}
 use Rattle.grammar.specs.Run.{Forest, nil, leaf, node, say, leaves}
 use Rattle.grammar.specs.Item.{parse}
 use Rattle.grammar.specs.Out.{ev, Diag, noted, dg, events, diags}
-use Rattle.grammar.specs.Joins.{move, Joins, Joined}
+use Rattle.grammar.specs.Joins.{Tail, here, there, shutBy, move, Joins, Joined}
 use Rattle.grammar.specs.Laws.Good.{leaves-app}
 use Rattle.grammar.specs.Laws.Here.{is-same}
-use Rattle.grammar.specs.Laws.Shut.{closed}
+use Rattle.grammar.specs.Laws.Shut.{closed, closed-tail}
 use Rattle.grammar.specs.Laws.Join.{join-forest, last-tree}
 use Rattle.grammar.specs.Laws.Premise.{premise}
 use Rattle.grammar.specs.Laws.Out.{ev-app, dg-app, dg-move, but-last}
@@ -45,9 +46,17 @@ paren (s ∷ b) e = c (is Whitespace s) (is Newline s) (is Comment s) (is DocCom
     c false false false true q e ih = rw (is-same DocComment s q)
     c false false false false q e ih = e
 
+-- The word follows: where the last token is a newline, and by the events the token before it closes a procedure or begin block under the
+-- root, that token is `end`.
+pub end-follows : (limit : ℕ) (a : List Sym) → last 0 a ≡ Newline → shutBy [] (events limit a) ≡ true → Tail a
+end-follows limit a l e = rw (all-tokens limit a) at (closed-tail (parse limit a) (premise limit a l e))
+
+last-newline : (d : ℕ) {a : List Sym} → Tail a → last d a ≡ Newline
+last-newline d here = refl
+last-newline d (there {s} t) = last-newline s t
+
 shut : (limit : ℕ) (a b : List Sym) → Joins limit a b → closed (parse limit a) ≡ true
-unfolding events
-shut limit a b j = premise (parse limit a) (rw (all-tokens limit a) (j .ends)) (j .closes)
+shut limit a b j = premise limit a (last-newline 0 (j .ends)) (j .closes)
 
 pub joined : (limit : ℕ) (a b : List Sym) → Joins limit a b → Joined limit a b
 joined limit a b j = record { events-are = join-events limit a b (paren b (j .starts)) (shut limit a b j); diags-are = join-diags limit a b (paren b (j .starts)) (shut limit a b j) }
