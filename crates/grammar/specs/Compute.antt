@@ -39,7 +39,7 @@ m from s to e = record { msg = m; start = s; stop = e }
 abbrev pub read : String → (kinds ends events : List ℕ) → List Place → Reading
 read s k e v d = record { source = bytes s; kinds = k; ends = e; events = v; diagnostics = d }
 
--- The reading's source, read at the limit 256. To unfold `again` is to unfold what its line names: all that computes.
+-- The reading's source, read at the reader's limit. To unfold `again` is to unfold what its line names: all that computes.
 unfoldable pub again : Reading → Reading
 unfolding encode bytes Last.last-from Width.width Chars.class Chars.punctuation Lexer.tokenize
     Lexer.tokens Lexer.next Lexer.arm Lexer.stray Lexer.quoted Lexer.special Lexer.run Lexer.same Lexer.advance-while Lexer.follow
@@ -61,4 +61,4 @@ unfolding encode bytes Last.last-from Width.width Chars.class Chars.punctuation 
     Look.at-top-level-form-starter-in-block Look.is-top-level-starter Look.at-prefixed-keyword Look.next-token-after-visibility Look.past
     Look.skip Look.can-start-operation Look.starts-instruction Look.eof Look.at Look.name-like Look.oneOf Run._>>=_ Run.peek Run.pure
     Run.inNode Run.take Run.err Run.scan Run.loop Run.repeat
-again r = reading 256 (r .source)
+again r = reading Block.MAX-CONTROL-FLOW-NESTING (r .source)

@@ -1,6 +1,6 @@
 -- Document 01's examples, computed from source bytes. Where it does not say the whole reading, the rest is the compiled reference's answer.
 -- Assumes nothing.
-use Prim.Native.Nat.{ℕ, zero, suc, _+_, _*_}
+use Prim.Native.Nat.{ℕ, zero, suc}
 use Prim.Native.String.{String}
 use mathlib.Core.Path.{_≡_, refl}
 use mathlib.Core.Bool.{Bool, true, false}
@@ -185,21 +185,20 @@ unfolding again
 word-numbers = refl
 
 -- ---- The bounds are reached.
--- `begin` and n times ` if`: at the limit one missing `end`, one further the depth diagnostic, 774 to 776 at 256; as many nodes are open
--- as ever, 516 at 256.
+-- `begin` and n times ` if`, read at the reader's limit: at 256 one missing `end`, at 257 the depth diagnostic; 516 nodes are open.
 ifs : ℕ → List ℕ
 ifs zero = []
 ifs (suc n) = bytes " if" ++ ifs n
 
-deepest : source-places limit (bytes "begin" ++ ifs limit) ≡ 3 from (3 * limit + 4) to (3 * limit + 4) ∷ []
+deepest : source-places limit (bytes "begin" ++ ifs 256) ≡ 3 from 772 to 772 ∷ []
 unfolding again ifs
 deepest = refl
 
-too-deep : source-places limit (bytes "begin" ++ ifs (suc limit)) ≡ 49 from (3 * limit + 6) to (3 * limit + 8) ∷ []
+too-deep : source-places limit (bytes "begin" ++ ifs 257) ≡ 49 from 774 to 776 ∷ []
 unfolding again ifs
 too-deep = refl
 
-most-open : peak 0 (source-events limit (bytes "begin" ++ ifs (suc limit))) ≡ 2 * limit + 4
+most-open : peak 0 (source-events limit (bytes "begin" ++ ifs 257)) ≡ 516
 unfolding again ifs
 most-open = refl
 
