@@ -1,5 +1,5 @@
--- Which of demand 3's premises are needed: all but one, for each a case in which the others hold and the conclusion does not. That the token
--- before the last is the word `end` follows from the others.
+-- Which of demand 3's premises are needed: all but one, for each a case in which the others hold and the conclusion does not (for the limit
+-- in Spaces). That the token before the last is the word `end` follows from the others, and demand 3 holds without it.
 -- Assumes nothing.
 use Prim.Native.Nat.{ℕ}
 use mathlib.Core.Path.{_≡_, refl, sym, ap, subst}
@@ -21,7 +21,9 @@ use Rattle.answer.specs.Call.{Called}
 use Rattle.answer.specs.Given.{Given, given, cut, end-before-last}
 use Rattle.answer.specs.Accepts.{reading, gives, accepting}
 use Rattle.answer.specs.JoinedTokens.{cut-source, newline-last, word-before-last}
-use Rattle.answer.specs.Cases.{lent, made, first-accepted, second-accepted, room-for-tokens, room-for-events, room-for-diagnostics, three-words, last-is-newline, last-is-line-feed, end-closes, no-parenthesis, Needed}
+use Rattle.answer.specs.Cases.{zeros, lent, lent-slices, made, called, Case, rank, AllBut, Concluded, concluded, Needed}
+use Rattle.answer.specs.Cases.{first-accepted, second-accepted, room-for-tokens, room-for-events, room-for-diagnostics, three-words}
+use Rattle.answer.specs.Cases.{last-is-newline, last-is-line-feed, end-is-word, end-closes, no-parenthesis}
 
 -- A was lent one event too few: its last event is not given.
 pub first-accepted-needed : Needed first-accepted
@@ -111,7 +113,13 @@ closing-needed = record {
 pub parenthesis-needed : Needed no-parenthesis
 unfolding made
 parenthesis-needed = record {
-  case = record { a = bytes "proc a pub ( end\n"; b = bytes ") proc b end"; for-a = lent 10 20 2; for-b = lent 7 15 1; for-join = lent 17 37 6 };
+  case = record {
+    a = bytes "proc a pub ( end\n";
+    b = bytes ") proc b end";
+    for-a = lent 10 20 2;
+    for-b = lent 7 15 1;
+    for-join = lent 17 37 6;
+  };
   others = (refl, refl, omega arith, omega arith, omega arith, omega arith, omega arith, refl, refl, refl, refl, tt);
   otherwise = λ j. let z : _≡_ {A = ℕ} 39 35 = j .e-is in omega arith;
 }
@@ -127,3 +135,8 @@ of-reading a newline closes = rw (cut-source a)
 pub word-follows : (a : List ℕ) (s : Slices) (counts : List ℕ) {r : ℕ} {s′ : Slices} {counts′ : List ℕ}
     → Called a s counts r s′ counts′ → r ≡ 0 → Word a (given s′ counts′)
 word-follows a s counts c z = subst (Word a) (sym (gives a s counts (accepting a s counts c z) c .1 .given-is)) (of-reading a)
+
+pub word-not-needed : (c : Case) → AllBut c (rank end-is-word) → Concluded c
+word-not-needed c (first, second, within, tokens, events, diagnostics, words, newline, line-feed, left-out, closes, starts) =
+    let word = word-follows (c .a) (lent-slices (c .for-a)) (zeros (c .for-a .words)) (called (c .a) (c .for-a)) first newline closes in
+    concluded c (first, second, within, tokens, events, diagnostics, words, newline, line-feed, word, closes, starts)

@@ -1,4 +1,4 @@
--- A source of spaces: it is accepted up to the limit, with one token. So there is a join that is one byte too long, whose parts are accepted:
+-- A source of spaces is accepted up to the limit, with one token. So there is a join that is one byte too long and whose parts are accepted:
 -- demand 3's premise on the limit is needed.
 -- Assumes nothing.
 use Prim.Native.Nat.{ℕ, zero, suc, _+_, _≤_}

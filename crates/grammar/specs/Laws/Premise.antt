@@ -199,14 +199,15 @@ only d [] h e = absurd (omega arith)
 only d (s ∷ []) h e = ap (λ (t : Sym). t ∷ []) e
 only d (s ∷ t ∷ r) h e = absurd (omega arith)
 
+-- One token is left behind the item that is found: the newline, an item by itself. d: the token before r.
 root : (n lim d : ℕ) (r : List Sym) → length r < n → last d r ≡ Newline → shutBy (2 ∷ []) (ev (items n lim r .out) ++ 0 ∷ []) ≡ true
     → closed (items n lim r .out) ≡ true
 unfolding items _>>=_ peek eof pure some at skip
 root zero lim d r h l e = absurd (omega arith)
 root (suc n) lim d [] h l e = absurd (false≢true e)
 root (suc n) lim d (s ∷ r) h l e =
-    by (root n lim (last d (leaves (x .out))) (x .rest) less last-left) (item-single (parse-block lim) (s ∷ r)) (closes-item [] refl lim .word (s ∷ r))
-    (ap (shutBy (2 ∷ [])) (sym (ap (λ (l : List ℕ). l ++ 0 ∷ []) (ev-app (x .out) (y .out)) ∙ append-assoc (ev (x .out)) (ev (y .out)) (0 ∷ []))) ∙ e)
+    by (root n lim (last d (leaves (x .out))) (x .rest) less last-left)
+    (item-single (parse-block lim) (s ∷ r)) (closes-item [] refl lim .word (s ∷ r)) (ap (shutBy (2 ∷ [])) (sym split) ∙ e)
   where
     x : Res Bool
     x = parse-source-item (parse-block lim) (s ∷ r)
@@ -219,6 +220,9 @@ root (suc n) lim d (s ∷ r) h l e =
 
     es : List ℕ
     es = ev (y .out) ++ 0 ∷ []
+
+    split : ev (x .out <> y .out) ++ 0 ∷ [] ≡ ev (x .out) ++ es
+    split = ap (λ (l : List ℕ). l ++ 0 ∷ []) (ev-app (x .out) (y .out)) ∙ append-assoc (ev (x .out)) (ev (y .out)) (0 ∷ [])
 
     last-left : last (last d (leaves (x .out))) (x .rest) ≡ Newline
     last-left =
@@ -236,13 +240,14 @@ root (suc n) lim d (s ∷ r) h l e =
         → (x .rest ≡ Newline ∷ [] → shutsLeaf o ≡ true → shuts o ≡ true) → shutBy (2 ∷ []) (ev o ++ es) ≡ true → closed (o <> y .out) ≡ true
     by ih none w q = ih q
     by ih (token {s}) w q = ih (sym (pass-leaf s (2 ∷ []) es refl) ∙ q)
-    by ih (branch {k} {c}) w q = at-found
-        (child k 2 c es (sym (step-node k (2 ∷ []) ((ev c ++ 0 ∷ []) ++ es) ∙ ap (shutBy (num k ∷ 2 ∷ [])) (append-assoc (ev c) (0 ∷ []) es)) ∙ q))
+    by ih (branch {k} {c}) w q =
+        let p = step-node k (2 ∷ []) ((ev c ++ 0 ∷ []) ++ es) ∙ ap (shutBy (num k ∷ 2 ∷ [])) (append-assoc (ev c) (0 ∷ []) es) in
+        at-found (child k 2 c es (sym p ∙ q))
       where
         at-found : Found k 2 c es → closed (node k c (y .out)) ≡ true
         at-found (inside t m) =
             let f : x .rest ≡ Newline ∷ [] = only (last d (leaves (x .out))) (x .rest) (sym count ∙ m) last-left in
-            let z : y .out ≡ leaf Newline nil = ap (λ (l : List Sym). items n lim l .out) f ∙ one-nl n lim (omega (arith, less, ap length f)) in
+            let z = ap (λ (l : List Sym). items n lim l .out) f ∙ one-nl n lim (omega (arith, less, ap length f)) in
             rw (z, w f t)
         at-found (past q) = rw (ih q) (or-true (isNl (y .out) && (top k && endsEnd c)))
 
