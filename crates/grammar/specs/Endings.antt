@@ -38,14 +38,14 @@ holder BlockOwner.DoWhileBody = DoWhileOp
 holder BlockOwner.DoWhile = DoWhileOp
 holder BlockOwner.Repeat = RepeatOp
 
--- A tree that the file ended in. Its last block reports its missing closer, behind all that stands in it; or its last tree is the rest of
--- the file, at the depth limit; or its last tree is one that the file ended in. Nothing is reported before.
+-- A tree that the file ended in: its last block reports its missing closer, behind all that stands in it; or it is the rest of the file,
+-- past the depth limit; or its last tree is such a tree. Nothing is reported before or behind.
 pub data Unclosed : Forest → Type 0 where
   reports : (w : BlockOwner) (x y : Forest) → Calm ending x → Calm ending y → Unclosed (node (holder w) (x <> node Block (y <> say (missingEndNumber w) nil) nil) nil)
   rest-of-file : (x : Forest) → Calm ending x → Unclosed (node Error (say (blockNumber NestingTooDeep) x) nil)
   in-last : (k : Kind) (x y : Forest) → Calm ending x → Unclosed y → Unclosed (node k (x <> y) nil)
 
--- The whole file: nothing is reported; or its last tree is one that the file ended in, and nothing is reported before.
+-- The whole file: nothing is reported; or its last tree is one that the file ended in, and nothing is reported before it.
 pub data FileEnd : Forest → Type 0 where
-  all-closed : (x : Forest) → Calm ending x → FileEnd x
+  none-reports : (x : Forest) → Calm ending x → FileEnd x
   unclosed : (x y : Forest) → Calm ending x → Unclosed y → FileEnd (x <> y)

@@ -1,7 +1,8 @@
 -- What the theorems rest on: for each record a law for each way to put functions together, and then each function of the grammar.
 -- Good (Ahead, Good, Stable, StableBlock, StableItem): the tokens are kept, and what a function does in a file that goes on.
--- Live (Numbers, Here, Stops, Live, LiveLine, LiveBlock, LiveItem): no fuel runs out, and what takes a token. Loops: loops without fuel.
--- Tame, Finish (Finish, FinishBlock, FinishItem): what reports a missing closer. High: how many nodes are open. Cost (Cost, EventCost, DiagCost, DiagItem, Visible, DiagConstant): what each token pays for.
+-- Live (Numbers, Here, Stops, Hush, Live, LiveLine, LiveBlock, LiveItem): no fuel runs out, and what takes a token. Loops: without fuel.
+-- Finish (Tame, Finish, FinishBlock, FinishItem): what reports a missing closer, and that nothing comes behind. High: how many nodes are open.
+-- Cost (Cost, EventCost, DiagCost, DiagItem, Visible, DiagConstant): what each token pays for.
 -- Shut, Ends, Join, Premise: the closing `end`, from trees and from events. Out, Code: events and diagnostics of what is put together.
 pub mod Ahead
 pub mod Good

@@ -26,7 +26,7 @@ unfolding parse items-in
 innermost-reports limit a = c (finishes-items (suc (length a)) limit a (omega arith))
   where
     c : {x : Res Bool} → Final Unclosed true x → FileEnd (x .out)
-    c {x} (silent k) = FileEnd.all-closed (x .out) k
+    c {x} (silent k) = FileEnd.none-reports (x .out) k
     c (met-end y z k q e l v) = rw e (FileEnd.unclosed y z k q)
 
 -- ---- In the diagnostics.
@@ -86,7 +86,7 @@ unclosed-endings (Unclosed.rest-of-file x c) i = in-node i Error (say (blockNumb
 unclosed-endings (Unclosed.in-last k x y c u) i = tree i k x y c (λ j. unclosed-endings u j)
 
 file-endings : {x : Forest} → FileEnd x → Endings (0 + length (leaves x)) (endings (dg 0 x))
-file-endings (FileEnd.all-closed x k) = rw (calm-endings 0 x k) Endings.no-ending
+file-endings (FileEnd.none-reports x k) = rw (calm-endings 0 x k) Endings.no-ending
 file-endings (FileEnd.unclosed x y k u) = behind 0 x y k (unclosed-endings u)
 
 -- At most one diagnostic has a number from 1 to 7 or 49; one from 1 to 7 stands at the end of the file.
