@@ -59,13 +59,13 @@ speed:
 
 # Writes the stored cases and answers that `rt ci` replays.
 store:
-	cd tests && cargo run --offline --release --bin differ lexer --store ../crates/tokens 400
-	cd tests && cargo run --offline --release --bin differ readings --store ../crates/readings 600
-	cd tests && cargo run --offline --release --bin differ trees --store ../crates/replay 500
+	cd tests && cargo run --offline --release --bin differ lexer --store ../crates/tokens 100
+	cd tests && cargo run --offline --release --bin differ readings --store ../crates/readings 250
+	cd tests && cargo run --offline --release --bin differ trees --store ../crates/replay 50
 
 # Writes the reference's answers that the grammar's definitions are held to.
 samples:
-	cd tests && cargo run --offline --release --bin samples 300 > ../crates/samples/specs/Samples.antt
+	cd tests && cargo run --offline --release --bin samples > ../crates/samples/specs/Samples.antt
 
 # The table of lines and seconds in docs/PROOFS.md, from a log of the gate.
 LOG ?= gate.log

@@ -5,6 +5,9 @@ use crate::random::Random;
 /// Bytes on both sides of every bound in the table of well-formed sequences.
 const BOUNDS: [u8; 10] = [0x00, 0x7F, 0x80, 0x8F, 0x90, 0x9F, 0xA0, 0xBF, 0xC0, 0xFF];
 
+/// The same without those that only first bytes have.
+const SECONDS: [u8; 8] = [0x7F, 0x80, 0x8F, 0x90, 0x9F, 0xA0, 0xBF, 0xC0];
+
 /// Characters of each length, at the bounds of their row of the table.
 const GOOD: [&str; 15] = [
     "a", " ", "end", "\"", "\n", "é", "\u{7FF}", "\u{800}", "€", "\u{D7FF}", "\u{E000}",
@@ -16,6 +19,12 @@ const BAD: [&[u8]; 15] = [
     b"\x80", b"\xBF", b"\xC0\x80", b"\xC1\xBF", b"\xC3", b"\xE0\x80\x80", b"\xE2\x82",
     b"\xED\xA0\x80", b"\xED\xBF\xBF", b"\xEF\xBF", b"\xF0\x80\x80\x80", b"\xF0\x9F\x98",
     b"\xF4\x90\x80\x80", b"\xF5\x80\x80\x80", b"\xFF",
+];
+
+/// First bytes on both sides of every bound of a row of the table, with the length of the row's sequences.
+const FIRSTS: [(u8, usize); 19] = [
+    (0x7F, 1), (0x80, 1), (0xBF, 1), (0xC0, 2), (0xC1, 2), (0xC2, 2), (0xDF, 2), (0xE0, 3), (0xE1, 3), (0xEC, 3),
+    (0xED, 3), (0xEE, 3), (0xEF, 3), (0xF0, 4), (0xF1, 4), (0xF3, 4), (0xF4, 4), (0xF5, 4), (0xFF, 4),
 ];
 
 /// How long a run of ASCII before a piece gets.
@@ -30,6 +39,29 @@ pub fn short() -> impl Iterator<Item = Vec<u8>> {
         (0..1000).map(move |i| vec![a, BOUNDS[i / 100], BOUNDS[i / 10 % 10], BOUNDS[i % 10]])
     });
     pairs.chain(triples).chain(fours)
+}
+
+/// Each row of the table with every bound at every place behind the first byte, the other bytes being 80; and cut off.
+pub fn bounds() -> impl Iterator<Item = Vec<u8>> {
+    FIRSTS.into_iter().flat_map(|(first, length)| {
+        let whole: Vec<u8> = [first].into_iter().chain([0x80; 3]).take(length).collect();
+        let second = if matches!(first, 0xE0 | 0xF0) { 0xA0 } else { 0x80 };
+        let cut = (1..=length).map({
+            let whole = whole.clone();
+            move |end| whole[..end].to_vec()
+        });
+        let bounded = (1..length).flat_map(move |at| {
+            let mut whole = whole.clone();
+            if at > 1 {
+                whole[1] = second;
+            }
+            SECONDS.map(move |bound| {
+                whole[at] = bound;
+                whole.clone()
+            })
+        });
+        cut.chain(bounded)
+    })
 }
 
 /// Each piece behind a run of ASCII of each length, with a few bytes after it.

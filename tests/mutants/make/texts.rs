@@ -1,0 +1,77 @@
+//! Words, messages and characters in quotes.
+
+use crate::{changes::Change, kept::refused_word};
+
+/// A word that no source has as an identifier, and a character that starts no token.
+const NO_WORD: &str = "?";
+const NO_CHARACTER: &str = "'\\u{E000}'";
+
+/// What stands beside a list of terminators.
+const TERMINATORS: [&str; 3] = ["else", "end", "while"];
+
+pub fn changes(body: &str) -> Vec<Change> {
+    let mut changes = strings(body);
+    changes.extend(characters(body));
+    changes.extend(ranges(body));
+    changes
+}
+
+/// A word is taken away, a message changed, and each terminator put into lists of them.
+fn strings(body: &str) -> Vec<Change> {
+    let mut changes = Vec::new();
+    let mut at = 0;
+    while let Some(start) = body[at..].find('"').map(|found| at + found) {
+        if body[start - 1..].starts_with("'\"'") {
+            at = start + 1;
+            continue;
+        }
+        let end = start + 1 + body[start + 1..].find('"').expect("a closing quote");
+        at = end + 1;
+        let text = &body[start + 1..end];
+        if text == "syntax error" || text.starts_with("source files larger") || refused_word(text) {
+            continue;
+        }
+        if text.contains(' ') {
+            changes.push(Change::new(start + 1..start + 1, NO_WORD));
+        } else {
+            changes.push(Change::new(start + 1..end, NO_WORD));
+        }
+        if body[at..].starts_with(']') {
+            let others = TERMINATORS.iter().filter(|other| **other != text);
+            changes.extend(others.map(|other| Change::new(at..at, format!(", \"{other}\""))));
+        }
+    }
+    changes
+}
+
+/// A character is taken away.
+fn characters(body: &str) -> Vec<Change> {
+    let ends = body.match_indices('\'').map(|(at, _)| at);
+    let mut changes = Vec::new();
+    for start in ends {
+        let length = if body[start + 1..].starts_with('\\') { 4 } else { 3 };
+        let character = body.get(start..start + length).filter(|found| found.ends_with('\''));
+        let beside = body[..start].ends_with("..=") || body[start..].get(length..length + 3) == Some("..=");
+        let before = body[..start].chars().next_back();
+        let starts = matches!(before, Some(' ' | '('));
+        if character.is_some() && starts && !beside {
+            changes.push(Change::new(start..start + length, NO_CHARACTER));
+        }
+    }
+    changes
+}
+
+/// A bound of a range moves by one, either way.
+fn ranges(body: &str) -> Vec<Change> {
+    let mut changes = Vec::new();
+    for (at, _) in body.match_indices("'..='") {
+        let (low, high) = (at - 1, at + "'..='".len());
+        for place in [low, high] {
+            let byte = body.as_bytes()[place];
+            for moved in [byte - 1, byte + 1] {
+                changes.push(Change::new(place..place + 1, char::from(moved)));
+            }
+        }
+    }
+    changes
+}
