@@ -61,7 +61,9 @@ pub fn tree_sizes() -> impl Iterator<Item = Vec<u8>> {
 
 /// The longest source that `tree` reads and the next, and one with more diagnostics than it has room for.
 pub fn tree_bounds() -> impl Iterator<Item = Vec<u8>> {
-    [(" ", 2_048), (" ", 2_049), ("@$", 2_048)].into_iter().map(|(piece, size)| filled("", piece, size))
+    [(" ", 2_048), (" ", 2_049), ("@$", 2_048)]
+        .into_iter()
+        .map(|(piece, size)| filled("", piece, size))
 }
 
 /// `start`, then `piece` as often as it fits, then dots up to the size.

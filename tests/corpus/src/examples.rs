@@ -17,11 +17,11 @@ const NEIGHBOURS: [&str; 63] = [
     "adv_map X\n(a) = 1", "adv_map X (a) = 1", "@a\n(b) proc c end", "proc a() -> #c\nf\nend",
     "proc a() ->\nf\nend", "proc a()\n-> f\nend", "proc()->#", "proc()->#!", "namespace a\n::b",
     "namespace a:: #c\nb", "namespace a #c\n::b", "namespace::#", "namespace:: ", "pub(#!\n)proc",
-    "pub(#c\npackage)proc", "pub #!\n(package)proc", "pub\n(\npackage\n)\nproc a end",
+    "pub(#c\npackage)proc", "@a pub#!\n(package)proc", "pub\n(\npackage\n)\nproc a end",
     // Line ends.
     "mod a #c", "const A = 1 #c", "const A = 1 #!d", "namespace a #c", "begin #c", "begin do\n",
-    "begin do#", "begin repeat#", "begin while#", "begin if#", "begin if.x else#", "begin do while#",
-    "begin a #c\nb end", "proc a() -> b #c\nend",
+    "begin do#", "begin repeat#", "begin while#", "begin if#", "begin if.x else#",
+    "begin do while#", "begin a #c\nb end", "proc a() -> b #c\nend",
     // Terminators in every form.
     "begin repeat end", "begin while end", "begin if end", "begin do end", "begin do while end",
     "begin if.x else end", "begin if.x else while", "begin do while.a end while b end",
@@ -50,10 +50,17 @@ pub fn documented() -> impl Iterator<Item = Vec<u8>> {
 
 /// Those chosen by hand: neighbours, and every kind and word where lists of them are asked.
 pub fn neighbours() -> impl Iterator<Item = Vec<u8>> {
-    let kinds = KINDS.iter().flat_map(|kind| [format!("begin a {kind} b end"), format!("begin a{kind} b end")]);
+    let kinds = KINDS
+        .iter()
+        .flat_map(|kind| [format!("begin a {kind} b end"), format!("begin a{kind} b end")]);
     let words = KEYWORDS.iter().filter(|word| !matches!(**word, "use" | "extern"));
     let words = words.flat_map(|word| {
-        [format!("begin a {word} b end"), format!("begin\n#!d\n{word}"), format!("const A = 1 {word}"), format!("pub {word}")]
+        [
+            format!("begin a {word} b end"),
+            format!("begin\n#!d\n{word}"),
+            format!("const A = 1 {word}"),
+            format!("pub {word}"),
+        ]
     });
     let texts = NEIGHBOURS.iter().map(|text| text.to_string());
     texts.chain(kinds).chain(words).map(String::into_bytes)
@@ -63,7 +70,8 @@ pub fn neighbours() -> impl Iterator<Item = Vec<u8>> {
 pub fn deepest() -> impl Iterator<Item = Vec<u8>> {
     let met = ["do do", "while while", "repeat repeat", "if else if", "do while if"];
     let met = met.into_iter().map(|last| opened(MAX_CONTROL_FLOW_NESTING - 1, last));
-    let inner = "repeat if a end end while if end end do if end while if end end if if end else if end end";
+    let inner =
+        "repeat if a end end while if end end do if end while if end end if if end else if end end";
     met.chain([opened(MAX_CONTROL_FLOW_NESTING - 2, inner)])
 }
 

@@ -37,8 +37,9 @@ fn near(word: &'static str) -> impl Iterator<Item = Vec<u8>> {
 
 /// On both sides of every bound of a class of characters.
 const BOUNDS: [&str; 38] = [
-    "\r", "\n", "\x0B", "\x0C", "\u{A0}", "²", "\t", " ", "!", "\"", "#", "$", "%", "/", "0", "1", "2", "8", "9", ":", "@", "A", "F", "G", "Z", "[", "\\", "_",
-    "`", "a", "f", "g", "z", "{", "}", "~", "\x7F", "é",
+    "\r", "\n", "\x0B", "\x0C", "\u{A0}", "²", "\t", " ", "!", "\"", "#", "$", "%", "/", "0", "1",
+    "2", "8", "9", ":", "@", "A", "F", "G", "Z", "[", "\\", "_", "`", "a", "f", "g", "z", "{", "}",
+    "~", "\x7F", "é",
 ];
 
 /// What the class is asked of: the start of a token, and what goes on with one.
@@ -47,7 +48,8 @@ const STARTS: [&str; 15] =
 
 /// Each class at its bounds; the quotes also closed.
 pub fn bounds() -> impl Iterator<Item = Vec<u8>> {
-    let plain = STARTS.iter().flat_map(|start| BOUNDS.iter().map(move |bound| [*start, bound].concat()));
+    let plain =
+        STARTS.iter().flat_map(|start| BOUNDS.iter().map(move |bound| [*start, bound].concat()));
     let quoted = BOUNDS.iter().map(|bound| format!("\"{bound}\""));
     plain.chain(quoted).map(String::into_bytes)
 }

@@ -6,29 +6,36 @@ use crate::spellings::SPELLINGS;
 
 /// A place is marked by `%`.
 const PLACES: [&str; 99] = [
-    "const A = % proc a end", "begin\n#!d\n%proc", "begin a.1%", "@a((%))", "namespace::%", "begin do %", "begin a(\n%)b end",
-    "%", "% a", "%a", "a\n%", "begin a % b end", "begin a% b end", "begin a %b end", "begin a%b end",
-    "begin a\n% b end", "begin a\n%", "begin % b end", "begin %", "begin a.%", "begin a. % b end", "begin a.%b end",
-    "begin a(% b) end", "begin a( % b end", "begin a(%", "begin a % % b end", "begin a(b) % c end", "begin a #c\n% b end",
-    "begin\n#!d\n%", "begin\n#!d\n% a end", "begin if % end end", "begin if% end end", "begin if.% end end",
-    "begin if. % end end", "begin if.a% end end", "begin if.a % end end", "begin if.a\n% end end", "begin if.a else % end end",
-    "begin if.a else% end end", "begin if.a else % else end end", "begin if.a % else", "begin if.[% ] end end",
-    "begin while % end end", "begin while.a% end end", "begin while.%", "begin do % while end end", "begin do% while a end end",
-    "begin do a % end end", "begin do while % end end", "begin do while% end end", "begin do a while.% end", "begin repeat % end end",
-    "begin repeat.% end end", "begin repeat.1% end end", "begin repeat%", "begin a end %", "begin a end%b", "const % = 1",
-    "const A % 1", "const A = %", "const A = %\nb", "const A = 1 %", "const A = 1% b", "const A = (% 1)\nb", "const A = ( 1 %\n)",
-    "const A = 1\n%", "const %", "pub % A = 1", "pub(%) const A = 1", "pub % proc a end", "pub (%)proc a end",
-    "pub ( package % proc a end", "pub( % package ) proc a end", "begin a pub % a", "begin a pub ( % ) proc b end",
-    "const A = 1 pub % b", "type % = a", "type T % a", "type T = % a", "type T = a\n%", "type T = a\n% b", "type T = (a\n%\n)\nb",
-    "enum E : % {\n}", "adv_map % = 1", "adv_map A% = 1", "adv_map A(%) = 1", "adv_map A % 1", "namespace %", "namespace a%",
-    "namespace a::%", "namespace a % b", "mod %", "mod a% b", "@% proc a end", "@a% proc b end", "@a(%) proc b end", "@a % b",
-    "proc % end", "proc a% b end",
+    "const A = % proc a end", "begin\n#!d\n% proc", "begin a.1%", "@a((%))", "namespace::%",
+    "begin do %", "begin a(\n%)b end", "%", "% a", "%a", "a\n%", "begin a % b end",
+    "begin a% b end", "begin a %b end", "begin a%b end", "begin a\n% b end", "begin a\n%",
+    "begin % b end", "begin %", "begin a.%", "begin a. % b end", "begin a.%b end",
+    "begin a(% b) end", "begin a( % b end", "begin a(%", "begin a % % b end", "begin a(b) % c end",
+    "begin a #c\n% b end", "begin\n#!d\n%", "begin\n#!d\n% a end", "begin if % end end",
+    "begin if% end end", "begin if.% end end", "begin if. % end end", "begin if.a% end end",
+    "begin if.a % end end", "begin if.a\n% end end", "begin if.a else % end end",
+    "begin if.a else% end end", "begin if.a else % else end end", "begin if.a % else",
+    "begin if.[% ] end end", "begin while % end end", "begin while.a% end end", "begin while.%",
+    "begin do % while end end", "begin do% while a end end", "begin do a % end end",
+    "begin do while % end end", "begin do while% end end", "begin do a while.% end",
+    "begin repeat % end end", "begin repeat.% end end", "begin repeat.1% end end", "begin repeat%",
+    "begin a end %", "begin a end%b", "const % = 1", "const A % 1", "const A = %",
+    "const A = %\nb", "const A = 1 %", "const A = 1% b", "const A = (% 1)\nb",
+    "const A = ( 1 %\n)", "const A = 1\n%", "const %", "pub % A = 1", "pub(%) const A = 1",
+    "pub % proc a end", "pub (%)proc a end", "pub ( package % proc a end",
+    "pub( % package ) proc a end", "begin a pub % a", "begin a pub ( % ) proc b end",
+    "const A = 1 pub % b", "type % = a", "type T % a", "type T = % a", "type T = a\n%",
+    "type T = a\n% b", "type T = (a\n%\n)\nb", "enum E : % {\n}", "adv_map % = 1",
+    "adv_map A% = 1", "adv_map A(%) = 1", "adv_map A % 1", "namespace %", "namespace a%",
+    "namespace a::%", "namespace a % b", "mod %", "mod a% b", "@% proc a end", "@a% proc b end",
+    "@a(%) proc b end", "@a % b", "proc % end", "proc a% b end",
 ];
 
 /// The same behind a procedure's name, in and behind its signature.
 const SIGNATURES: [&str; 10] = [
-    "proc a % end", "proc a(%) end", "proc a() % end", "proc a()%->b\nend", "proc a()->% b\nend", "proc a() -> %\nb end",
-    "proc a() -> b % c\nend", "proc a() -> (%)\nend", "proc a() -> b(%\n)\nend", "pub proc a\n% end",
+    "proc a % end", "proc a(%) end", "proc a() % end", "proc a()%->b\nend", "proc a()->% b\nend",
+    "proc a() -> %\nb end", "proc a() -> b % c\nend", "proc a() -> (%)\nend",
+    "proc a() -> b(%\n)\nend", "pub proc a\n% end",
 ];
 
 /// Sources in whose tokens every form of the grammar occurs.

@@ -22,9 +22,25 @@ const BAD: [&[u8]; 15] = [
 ];
 
 /// First bytes on both sides of every bound of a row of the table, with the length of the row's sequences.
-const FIRSTS: [(u8, usize); 19] = [
-    (0x7F, 1), (0x80, 1), (0xBF, 1), (0xC0, 2), (0xC1, 2), (0xC2, 2), (0xDF, 2), (0xE0, 3), (0xE1, 3), (0xEC, 3),
-    (0xED, 3), (0xEE, 3), (0xEF, 3), (0xF0, 4), (0xF1, 4), (0xF3, 4), (0xF4, 4), (0xF5, 4), (0xFF, 4),
+const FIRSTS: [(u8, usize); 18] = [
+    (0x80, 2),
+    (0xBF, 2),
+    (0xC0, 2),
+    (0xC1, 2),
+    (0xC2, 2),
+    (0xDF, 2),
+    (0xE0, 3),
+    (0xE1, 3),
+    (0xEC, 3),
+    (0xED, 3),
+    (0xEE, 3),
+    (0xEF, 3),
+    (0xF0, 4),
+    (0xF1, 4),
+    (0xF3, 4),
+    (0xF4, 4),
+    (0xF5, 4),
+    (0xFF, 4),
 ];
 
 /// How long a run of ASCII before a piece gets.
@@ -41,27 +57,18 @@ pub fn short() -> impl Iterator<Item = Vec<u8>> {
     pairs.chain(triples).chain(fours)
 }
 
-/// Each row of the table with every bound at every place behind the first byte, the other bytes being 80; and cut off.
+/// Each row of the table with every bound as its second byte, and cut off; the later bytes at their bounds.
 pub fn bounds() -> impl Iterator<Item = Vec<u8>> {
-    FIRSTS.into_iter().flat_map(|(first, length)| {
-        let whole: Vec<u8> = [first].into_iter().chain([0x80; 3]).take(length).collect();
-        let second = if matches!(first, 0xE0 | 0xF0) { 0xA0 } else { 0x80 };
-        let cut = (1..=length).map({
-            let whole = whole.clone();
-            move |end| whole[..end].to_vec()
-        });
-        let bounded = (1..length).flat_map(move |at| {
-            let mut whole = whole.clone();
-            if at > 1 {
-                whole[1] = second;
-            }
-            SECONDS.map(move |bound| {
-                whole[at] = bound;
-                whole.clone()
-            })
-        });
-        cut.chain(bounded)
-    })
+    let rows = FIRSTS.into_iter().flat_map(|(first, length)| {
+        let seconds =
+            SECONDS.into_iter().map(move |second| [first, second, 0x80, 0x80][..length].to_vec());
+        let cut = (2..length).map(move |end| [first, 0xA0, 0x80][..end].to_vec());
+        seconds.chain(cut)
+    });
+    let later = [0x7F, 0x80, 0xBF, 0xC0].into_iter().flat_map(|byte| {
+        [vec![0xE1, 0x80, byte], vec![0xF1, 0x80, byte, 0x80], vec![0xF1, 0x80, 0x80, byte]]
+    });
+    rows.chain(later)
 }
 
 /// Each piece behind a run of ASCII of each length, with a few bytes after it.

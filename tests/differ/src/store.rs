@@ -9,6 +9,9 @@ use crate::part::Part;
 /// Longer cases are not picked from the families.
 const LONGEST: usize = 60;
 
+/// Longer examples show no more of the lexer.
+const LEXER_LONGEST: usize = 20;
+
 /// Writes the examples and `count` cases, spread evenly over the families and over each family.
 pub fn store(part: &Part, folder: &Path, count: usize) -> io::Result<()> {
     let (mut stdin, mut stdout) = (Vec::new(), Vec::new());
@@ -32,7 +35,9 @@ fn always(part: &str) -> impl Iterator<Item = Case> {
         "trees" => edges::tree_bounds().collect(),
         _ => utf8::bounds().collect(),
     };
-    let sources = examples::all().chain(bounds);
+    let longest = if part == "lexer" { LEXER_LONGEST } else { usize::MAX };
+    let examples = examples::all().filter(move |source| source.len() <= longest);
+    let sources = examples.chain(bounds);
     sources.map(|source| Case { family: Family::Examples, source, plan: Plan::AMPLE })
 }
 

@@ -4,13 +4,28 @@ use crate::changes::Change;
 
 /// The starts of calls that answer yes or no.
 const TESTS: [&str; 22] = [
-    "expects_continuation_operand(", "matches!(", "nesting.is_root(", "predicate(",
-    "punctuation_continues_instruction(", "self.at_bare_while(", "self.at_block_recovery_boundary(",
-    "self.at_control_flow_operation(", "self.at_keyword(", "self.at_kind(", "self.at_name_like(",
-    "self.at_prefixed_keyword(", "self.at_regular_trivia(", "self.at_terminator(",
-    "self.at_top_level_form_starter_in_block(", "self.can_start_instruction(",
-    "self.can_start_operation(", "self.eof(", "self.is_top_level_starter(",
-    "self.line_break_starts_new_top_level_item(", "is_reserved_block_keyword(", "terminators.contains(",
+    "expects_continuation_operand(",
+    "matches!(",
+    "nesting.is_root(",
+    "predicate(",
+    "punctuation_continues_instruction(",
+    "self.at_bare_while(",
+    "self.at_block_recovery_boundary(",
+    "self.at_control_flow_operation(",
+    "self.at_keyword(",
+    "self.at_kind(",
+    "self.at_name_like(",
+    "self.at_prefixed_keyword(",
+    "self.at_regular_trivia(",
+    "self.at_terminator(",
+    "self.at_top_level_form_starter_in_block(",
+    "self.can_start_instruction(",
+    "self.can_start_operation(",
+    "self.eof(",
+    "self.is_top_level_starter(",
+    "self.line_break_starts_new_top_level_item(",
+    "is_reserved_block_keyword(",
+    "terminators.contains(",
 ];
 
 pub fn changes(body: &str) -> Vec<Change> {
@@ -50,10 +65,15 @@ fn condition(body: &str, start: usize) -> Vec<Change> {
     let place = start..start + body[start..].find('{').unwrap_or(0);
     let text = body[place.clone()].trim_end();
     let place = place.start..place.start + text.len();
-    let statement = !text.is_empty() && !text.starts_with("let ") && !text.contains(['"', ';']) && !text.contains("=>");
+    let statement = !text.is_empty()
+        && !text.starts_with("let ")
+        && !text.contains(['"', ';'])
+        && !text.contains("=>");
     let quoted = text.matches('"').count() % 2 == 0 && text.contains("at_") && !text.contains("=>");
     if !(statement || quoted && !text.starts_with("let ")) {
         return Vec::new();
     }
-    [format!("!({text})"), "true".into(), "false".into()].map(|answer| Change::new(place.clone(), answer)).into()
+    [format!("!({text})"), "true".into(), "false".into()]
+        .map(|answer| Change::new(place.clone(), answer))
+        .into()
 }

@@ -62,7 +62,10 @@ const EXCHANGES: [(&str, &[&str]); 49] = [
     ("1usize", &["0usize", "2usize"]),
     (", 0)", &[", 1)"]),
     (", nesting_depth)", &[", nesting_depth + 1)", ", nesting_depth - 1)"]),
-    ("< MAX_CONTROL_FLOW_NESTING", &["< MAX_CONTROL_FLOW_NESTING - 1", "< MAX_CONTROL_FLOW_NESTING + 1"]),
+    (
+        "< MAX_CONTROL_FLOW_NESTING",
+        &["< MAX_CONTROL_FLOW_NESTING - 1", "< MAX_CONTROL_FLOW_NESTING + 1"],
+    ),
     ("break", &["continue"]),
     ("continue", &["break"]),
     ("true", &["false"]),
@@ -90,30 +93,55 @@ const EXCHANGES: [(&str, &[&str]); 49] = [
     ("error_at_eof(", &["error_here("]),
     ("at_bare_while()", &["at_keyword(\"while\")"]),
     ("is_ascii_graphic()", &["is_ascii()"]),
-    ("ch.is_ascii_graphic()", &[
-        "matches!(ch, '\"'..='~')", "matches!(ch, ' '..='~')", "matches!(ch, '!'..='}')", "matches!(ch, '!'..='\\x7F')",
-    ]),
-    ("ch.is_ascii_alphanumeric()", &[
-        "matches!(ch, 'b'..='z' | 'A'..='Z' | '0'..='9')", "matches!(ch, 'a'..='y' | 'A'..='Z' | '0'..='9')",
-        "matches!(ch, '`'..='z' | 'A'..='Z' | '0'..='9')", "matches!(ch, 'a'..='{' | 'A'..='Z' | '0'..='9')",
-        "matches!(ch, 'a'..='z' | 'B'..='Z' | '0'..='9')", "matches!(ch, 'a'..='z' | 'A'..='Y' | '0'..='9')",
-        "matches!(ch, 'a'..='z' | '@'..='Z' | '0'..='9')", "matches!(ch, 'a'..='z' | 'A'..='[' | '0'..='9')",
-        "matches!(ch, 'a'..='z' | 'A'..='Z' | '1'..='9')", "matches!(ch, 'a'..='z' | 'A'..='Z' | '0'..='8')",
-        "matches!(ch, 'a'..='z' | 'A'..='Z' | '/'..='9')", "matches!(ch, 'a'..='z' | 'A'..='Z' | '0'..=':')",
-        "ch.is_alphanumeric()",
-    ]),
-    ("ch.is_ascii_hexdigit()", &[
-        "matches!(ch, 'b'..='f' | 'A'..='F' | '0'..='9')", "matches!(ch, 'a'..='e' | 'A'..='F' | '0'..='9')",
-        "matches!(ch, '`'..='f' | 'A'..='F' | '0'..='9')", "matches!(ch, 'a'..='g' | 'A'..='F' | '0'..='9')",
-        "matches!(ch, 'a'..='f' | 'B'..='F' | '0'..='9')", "matches!(ch, 'a'..='f' | 'A'..='E' | '0'..='9')",
-        "matches!(ch, 'a'..='f' | '@'..='F' | '0'..='9')", "matches!(ch, 'a'..='f' | 'A'..='G' | '0'..='9')",
-        "matches!(ch, 'a'..='f' | 'A'..='F' | '1'..='9')", "matches!(ch, 'a'..='f' | 'A'..='F' | '0'..='8')",
-        "matches!(ch, 'a'..='f' | 'A'..='F' | '/'..='9')", "matches!(ch, 'a'..='f' | 'A'..='F' | '0'..=':')",
-    ]),
-    ("ch.is_ascii_digit()", &[
-        "matches!(ch, '1'..='9')", "matches!(ch, '0'..='8')", "matches!(ch, '/'..='9')", "matches!(ch, '0'..=':')",
-        "ch.is_numeric()",
-    ]),
+    (
+        "ch.is_ascii_graphic()",
+        &[
+            "matches!(ch, '\"'..='~')", "matches!(ch, ' '..='~')", "matches!(ch, '!'..='}')",
+            "matches!(ch, '!'..='\\x7F')",
+        ],
+    ),
+    (
+        "ch.is_ascii_alphanumeric()",
+        &[
+            "matches!(ch, 'b'..='z' | 'A'..='Z' | '0'..='9')",
+            "matches!(ch, 'a'..='y' | 'A'..='Z' | '0'..='9')",
+            "matches!(ch, '`'..='z' | 'A'..='Z' | '0'..='9')",
+            "matches!(ch, 'a'..='{' | 'A'..='Z' | '0'..='9')",
+            "matches!(ch, 'a'..='z' | 'B'..='Z' | '0'..='9')",
+            "matches!(ch, 'a'..='z' | 'A'..='Y' | '0'..='9')",
+            "matches!(ch, 'a'..='z' | '@'..='Z' | '0'..='9')",
+            "matches!(ch, 'a'..='z' | 'A'..='[' | '0'..='9')",
+            "matches!(ch, 'a'..='z' | 'A'..='Z' | '1'..='9')",
+            "matches!(ch, 'a'..='z' | 'A'..='Z' | '0'..='8')",
+            "matches!(ch, 'a'..='z' | 'A'..='Z' | '/'..='9')",
+            "matches!(ch, 'a'..='z' | 'A'..='Z' | '0'..=':')",
+            "ch.is_alphanumeric()",
+        ],
+    ),
+    (
+        "ch.is_ascii_hexdigit()",
+        &[
+            "matches!(ch, 'b'..='f' | 'A'..='F' | '0'..='9')",
+            "matches!(ch, 'a'..='e' | 'A'..='F' | '0'..='9')",
+            "matches!(ch, '`'..='f' | 'A'..='F' | '0'..='9')",
+            "matches!(ch, 'a'..='g' | 'A'..='F' | '0'..='9')",
+            "matches!(ch, 'a'..='f' | 'B'..='F' | '0'..='9')",
+            "matches!(ch, 'a'..='f' | 'A'..='E' | '0'..='9')",
+            "matches!(ch, 'a'..='f' | '@'..='F' | '0'..='9')",
+            "matches!(ch, 'a'..='f' | 'A'..='G' | '0'..='9')",
+            "matches!(ch, 'a'..='f' | 'A'..='F' | '1'..='9')",
+            "matches!(ch, 'a'..='f' | 'A'..='F' | '0'..='8')",
+            "matches!(ch, 'a'..='f' | 'A'..='F' | '/'..='9')",
+            "matches!(ch, 'a'..='f' | 'A'..='F' | '0'..=':')",
+        ],
+    ),
+    (
+        "ch.is_ascii_digit()",
+        &[
+            "matches!(ch, '1'..='9')", "matches!(ch, '0'..='8')", "matches!(ch, '/'..='9')",
+            "matches!(ch, '0'..=':')", "ch.is_numeric()",
+        ],
+    ),
     ("ch.len_utf8()", &["1"]),
 ];
 
@@ -121,7 +149,10 @@ fn exchanges(body: &str) -> Vec<Change> {
     let mut changes = Vec::new();
     for (from, to) in EXCHANGES {
         for (at, _) in body.match_indices(from) {
-            if inside_word(body, at, from) || within_let(body, at, from) || body[..at].ends_with('(') && from == "|| " {
+            if inside_word(body, at, from)
+                || within_let(body, at, from)
+                || body[..at].ends_with('(') && from == "|| "
+            {
                 continue;
             }
             changes.extend(to.iter().map(|to| Change::new(at..at + from.len(), *to)));

@@ -60,7 +60,10 @@ fn kind(body: &str, at: usize, prefix: &str) -> Vec<Change> {
         if is_list_end(body, at, place.end) {
             let list = list_before(body, place.end);
             let absent = TOKENS.iter().filter(|other| !list.contains(&format!("{prefix}{other}")));
-            changes.extend(absent.map(|other| Change::new(place.end..place.end, format!(" | {prefix}{other}"))));
+            changes.extend(
+                absent
+                    .map(|other| Change::new(place.end..place.end, format!(" | {prefix}{other}"))),
+            );
         }
         return changes;
     }
@@ -72,7 +75,11 @@ fn others(kinds: &[&'static str], name: &str) -> Vec<&'static str> {
     match kinds.iter().position(|kind| *kind == name) {
         Some(at) => {
             let last = kinds.len() - 1;
-            vec![NO_KIND, kinds[if at == 0 { last } else { at - 1 }], kinds[if at == last { 0 } else { at + 1 }]]
+            vec![
+                NO_KIND,
+                kinds[if at == 0 { last } else { at - 1 }],
+                kinds[if at == last { 0 } else { at + 1 }],
+            ]
         },
         None => vec!["Doc", "Error"],
     }
@@ -82,7 +89,9 @@ fn variant(body: &str, start: usize, variants: &[&'static str]) -> Vec<Change> {
     let name = identifier(&body[start..]);
     let place = start..start + name.len();
     // The texts for a closer that is missing are not reported where it was met.
-    if body[place.end..].starts_with(" =>") || body[place.end..].starts_with(".missing_end_message()") {
+    if body[place.end..].starts_with(" =>")
+        || body[place.end..].starts_with(".missing_end_message()")
+    {
         return Vec::new();
     }
     let others = variants.iter().filter(|other| **other != name);
@@ -135,9 +144,11 @@ fn list_before(body: &str, end: usize) -> Vec<String> {
 fn list_ends(body: &str, quote: char) -> impl Iterator<Item = (usize, Vec<String>)> {
     let ends = body.match_indices(quote).map(|(at, _)| at + 1);
     ends.filter_map(move |end| {
-        let closing = body[end..].trim_start().starts_with([')', '=']) || body[end..].starts_with("\n");
+        let closing =
+            body[end..].trim_start().starts_with([')', '=']) || body[end..].starts_with("\n");
         let list = list_before(body, end);
-        let quoted = |item: &String| item.len() > 2 && item.starts_with(quote) && item.ends_with(quote);
+        let quoted =
+            |item: &String| item.len() > 2 && item.starts_with(quote) && item.ends_with(quote);
         let whole = list.len() > 1 && list.iter().all(quoted) && !list[0].contains('$');
         (closing && whole && !is_bar(body[end..].trim_start())).then_some((end, list))
     })

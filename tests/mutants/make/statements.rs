@@ -9,11 +9,12 @@ const TAKING: [&str; 4] = ["self.bump();", "self.parse_", "self.expect_k", "let 
 
 /// What skips whitespace, newlines and comments itself, and what skips whitespace.
 const REGULAR: [&str; 6] = [
-    "self.bump_regular_trivia", "self.expect_k", "let _ = self.expect_k", "if !self.expect_k", "self.parse_balanced_group",
-    "self.parse_expr_until_line_end",
+    "self.bump_regular_trivia", "self.expect_k", "let _ = self.expect_k", "if !self.expect_k",
+    "self.parse_balanced_group", "self.parse_expr_until_line_end",
 ];
 const INLINE: [&str; 4] = [
-    "self.bump_inline_whitespace", "self.bump_non_comment_trivia", "self.parse_line_tail", "self.parse_structured_header_suffixes",
+    "self.bump_inline_whitespace", "self.bump_non_comment_trivia", "self.parse_line_tail",
+    "self.parse_structured_header_suffixes",
 ];
 
 /// Behind an item or an operation these two skip trivia anyway.
@@ -27,8 +28,9 @@ pub fn changes(function: &Function) -> Vec<Change> {
     });
     let mut changes: Vec<Change> = left_out.collect();
     if function.name.starts_with("parse") && !LOOPS.contains(&function.name.as_str()) {
-        let taking = places.into_iter().filter(|place| is_one_of(&function.body[place.clone()], &TAKING));
-        changes.extend(taking.flat_map(|place| skips(&function.body, place.end)));
+        let taking =
+            places.into_iter().filter(|place| is_one_of(&function.body[place.clone()], &TAKING));
+        changes.extend(taking.flat_map(|place| skips(&function.body, place)));
     }
     changes
 }
@@ -37,11 +39,12 @@ fn is_one_of(statement: &str, starts: &[&str]) -> bool {
     starts.iter().any(|start| statement.starts_with(start))
 }
 
-/// Skipping at the end of a statement, where the next one does not skip as much.
-fn skips(body: &str, end: usize) -> Vec<Change> {
+/// Skipping at the end of a statement, where neither it nor the next one skips as much.
+fn skips(body: &str, place: Range<usize>) -> Vec<Change> {
+    let end = place.end;
     let next = next_statement(body, end);
     let regular = is_one_of(next, &REGULAR);
-    let inline = regular || is_one_of(next, &INLINE);
+    let inline = regular || is_one_of(next, &INLINE) || is_one_of(&body[place], &INLINE);
     let skip = |name: &str| Change::new(end..end, format!(" self.{name}();"));
     let mut changes = Vec::new();
     if !regular {
@@ -100,15 +103,19 @@ fn statement_end(body: &str, at: usize, line: &str) -> Option<usize> {
     }
     let indent = at - body[..at].rfind('\n').map_or(0, |found| found + 1);
     let closings = [");", "));"].map(|closing| format!("\n{}{closing}", " ".repeat(indent)));
-    let ends = closings.iter().filter_map(|closing| Some(at + body[at..].find(closing)? + closing.len()));
+    let ends =
+        closings.iter().filter_map(|closing| Some(at + body[at..].find(closing)? + closing.len()));
     ends.min()
 }
 
 fn is_statement(text: &str) -> bool {
     let call = is_one_of(text, &["self.", "let _ = self."]) && text.ends_with(')');
     let signs = [" = ", " += ", " -= ", " |= ", " &= "];
-    let assigned = signs.iter().any(|sign| text.contains(sign)) && !text.contains("==") && !text.contains("=>");
-    let place = text.starts_with(|c: char| c.is_lowercase() || c == '*') && !is_one_of(text, &["let ", "if ", "while "]);
+    let assigned = signs.iter().any(|sign| text.contains(sign))
+        && !text.contains("==")
+        && !text.contains("=>");
+    let place = text.starts_with(|c: char| c.is_lowercase() || c == '*')
+        && !is_one_of(text, &["let ", "if ", "while "]);
     let jump = matches!(text, "break" | "continue") || text.starts_with("return");
     call || assigned && place || jump
 }

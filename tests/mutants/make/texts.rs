@@ -6,6 +6,16 @@ use crate::{changes::Change, kept::refused_word};
 const NO_WORD: &str = "?";
 const NO_CHARACTER: &str = "'\\u{E000}'";
 
+/// Texts that no reading shows: of panics, of errors outside of the kept code, a file's name.
+const HIDDEN: [&str; 6] = [
+    "syntax error",
+    "source files larger than 4GiB are not supported",
+    "not eof",
+    "unexpected trivia character: {first:?}",
+    "memory:///inline.masm",
+    "delimiter",
+];
+
 /// What stands beside a list of terminators.
 const TERMINATORS: [&str; 3] = ["else", "end", "while"];
 
@@ -28,7 +38,7 @@ fn strings(body: &str) -> Vec<Change> {
         let end = start + 1 + body[start + 1..].find('"').expect("a closing quote");
         at = end + 1;
         let text = &body[start + 1..end];
-        if text == "syntax error" || text.starts_with("source files larger") || refused_word(text) {
+        if HIDDEN.contains(&text) || refused_word(text) {
             continue;
         }
         if text.contains(' ') {
@@ -37,7 +47,8 @@ fn strings(body: &str) -> Vec<Change> {
             changes.push(Change::new(start + 1..end, NO_WORD));
         }
         if body[at..].starts_with(']') {
-            let others = TERMINATORS.iter().filter(|other| **other != text);
+            let list = &body[body[..at].rfind('[').unwrap_or(0)..at];
+            let others = TERMINATORS.iter().filter(|other| !list.contains(**other));
             changes.extend(others.map(|other| Change::new(at..at, format!(", \"{other}\""))));
         }
     }
@@ -51,7 +62,8 @@ fn characters(body: &str) -> Vec<Change> {
     for start in ends {
         let length = if body[start + 1..].starts_with('\\') { 4 } else { 3 };
         let character = body.get(start..start + length).filter(|found| found.ends_with('\''));
-        let beside = body[..start].ends_with("..=") || body[start..].get(length..length + 3) == Some("..=");
+        let beside =
+            body[..start].ends_with("..=") || body[start..].get(length..length + 3) == Some("..=");
         let before = body[..start].chars().next_back();
         let starts = matches!(before, Some(' ' | '('));
         if character.is_some() && starts && !beside {

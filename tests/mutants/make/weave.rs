@@ -44,7 +44,11 @@ impl Woven {
                 "Mutant {{ file: {file:?}, line: {line}, function: {function:?}, before: {before:?}, after: {after:?} }},\n"
             )
         });
-        format!("pub static MUTANTS: [Mutant; {}] = [\n{}];\n", self.rows.len(), rows.collect::<String>())
+        format!(
+            "pub static MUTANTS: [Mutant; {}] = [\n{}];\n",
+            self.rows.len(),
+            rows.collect::<String>()
+        )
     }
 }
 
@@ -58,7 +62,8 @@ fn switch(function: &Function, first: usize, count: usize) -> String {
     if count == 0 {
         return format!("{header} {{\ncrate::step();\n{body}\n}}\n");
     }
-    let arms = (first..first + count).map(|number| format!("{number} => {},\n", call(function, number)));
+    let arms =
+        (first..first + count).map(|number| format!("{number} => {},\n", call(function, number)));
     let arms: String = arms.collect();
     let itself = call(function, 0);
     format!("{header} {{\ncrate::step();\nmatch crate::mutant() {{\n{arms}_ => {itself},\n}}\n}}\n")
@@ -81,7 +86,8 @@ fn copies(function: &Function, first: usize, changes: &[Change]) -> String {
     }
     let itself = copy(function, 0, &function.body);
     let changed = changes.iter().enumerate();
-    let changed = changed.map(|(at, change)| copy(function, first + at, &change.of(&function.body)));
+    let changed =
+        changed.map(|(at, change)| copy(function, first + at, &change.of(&function.body)));
     itself + &changed.collect::<String>()
 }
 
@@ -92,13 +98,23 @@ fn copy(function: &Function, number: usize, body: &str) -> String {
 }
 
 /// What a mutant changes, shown by the whole lines.
-fn row(file: &str, function: &Function, change: &Change) -> (String, usize, String, String, String) {
+fn row(
+    file: &str,
+    function: &Function,
+    change: &Change,
+) -> (String, usize, String, String, String) {
     let body = &function.body;
     let start = body[..change.place.start].rfind('\n').map_or(0, |at| at + 1);
     let end = body[change.place.end..].find('\n').map_or(body.len(), |at| change.place.end + at);
     let line = function.body_line + body[..change.place.start].matches('\n').count() + 1;
     let after = [&body[start..change.place.start], &change.text, &body[change.place.end..end]];
-    (format!("{file}.rs"), line, function.name.clone(), one_line(&body[start..end]), one_line(&after.concat()))
+    (
+        format!("{file}.rs"),
+        line,
+        function.name.clone(),
+        one_line(&body[start..end]),
+        one_line(&after.concat()),
+    )
 }
 
 fn one_line(text: &str) -> String {

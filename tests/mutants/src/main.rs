@@ -5,7 +5,7 @@ use std::{collections::BTreeSet, panic, process::ExitCode, thread};
 use mutants::{
     MUTANTS,
     equivalent::{named, numbers},
-    stores::{Store, stores},
+    stores::{Store, differential, stores},
 };
 
 /// Enough for readings that nest without a limit.
@@ -17,14 +17,15 @@ fn main() -> ExitCode {
 }
 
 fn check() -> bool {
-    let stores = stores();
+    let (stores, corpus) = (stores(), differential());
     let equivalent: BTreeSet<usize> = numbers().into_iter().collect();
     panic::set_hook(Box::new(|_| {}));
     let mut counts = vec![0; stores.len()];
-    let (mut caught, mut left, mut wrong) = (0, 0, 0);
+    let (mut caught, mut left, mut wrong, mut shown) = (0, 0, 0, 0);
     for (number, mutant) in (1..).zip(&MUTANTS) {
         let by = caught_by(&stores, number, &mut counts);
         caught += usize::from(by.is_some());
+        shown += usize::from(corpus.catches(number).is_some());
         match by {
             None if !equivalent.contains(&number) => {
                 left += 1;
@@ -32,7 +33,11 @@ fn check() -> bool {
             },
             Some(source) if equivalent.contains(&number) => {
                 wrong += 1;
-                println!("not equivalent, by {:?}: {}", String::from_utf8_lossy(source), named(mutant));
+                println!(
+                    "not equivalent, by {:?}: {}",
+                    String::from_utf8_lossy(source),
+                    named(mutant)
+                );
             },
             _ => {},
         }
@@ -40,8 +45,11 @@ fn check() -> bool {
     for (store, count) in stores.iter().zip(&counts) {
         println!("{}: {} cases catch {count} mutants", store.name, store.len());
     }
+    println!("examples and places of the corpus: {} cases catch {shown} mutants", corpus.len());
     let (all, same) = (MUTANTS.len(), equivalent.len());
-    println!("{all} mutants: {caught} caught, {same} listed as equivalent, {left} left over, {wrong} listed wrongly");
+    println!(
+        "{all} mutants: {caught} caught, {same} listed as equivalent, {left} left over, {wrong} listed wrongly"
+    );
     left + wrong == 0
 }
 

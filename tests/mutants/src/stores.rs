@@ -2,6 +2,8 @@
 
 use std::{fs, path::PathBuf};
 
+use corpus::{Family, Size};
+
 use crate::{
     ITSELF,
     answer::{Answer, Reading, Rooms},
@@ -37,6 +39,17 @@ pub fn stores() -> Vec<Store> {
         Store::new("replay", false, framed("replay", 0)),
         Store::new("samples", false, samples.collect()),
     ]
+}
+
+/// What the differential runs have besides: the families of examples and of places.
+pub fn differential() -> Store {
+    let families = [Family::Examples, Family::Places];
+    let sources = corpus::cases(&families, Size::Ci).map(|case| case.source);
+    let cases = sources.map(|source| {
+        let rooms = Rooms::ample(source.len());
+        (source, rooms)
+    });
+    Store::new("corpus", false, cases.collect())
 }
 
 impl Store {

@@ -61,7 +61,8 @@ fn shrunk(mutant: usize, mut source: Vec<u8>) -> Vec<u8> {
         let shorter = (1..=source.len().min(12)).rev().find_map(|length| {
             (0..=source.len() - length).find_map(|start| {
                 let rest = [&source[..start], &source[start + length..]].concat();
-                (accepted(&rest) && reading(mutant, &rest) != reading(ITSELF, &rest)).then_some(rest)
+                (accepted(&rest) && reading(mutant, &rest) != reading(ITSELF, &rest))
+                    .then_some(rest)
             })
         });
         match shorter {
