@@ -4,6 +4,8 @@
 mod calls;
 #[path = "make/changes.rs"]
 mod changes;
+#[path = "make/classes.rs"]
+mod classes;
 #[path = "make/functions.rs"]
 mod functions;
 #[path = "make/kept.rs"]

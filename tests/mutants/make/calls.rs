@@ -60,20 +60,14 @@ pub fn closed(body: &str, start: usize) -> usize {
     panic!("no closing parenthesis in {body}");
 }
 
-/// The condition of an `if` or a `while`, up to its brace.
+/// The condition of an `if` or a `while`, up to its brace; `if let` and the guards of arms have none.
 fn condition(body: &str, start: usize) -> Vec<Change> {
-    let place = start..start + body[start..].find('{').unwrap_or(0);
-    let text = body[place.clone()].trim_end();
-    let place = place.start..place.start + text.len();
-    let statement = !text.is_empty()
-        && !text.starts_with("let ")
-        && !text.contains(['"', ';'])
-        && !text.contains("=>");
-    let quoted = text.matches('"').count() % 2 == 0 && text.contains("at_") && !text.contains("=>");
-    if !(statement || quoted && !text.starts_with("let ")) {
+    let end = body[start..].find('{').map_or(start, |found| start + found);
+    let text = body[start..end].trim_end();
+    if text.is_empty() || text.starts_with("let ") || text.contains([';']) || text.contains("=>") {
         return Vec::new();
     }
-    [format!("!({text})"), "true".into(), "false".into()]
-        .map(|answer| Change::new(place.clone(), answer))
-        .into()
+    let place = start..start + text.len();
+    let answers = [format!("!({text})"), "true".into(), "false".into()];
+    answers.map(|answer| Change::new(place.clone(), answer)).into()
 }

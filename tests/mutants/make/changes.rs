@@ -2,7 +2,7 @@
 
 use std::{collections::BTreeSet, ops::Range};
 
-use crate::{calls, functions::Function, kept::refused_line, lists, statements, texts};
+use crate::{calls, classes, functions::Function, kept::refused_line, lists, statements, texts};
 
 #[derive(Debug, Clone, PartialEq, Eq)]
 pub struct Change {
@@ -25,6 +25,7 @@ impl Change {
 pub fn all(function: &Function) -> Vec<Change> {
     let body = &function.body;
     let mut changes = exchanges(body);
+    changes.extend(classes::changes(body));
     changes.extend(lists::changes(body));
     changes.extend(texts::changes(body));
     changes.extend(calls::changes(body));
@@ -45,7 +46,7 @@ fn left_out(body: &str, at: usize) -> bool {
 }
 
 /// Spellings, and what each is exchanged for.
-const EXCHANGES: [(&str, &[&str]); 49] = [
+const EXCHANGES: [(&str, &[&str]); 44] = [
     ("&& ", &["|| "]),
     ("|| ", &["&& "]),
     (" == ", &[" != "]),
@@ -92,56 +93,6 @@ const EXCHANGES: [(&str, &[&str]); 49] = [
     ("error_here(", &["error_at_eof("]),
     ("error_at_eof(", &["error_here("]),
     ("at_bare_while()", &["at_keyword(\"while\")"]),
-    ("is_ascii_graphic()", &["is_ascii()"]),
-    (
-        "ch.is_ascii_graphic()",
-        &[
-            "matches!(ch, '\"'..='~')", "matches!(ch, ' '..='~')", "matches!(ch, '!'..='}')",
-            "matches!(ch, '!'..='\\x7F')",
-        ],
-    ),
-    (
-        "ch.is_ascii_alphanumeric()",
-        &[
-            "matches!(ch, 'b'..='z' | 'A'..='Z' | '0'..='9')",
-            "matches!(ch, 'a'..='y' | 'A'..='Z' | '0'..='9')",
-            "matches!(ch, '`'..='z' | 'A'..='Z' | '0'..='9')",
-            "matches!(ch, 'a'..='{' | 'A'..='Z' | '0'..='9')",
-            "matches!(ch, 'a'..='z' | 'B'..='Z' | '0'..='9')",
-            "matches!(ch, 'a'..='z' | 'A'..='Y' | '0'..='9')",
-            "matches!(ch, 'a'..='z' | '@'..='Z' | '0'..='9')",
-            "matches!(ch, 'a'..='z' | 'A'..='[' | '0'..='9')",
-            "matches!(ch, 'a'..='z' | 'A'..='Z' | '1'..='9')",
-            "matches!(ch, 'a'..='z' | 'A'..='Z' | '0'..='8')",
-            "matches!(ch, 'a'..='z' | 'A'..='Z' | '/'..='9')",
-            "matches!(ch, 'a'..='z' | 'A'..='Z' | '0'..=':')",
-            "ch.is_alphanumeric()",
-        ],
-    ),
-    (
-        "ch.is_ascii_hexdigit()",
-        &[
-            "matches!(ch, 'b'..='f' | 'A'..='F' | '0'..='9')",
-            "matches!(ch, 'a'..='e' | 'A'..='F' | '0'..='9')",
-            "matches!(ch, '`'..='f' | 'A'..='F' | '0'..='9')",
-            "matches!(ch, 'a'..='g' | 'A'..='F' | '0'..='9')",
-            "matches!(ch, 'a'..='f' | 'B'..='F' | '0'..='9')",
-            "matches!(ch, 'a'..='f' | 'A'..='E' | '0'..='9')",
-            "matches!(ch, 'a'..='f' | '@'..='F' | '0'..='9')",
-            "matches!(ch, 'a'..='f' | 'A'..='G' | '0'..='9')",
-            "matches!(ch, 'a'..='f' | 'A'..='F' | '1'..='9')",
-            "matches!(ch, 'a'..='f' | 'A'..='F' | '0'..='8')",
-            "matches!(ch, 'a'..='f' | 'A'..='F' | '/'..='9')",
-            "matches!(ch, 'a'..='f' | 'A'..='F' | '0'..=':')",
-        ],
-    ),
-    (
-        "ch.is_ascii_digit()",
-        &[
-            "matches!(ch, '1'..='9')", "matches!(ch, '0'..='8')", "matches!(ch, '/'..='9')",
-            "matches!(ch, '0'..=':')", "ch.is_numeric()",
-        ],
-    ),
     ("ch.len_utf8()", &["1"]),
 ];
 
@@ -149,13 +100,12 @@ fn exchanges(body: &str) -> Vec<Change> {
     let mut changes = Vec::new();
     for (from, to) in EXCHANGES {
         for (at, _) in body.match_indices(from) {
-            if inside_word(body, at, from)
-                || within_let(body, at, from)
-                || body[..at].ends_with('(') && from == "|| "
+            if !inside_word(body, at, from)
+                && !within_let(body, at, from)
+                && !closure(body, at, from)
             {
-                continue;
+                changes.extend(to.iter().map(|to| Change::new(at..at + from.len(), *to)));
             }
-            changes.extend(to.iter().map(|to| Change::new(at..at + from.len(), *to)));
         }
     }
     changes
@@ -172,4 +122,9 @@ fn inside_word(body: &str, at: usize, from: &str) -> bool {
 fn within_let(body: &str, at: usize, from: &str) -> bool {
     let statement = body[..at].rfind("if ").map_or("", |start| &body[start..at]);
     from == "&& " && statement.starts_with("if let ")
+}
+
+/// `||` starts a closure there.
+fn closure(body: &str, at: usize, from: &str) -> bool {
+    from == "|| " && body[..at].ends_with('(')
 }

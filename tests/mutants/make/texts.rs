@@ -22,7 +22,6 @@ const TERMINATORS: [&str; 3] = ["else", "end", "while"];
 pub fn changes(body: &str) -> Vec<Change> {
     let mut changes = strings(body);
     changes.extend(characters(body));
-    changes.extend(ranges(body));
     changes
 }
 
@@ -68,21 +67,6 @@ fn characters(body: &str) -> Vec<Change> {
         let starts = matches!(before, Some(' ' | '('));
         if character.is_some() && starts && !beside {
             changes.push(Change::new(start..start + length, NO_CHARACTER));
-        }
-    }
-    changes
-}
-
-/// A bound of a range moves by one, either way.
-fn ranges(body: &str) -> Vec<Change> {
-    let mut changes = Vec::new();
-    for (at, _) in body.match_indices("'..='") {
-        let (low, high) = (at - 1, at + "'..='".len());
-        for place in [low, high] {
-            let byte = body.as_bytes()[place];
-            for moved in [byte - 1, byte + 1] {
-                changes.push(Change::new(place..place + 1, char::from(moved)));
-            }
         }
     }
     changes

@@ -6,11 +6,14 @@ use crate::{
     kept::kept,
 };
 
-/// All mutants so far: file, line, function, what stood there, what stands there now.
+/// All mutants so far, each as an item of the table.
 #[derive(Default)]
 pub struct Woven {
-    rows: Vec<(String, usize, String, String, String)>,
+    rows: Vec<String>,
 }
+
+/// What is shown of a text.
+const LONGEST: usize = 60;
 
 impl Woven {
     /// The text with its mutants. Every function counts a step, so that a mutant can't run for ever.
@@ -37,18 +40,9 @@ impl Woven {
         out
     }
 
-    /// The rows as the items of an array.
     pub fn table(&self) -> String {
-        let rows = self.rows.iter().map(|(file, line, function, before, after)| {
-            format!(
-                "Mutant {{ file: {file:?}, line: {line}, function: {function:?}, before: {before:?}, after: {after:?} }},\n"
-            )
-        });
-        format!(
-            "pub static MUTANTS: [Mutant; {}] = [\n{}];\n",
-            self.rows.len(),
-            rows.collect::<String>()
-        )
+        let (count, rows) = (self.rows.len(), self.rows.concat());
+        format!("pub static MUTANTS: [Mutant; {count}] = [\n{rows}];\n")
     }
 }
 
@@ -97,26 +91,22 @@ fn copy(function: &Function, number: usize, body: &str) -> String {
     format!("{header} {{\n{body}\n}}\n")
 }
 
-/// What a mutant changes, shown by the whole lines.
-fn row(
-    file: &str,
-    function: &Function,
-    change: &Change,
-) -> (String, usize, String, String, String) {
-    let body = &function.body;
-    let start = body[..change.place.start].rfind('\n').map_or(0, |at| at + 1);
-    let end = body[change.place.end..].find('\n').map_or(body.len(), |at| change.place.end + at);
-    let line = function.body_line + body[..change.place.start].matches('\n').count() + 1;
-    let after = [&body[start..change.place.start], &change.text, &body[change.place.end..end]];
-    (
-        format!("{file}.rs"),
-        line,
-        function.name.clone(),
-        one_line(&body[start..end]),
-        one_line(&after.concat()),
-    )
+/// Where a mutant is, what stands there and what it puts there.
+fn row(file: &str, function: &Function, change: &Change) -> String {
+    let Change { place, text } = change;
+    let before = &function.body[..place.start];
+    let line = function.body_line + before.matches('\n').count() + 1;
+    let column = before.rsplit('\n').next().unwrap_or_default().chars().count() + 1;
+    let (from, to) = (shown(&function.body[place.clone()]), shown(text));
+    format!("Mutant {{ place: \"{file}.rs:{line}:{column}\", from: {from:?}, to: {to:?} }},\n")
 }
 
-fn one_line(text: &str) -> String {
-    text.split_whitespace().collect::<Vec<_>>().join(" ")
+/// On one line, the middle of a long text left out.
+fn shown(text: &str) -> String {
+    let line: Vec<char> = text.split_whitespace().collect::<Vec<_>>().join(" ").chars().collect();
+    if line.len() <= LONGEST {
+        return line.into_iter().collect();
+    }
+    let (start, end) = (&line[..LONGEST / 2], &line[line.len() - LONGEST / 2..]);
+    format!("{} … {}", String::from_iter(start), String::from_iter(end))
 }

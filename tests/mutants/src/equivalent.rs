@@ -8,8 +8,8 @@ const TABLE: &str = include_str!("../equivalent.txt");
 
 /// A mutant as the table names it.
 pub fn named(mutant: &Mutant) -> String {
-    let Mutant { file, line, before, after, .. } = mutant;
-    format!("{file}:{line} {before} => {after}")
+    let Mutant { place, from, to } = mutant;
+    format!("{place} `{from}` becomes `{to}`")
 }
 
 /// The numbers of the mutants in the table; stops at a line that names none.

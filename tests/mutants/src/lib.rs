@@ -36,12 +36,10 @@ pub mod stores;
 
 pub use run::{ITSELF, mutant, reading, step, tokens};
 
-/// One change of a line.
+/// One change: where (file, line and column), what stands there and what is put there.
 #[derive(Debug)]
 pub struct Mutant {
-    pub file: &'static str,
-    pub line: usize,
-    pub function: &'static str,
-    pub before: &'static str,
-    pub after: &'static str,
+    pub place: &'static str,
+    pub from: &'static str,
+    pub to: &'static str,
 }
