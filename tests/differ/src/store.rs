@@ -10,7 +10,7 @@ use crate::part::Part;
 const LONGEST: usize = 60;
 
 /// Longer examples show no more of the lexer.
-const LEXER_LONGEST: usize = 20;
+const LEXER_LONGEST: usize = 15;
 
 /// Writes the examples and `count` cases, spread evenly over the families and over each family.
 pub fn store(part: &Part, folder: &Path, count: usize) -> io::Result<()> {
