@@ -1,23 +1,6 @@
 //! Weaves the mutants into the upstream sources, which the reference's build has checked.
 
-#[path = "make/calls.rs"]
-mod calls;
-#[path = "make/changes.rs"]
-mod changes;
-#[path = "make/classes.rs"]
-mod classes;
-#[path = "make/functions.rs"]
-mod functions;
-#[path = "make/kept.rs"]
-mod kept;
-#[path = "make/lists.rs"]
-mod lists;
-#[path = "make/statements.rs"]
-mod statements;
-#[path = "make/texts.rs"]
-mod texts;
-#[path = "make/weave.rs"]
-mod weave;
+mod make;
 
 use std::{env, fs, path::PathBuf};
 
@@ -30,7 +13,7 @@ fn main() {
     let sources = env::var("MASM_CST_SRC").unwrap_or_else(|_| DEFAULT_SOURCES.to_string());
     let folder = package.join("../..").join(sources);
     let out = PathBuf::from(env::var("OUT_DIR").unwrap());
-    let mut woven = weave::Woven::default();
+    let mut woven = make::weave::Woven::default();
     for name in ["syntax", "lexer", "parser"] {
         let path = folder.join(format!("{name}.rs"));
         println!("cargo::rerun-if-changed={}", path.display());

@@ -1,6 +1,6 @@
 //! Tests: each condition and each call that answers yes or no is negated or made constant.
 
-use crate::changes::Change;
+use super::changes::Change;
 
 /// The starts of calls that answer yes or no.
 const TESTS: [&str; 22] = [

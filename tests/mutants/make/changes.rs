@@ -2,7 +2,7 @@
 
 use std::{collections::BTreeSet, ops::Range};
 
-use crate::{calls, classes, functions::Function, kept::refused_line, lists, statements, texts};
+use super::{calls, classes, functions::Function, kept::refused_line, lists, statements, texts};
 
 #[derive(Debug, Clone, PartialEq, Eq)]
 pub struct Change {

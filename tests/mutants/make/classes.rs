@@ -1,6 +1,6 @@
 //! Classes of characters: a bound of a range moves by one, and other characters are let in.
 
-use crate::changes::Change;
+use super::changes::Change;
 
 /// A test, the ranges that it stands for, and wider tests.
 const CLASSES: [(&str, &[(u8, u8)], &[&str]); 4] = [

@@ -1,6 +1,6 @@
 //! Kinds, words and variants: taken from a list, put into it, or exchanged.
 
-use crate::changes::Change;
+use super::changes::Change;
 
 /// The kinds that a token can have, in the order of `SyntaxKind`.
 const TOKENS: [&str; 34] = [

@@ -2,7 +2,7 @@
 
 use std::ops::Range;
 
-use crate::{changes::Change, functions::Function};
+use super::{changes::Change, functions::Function};
 
 /// What takes tokens.
 const TAKING: [&str; 4] = ["self.bump();", "self.parse_", "self.expect_k", "let _ = self.expect_k"];

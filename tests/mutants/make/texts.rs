@@ -1,6 +1,6 @@
 //! Words, messages and characters in quotes.
 
-use crate::{changes::Change, kept::refused_word};
+use super::{changes::Change, kept::refused_word};
 
 /// A word that no source has as an identifier, and a character that starts no token.
 const NO_WORD: &str = "?";

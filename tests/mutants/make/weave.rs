@@ -1,6 +1,6 @@
 //! Every mutant is a copy of its function; the function itself only says which copy runs.
 
-use crate::{
+use super::{
     changes::{self, Change},
     functions::{Function, functions},
     kept::kept,

@@ -1,6 +1,5 @@
 //! One-line mutants of the upstream sources, all in one program: which one runs is set before a reading.
 
-#![allow(clippy::all)]
 extern crate alloc;
 
 #[allow(warnings)]
@@ -43,3 +42,11 @@ pub struct Mutant {
     pub from: &'static str,
     pub to: &'static str,
 }
+
+// What the build makes the mutants with.
+#[cfg(test)]
+#[path = "../make/mod.rs"]
+#[allow(dead_code)]
+mod make;
+#[cfg(test)]
+mod tests;
