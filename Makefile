@@ -1,5 +1,5 @@
 # The front door. Each target is one command; `make test` is the gate.
-.PHONY: fold check test differ large calls fuzz growth speed store samples economy index
+.PHONY: fold check test differ large calls fuzz growth speed store samples mutants choose economy index
 
 # Build everything and show a sample script folded; FILE is another one.
 FILE ?= examples/wallet.masm
@@ -59,13 +59,22 @@ speed:
 
 # Writes the stored cases and answers that `rt ci` replays.
 store:
-	cd tests && cargo run --offline --release --bin differ lexer --store ../crates/tokens 400
-	cd tests && cargo run --offline --release --bin differ readings --store ../crates/readings 600
-	cd tests && cargo run --offline --release --bin differ trees --store ../crates/replay 500
+	cd tests && cargo run --offline --release --bin differ lexer --store ../crates/tokens 100
+	cd tests && cargo run --offline --release --bin differ readings --store ../crates/readings 200
+	cd tests && cargo run --offline --release --bin differ trees --store ../crates/replay 50
 
 # Writes the reference's answers that the grammar's definitions are held to.
 samples:
-	cd tests && cargo run --offline --release --bin samples 300 > ../crates/samples/specs/Samples.antt
+	cd tests && cargo run --offline --release --bin samples > ../crates/samples/specs/Samples.antt
+
+# One-line mutants of the Rust text against the stored answers: each is caught, or listed with the reason why it
+# reads everything the same (tests/mutants). `make choose` writes the sources that they choose anew.
+mutants:
+	cd tests && cargo run --offline --release -p mutants
+
+choose:
+	cd tests && cargo run --offline --release -p mutants --bin choose > ../target/chosen.rs
+	mv target/chosen.rs tests/corpus/src/chosen.rs
 
 # The table of lines and seconds in docs/PROOFS.md, from a log of the gate.
 LOG ?= gate.log

@@ -1,6 +1,6 @@
-//! Limits: nesting around 256, sources around 1,048,576 bytes, quotes at every ending.
+//! Limits: nesting around its limit, sources around 1,048,576 bytes, quotes at every ending.
 
-use reference::MAX_SOURCE;
+use reference::{MAX_CONTROL_FLOW_NESTING, MAX_SOURCE};
 
 /// Control forms: what opens one, what stands before its closer, its closer.
 pub const FORMS: [(&str, &str, &str); 6] = [
@@ -12,9 +12,10 @@ pub const FORMS: [(&str, &str, &str); 6] = [
     ("do ", "while ", "end "),
 ];
 
-/// The control forms nested 254 to 259 deep, closed and left open, in both owners.
+/// The control forms nested two less deep than allowed to three more, closed and left open, in both owners.
 pub fn depths() -> impl Iterator<Item = Vec<u8>> {
-    (254..=259).flat_map(|depth| [mixed(depth)].into_iter().chain(alike(depth)))
+    let around = MAX_CONTROL_FLOW_NESTING - 2..=MAX_CONTROL_FLOW_NESTING + 3;
+    around.flat_map(|depth| [mixed(depth)].into_iter().chain(alike(depth)))
 }
 
 /// All forms in turn, one in the other.
@@ -56,6 +57,13 @@ pub fn sizes() -> impl Iterator<Item = Vec<u8>> {
 pub fn tree_sizes() -> impl Iterator<Item = Vec<u8>> {
     let around = 2_047..=2_049;
     around.flat_map(|size| [" ", "@$", "proc a"].map(|piece| filled("", piece, size)))
+}
+
+/// The longest source that `tree` reads and the next, and one with more diagnostics than it has room for.
+pub fn tree_bounds() -> impl Iterator<Item = Vec<u8>> {
+    [(" ", 2_048), (" ", 2_049), ("@$", 2_048)]
+        .into_iter()
+        .map(|(piece, size)| filled("", piece, size))
 }
 
 /// `start`, then `piece` as often as it fits, then dots up to the size.

@@ -34,3 +34,22 @@ fn near(word: &'static str) -> impl Iterator<Item = Vec<u8>> {
     let words = [shorter, changed, capital, format!("{word}s"), format!("_{word}"), word.into()];
     words.into_iter().map(|word| format!("begin {word} a end").into_bytes())
 }
+
+/// On both sides of every bound of a class of characters.
+const BOUNDS: [&str; 38] = [
+    "\r", "\n", "\x0B", "\x0C", "\u{A0}", "²", "\t", " ", "!", "\"", "#", "$", "%", "/", "0", "1",
+    "2", "8", "9", ":", "@", "A", "F", "G", "Z", "[", "\\", "_", "`", "a", "f", "g", "z", "{", "}",
+    "~", "\x7F", "é",
+];
+
+/// What the class is asked of: the start of a token, and what goes on with one.
+const STARTS: [&str; 15] =
+    ["", "a", "Z", "_", "1", "0", "0x", "0X", "0b", "0B", "$", "$kernel", "\"", "#", " "];
+
+/// Each class at its bounds; the quotes also closed.
+pub fn bounds() -> impl Iterator<Item = Vec<u8>> {
+    let plain =
+        STARTS.iter().flat_map(|start| BOUNDS.iter().map(move |bound| [*start, bound].concat()));
+    let quoted = BOUNDS.iter().map(|bound| format!("\"{bound}\""));
+    plain.chain(quoted).map(String::into_bytes)
+}

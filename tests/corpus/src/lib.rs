@@ -1,14 +1,17 @@
 //! Cases for differential runs, the same at every run.
 
+pub mod chosen;
 pub mod damage;
 pub mod edges;
 pub mod examples;
 pub mod lexical;
 pub mod nested;
 pub mod pairs;
+pub mod places;
 pub mod publics;
 pub mod random;
 pub mod rooms;
+pub mod samples;
 pub mod script;
 pub mod sequences;
 pub mod shapes;
@@ -70,11 +73,13 @@ pub enum Family {
     Slices,
     /// Two files joined.
     Pairs,
+    /// Every spelling in every place, and every class of characters at its bounds.
+    Places,
 }
 
 impl Family {
     /// The families for the whole reader; the first ten are the lexer's.
-    pub const ALL: [Self; 15] = [
+    pub const ALL: [Self; 16] = [
         Self::Examples,
         Self::Spaced,
         Self::Joined,
@@ -90,6 +95,7 @@ impl Family {
         Self::Shapes,
         Self::Slices,
         Self::Pairs,
+        Self::Places,
     ];
     pub const LEXER: &'static [Self] = Self::ALL.split_at(10).0;
 
@@ -167,8 +173,9 @@ fn sources(family: Family, size: Size) -> Sources {
         Family::Publics => Box::new(publics::all(longer)),
         Family::Nested => Box::new(nested::all()),
         Family::Shapes => Box::new(shapes::all()),
-        Family::Slices => Box::new(examples::all().chain(sampled(200, any_source))),
+        Family::Slices => Box::new(examples::documented().chain(sampled(200, any_source))),
         Family::Pairs => sampled(PAIRS, pairs::joined),
+        Family::Places => Box::new(places::all().chain(lexical::bounds())),
     }
 }
 

@@ -1,11 +1,13 @@
 //! Control forms left open in front of a boundary: each open block meets it in turn.
 
+use reference::MAX_CONTROL_FLOW_NESTING as LIMIT;
+
 use crate::edges::FORMS;
 
 const OWNERS: [&str; 2] = ["begin ", "proc a\n"];
 
 /// Few forms, and around the limit.
-const DEPTHS: [usize; 8] = [0, 1, 2, 3, 255, 256, 257, 258];
+const DEPTHS: [usize; 8] = [0, 1, 2, 3, LIMIT - 1, LIMIT, LIMIT + 1, LIMIT + 2];
 
 /// What stands behind the open forms.
 const BEHIND: [&str; 18] = [

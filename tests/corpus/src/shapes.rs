@@ -1,5 +1,7 @@
 //! Sources of one shape and any length, for differential runs, growth and times.
 
+use reference::MAX_CONTROL_FLOW_NESTING;
+
 use crate::{random::Random, script};
 
 /// A text that repeats one piece.
@@ -12,9 +14,6 @@ pub struct Shape {
     piece: &'static str,
     tail: &'static str,
 }
-
-/// The greatest nesting that is accepted.
-const DEEPEST: usize = 256;
 
 /// On the first four the upstream parser's time is quadratic.
 pub const SHAPES: [Shape; 31] = [
@@ -66,7 +65,7 @@ const fn deep(
     piece: &'static str,
     tail: &'static str,
 ) -> Shape {
-    Shape { name, deep: DEEPEST, head, piece, tail }
+    Shape { name, deep: MAX_CONTROL_FLOW_NESTING, head, piece, tail }
 }
 
 impl Shape {
