@@ -5,12 +5,13 @@ use reference::parsed::tokens;
 use crate::spellings::SPELLINGS;
 
 /// A place is marked by `%`.
-const PLACES: [&str; 99] = [
-    "const A = % proc a end", "begin\n#!d\n% proc", "begin a.1%", "@a((%))", "namespace::%",
-    "begin do %", "begin a(\n%)b end", "%", "% a", "%a", "a\n%", "begin a % b end",
-    "begin a% b end", "begin a %b end", "begin a%b end", "begin a\n% b end", "begin a\n%",
-    "begin % b end", "begin %", "begin a.%", "begin a. % b end", "begin a.%b end",
-    "begin a(% b) end", "begin a( % b end", "begin a(%", "begin a % % b end", "begin a(b) % c end",
+const PLACES: [&str; 101] = [
+    "begin while. % end end", "begin repeat. % end end", "const A = % proc a end",
+    "begin\n#!d\n% proc", "begin a.1%", "@a((%))", "namespace::%", "begin do %",
+    "begin a(\n%)b end", "%", "% a", "%a", "a\n%", "begin a % b end", "begin a% b end",
+    "begin a %b end", "begin a%b end", "begin a\n% b end", "begin a\n%", "begin % b end",
+    "begin %", "begin a.%", "begin a. % b end", "begin a.%b end", "begin a(% b) end",
+    "begin a( % b end", "begin a(%", "begin a % % b end", "begin a(b) % c end",
     "begin a #c\n% b end", "begin\n#!d\n%", "begin\n#!d\n% a end", "begin if % end end",
     "begin if% end end", "begin if.% end end", "begin if. % end end", "begin if.a% end end",
     "begin if.a % end end", "begin if.a\n% end end", "begin if.a else % end end",

@@ -24,23 +24,21 @@ const FAMILIES: [Family; 10] = [
     Family::Pairs,
 ];
 
-/// The examples, and sources at equal distances in the corpus; a source stands once.
+/// The accepted examples, and sources at equal distances in the corpus; a source stands once.
 pub fn sources() -> impl Iterator<Item = Vec<u8>> {
     let spread = spread_over(&FAMILIES, SPREAD, wanted).map(|case| case.source);
     let mut seen = BTreeSet::new();
-    let examples = examples::all().filter(|source| plain(source));
+    let examples = examples::all().filter(|source| accepted(source).is_some());
     examples.chain(spread).filter(move |source| seen.insert(source.clone()))
 }
 
+/// Accepted, short and easy to read.
 fn wanted(case: &Case) -> bool {
-    case.source.len() <= LONGEST && plain(&case.source)
+    let plain = |character: char| character.is_ascii() || "é€😀".contains(character);
+    let readable = |text: &str| text.len() <= LONGEST && text.chars().all(plain);
+    accepted(&case.source).is_some_and(readable)
 }
 
-/// Accepted and easy to read.
-fn plain(source: &[u8]) -> bool {
-    let Ok(text) = answer::text(source) else { return false };
-    let plain = |character: char| {
-        matches!(character, ' '..='~' | '\n' | '\r' | '\t') || "é€😀".contains(character)
-    };
-    text.chars().all(plain) && unwanted(text).is_none()
+fn accepted(source: &[u8]) -> Option<&str> {
+    answer::text(source).ok().filter(|text| unwanted(text).is_none())
 }

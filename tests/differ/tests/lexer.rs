@@ -56,5 +56,5 @@ fn a_missing_program_is_caught() {
 
 #[test]
 fn stored_cases_replay() {
-    LEXER.replays(500);
+    LEXER.replays(200);
 }

@@ -1,4 +1,4 @@
-//! Statements: each is left out, and trivia is skipped behind each that takes tokens.
+//! Statements: each is left out; each that takes tokens is made twice, and trivia is skipped behind it.
 
 use std::ops::Range;
 
@@ -27,10 +27,18 @@ pub fn changes(function: &Function) -> Vec<Change> {
         Change::new(place.clone(), if arm { "()," } else { "" })
     });
     let mut changes: Vec<Change> = left_out.collect();
+    let taking = |place: &Range<usize>| is_one_of(&function.body[place.clone()], &TAKING);
+    // A line's tail is taken once: no second one stands behind it.
+    let twice = places
+        .iter()
+        .filter(|place| taking(place) && !function.body[(*place).clone()].contains("line_tail"));
+    changes.extend(twice.map(|place| {
+        Change::new(place.end..place.end, format!(" {}", &function.body[place.clone()]))
+    }));
     if function.name.starts_with("parse") && !LOOPS.contains(&function.name.as_str()) {
-        let taking =
-            places.into_iter().filter(|place| is_one_of(&function.body[place.clone()], &TAKING));
-        changes.extend(taking.flat_map(|place| skips(&function.body, place)));
+        changes.extend(
+            places.into_iter().filter(taking).flat_map(|place| skips(&function.body, place)),
+        );
     }
     changes
 }
@@ -49,6 +57,9 @@ fn skips(body: &str, place: Range<usize>) -> Vec<Change> {
     let mut changes = Vec::new();
     if !regular {
         changes.push(skip("bump_regular_trivia"));
+    }
+    if !regular && !next.starts_with("self.bump_non_comment_trivia") {
+        changes.push(skip("bump_non_comment_trivia"));
     }
     if !inline {
         changes.push(skip("bump_inline_whitespace"));

@@ -33,7 +33,7 @@ pub mod pool;
 mod run;
 pub mod stores;
 
-pub use run::{ITSELF, mutant, reading, step, tokens};
+pub use run::{ITSELF, mutant, on_large_stack, reading, step, tokens};
 
 /// One change: where (file, line and column), what stands there and what is put there.
 #[derive(Debug)]

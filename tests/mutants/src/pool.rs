@@ -8,9 +8,9 @@ use crate::{ITSELF, answer::Reading, reading};
 const LONGEST: usize = 60;
 
 pub fn pool() -> Vec<Vec<u8>> {
-    let systematic = corpus::lexical::bounds().chain(corpus::places::all());
-    let all = corpus::examples::all().chain(systematic).filter(|source| source.len() <= LONGEST);
-    let once: BTreeSet<Vec<u8>> = all.filter(|source| accepted(source)).collect();
+    let all = corpus::lexical::bounds().chain(corpus::places::all());
+    let short = all.filter(|source| source.len() <= LONGEST);
+    let once: BTreeSet<Vec<u8>> = short.filter(|source| accepted(source)).collect();
     let mut pool: Vec<Vec<u8>> = once.into_iter().collect();
     pool.sort_by_key(Vec::len);
     pool

@@ -1,6 +1,6 @@
 //! A reading by one mutant, with a bound on its steps.
 
-use std::{cell::Cell, panic};
+use std::{cell::Cell, panic, thread};
 
 use crate::{
     answer::{self, Reading},
@@ -48,4 +48,22 @@ fn run<T>(mutant: usize, source: &[u8], work: impl FnOnce() -> T + panic::Unwind
     MUTANT.set(mutant);
     STEPS.set(bound(source.len()));
     panic::catch_unwind(work).ok()
+}
+
+/// Enough for readings that nest without a limit.
+const STACK: usize = 1 << 29;
+
+/// Does work on a large stack, and prints no panic of a mutant.
+pub fn on_large_stack<T: Send + 'static>(work: impl FnOnce() -> T + Send + 'static) -> T {
+    let quiet = || {
+        let shown = panic::take_hook();
+        panic::set_hook(Box::new(move |panic| {
+            if mutant() == ITSELF {
+                shown(panic);
+            }
+        }));
+        work()
+    };
+    let run = thread::Builder::new().stack_size(STACK).spawn(quiet).expect("a thread starts");
+    run.join().expect("the work ends")
 }

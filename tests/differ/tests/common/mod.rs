@@ -3,6 +3,7 @@
 use std::{
     env,
     fs::{self, File},
+    path::Path,
     process::{Command, Output},
 };
 
@@ -41,21 +42,30 @@ impl Imitated {
         assert!(text.contains(sign), "fault {fault} shows no `{sign}`:\n{text}");
     }
 
-    /// Cases are stored, and the imitation replays them.
+    /// Cases are stored beside the examples, and the imitation replays them.
     pub fn replays(&self, count: usize) {
         let name = format!("differ-store-{}-{}", self.part, std::process::id());
         let folder = env::temp_dir().join(name);
-        let stored = Command::new(DIFFER)
-            .args([self.part, "--store", folder.to_str().unwrap(), &count.to_string()])
-            .output()
-            .unwrap();
-        let printed = String::from_utf8_lossy(&stored.stdout).into_owned();
-        assert_eq!(last_line(&printed), format!("{}: {count} cases stored", self.part));
+        let examples = self.stores(&folder, 0);
+        assert!(examples > 0);
+        assert_eq!(self.stores(&folder, count), examples + count);
 
         let frames = File::open(folder.join("stdin")).unwrap();
         let answers = Command::new(self.program).stdin(frames).output().unwrap().stdout;
         assert_eq!(answers, fs::read(folder.join("stdout")).unwrap());
         fs::remove_dir_all(&folder).unwrap();
+    }
+
+    /// Stores the examples and so many cases; how many it says that there are.
+    fn stores(&self, folder: &Path, count: usize) -> usize {
+        let stored = Command::new(DIFFER)
+            .args([self.part, "--store", folder.to_str().unwrap(), &count.to_string()])
+            .output()
+            .unwrap();
+        let printed = String::from_utf8_lossy(&stored.stdout).into_owned();
+        let number =
+            last_line(&printed).strip_prefix(self.part).unwrap().strip_suffix(" cases stored");
+        number.unwrap().strip_prefix(": ").unwrap().parse().unwrap()
     }
 }
 

@@ -1,10 +1,10 @@
 //! Writes tests/corpus/src/chosen.rs: sources of the pool, as few and short as a greedy choice finds, that
 //! with the other examples tell every mutant that any source of the pool tells.
 
-use std::{collections::BTreeSet, panic, thread};
+use std::collections::BTreeSet;
 
 use corpus::examples;
-use mutants::{ITSELF, MUTANTS, pool::pool, reading};
+use mutants::{ITSELF, MUTANTS, on_large_stack, pool::pool, reading};
 
 const HEADER: &str = "\
 //! Sources chosen by the mutants of the reference: each tells one that the other examples do not.
@@ -15,10 +15,8 @@ const HEADER: &str = "\
 pub const CHOSEN: &[&str] = &[";
 
 fn main() {
-    let run = thread::Builder::new().stack_size(1 << 29).spawn(choose);
-    let chosen = run.expect("a thread starts").join().expect("the choice ends");
     println!("{HEADER}");
-    for source in chosen {
+    for source in on_large_stack(choose) {
         println!("    {:?},", String::from_utf8(source).expect("accepted sources are text"));
     }
     println!("];");
@@ -29,7 +27,6 @@ fn choose() -> Vec<Vec<u8>> {
     let given: Vec<Vec<u8>> =
         examples::documented().chain(examples::neighbours()).chain(examples::deepest()).collect();
     let pool = pool();
-    panic::set_hook(Box::new(|_| {}));
     let told = told_by(&given, (1..=MUTANTS.len()).collect());
     let told: BTreeSet<usize> = told.into_iter().flatten().collect();
     let left = (1..=MUTANTS.len()).filter(|mutant| !told.contains(mutant)).collect();

@@ -1,27 +1,27 @@
-//! Searches short sources for the mutants that no source of the pool tells from the sources as they are.
+//! Searches short sources for the mutants that neither examples nor the pool tell from the sources as they are.
 //!
 //! Takes the number of sources to try for each. What it finds it shrinks and prints, to be added to the
 //! corpus's examples.
 
-use std::{env, panic, thread};
+use std::env;
 
-use corpus::{damage::damaged, random::Random, sequences};
+use corpus::{damage::damaged, examples, random::Random, sequences};
 use mutants::{
     ITSELF, MUTANTS,
     equivalent::named,
+    on_large_stack,
     pool::{accepted, pool},
     reading,
 };
 
 fn main() {
     let tries = env::args().nth(1).and_then(|count| count.parse().ok()).expect("how many tries");
-    let run = thread::Builder::new().stack_size(1 << 29).spawn(move || search(tries));
-    run.expect("a thread starts").join().expect("the search ends");
+    on_large_stack(move || search(tries));
 }
 
 fn search(tries: usize) {
-    let pool = pool();
-    panic::set_hook(Box::new(|_| {}));
+    let pool: Vec<Vec<u8>> =
+        examples::all().filter(|source| accepted(source)).chain(pool()).collect();
     let tried: Vec<Vec<u8>> = {
         let mut random = Random::new(5);
         (0..tries).map(|_| sample(&mut random, &pool)).filter(|source| accepted(source)).collect()
