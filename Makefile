@@ -77,7 +77,7 @@ choose:
 	mv target/chosen.rs tests/corpus/src/chosen.rs
 
 # The table of lines and seconds in docs/PROOFS.md, from a log of the gate.
-LOG ?= gate.log
+LOG ?= target/ci.log
 economy:
 	tests/economy/run $(LOG)
 
