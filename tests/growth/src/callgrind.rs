@@ -7,10 +7,14 @@ use std::{
     io,
     path::Path,
     process::{Command, Stdio, id},
+    sync::atomic::{AtomicUsize, Ordering},
 };
 
 /// The program's slices may stand on its stack.
 const STACK: &str = "--main-stacksize=536870912";
+
+/// Each run has files of its own.
+static RUNS: AtomicUsize = AtomicUsize::new(0);
 
 pub struct Valgrind<'a> {
     pub program: &'a Path,
@@ -33,8 +37,9 @@ pub fn is_there() -> bool {
 
 impl Valgrind<'_> {
     pub fn run(&self, frame: &[u8]) -> Result<Run, String> {
+        let number = RUNS.fetch_add(1, Ordering::Relaxed);
         let [input, profile] = ["frame", "callgrind"]
-            .map(|name| env::temp_dir().join(format!("growth-{}.{name}", id())));
+            .map(|name| env::temp_dir().join(format!("growth-{}-{number}.{name}", id())));
         let run = self.run_with(frame, &input, &profile);
         for file in [input, profile] {
             let _ = fs::remove_file(file);

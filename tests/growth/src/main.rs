@@ -17,6 +17,9 @@ const USAGE: &str =
 /// A greater ratio shows that the time is not linear.
 const GREATEST: f64 = 2.1;
 
+/// How many families are measured at a time.
+const TOGETHER: usize = 2;
+
 struct Options {
     program: String,
     /// The n.
@@ -79,11 +82,14 @@ fn run(options: &Options) -> Result<usize, String> {
     let table = Table { markdown: options.markdown, greatest: GREATEST };
     table.print_head(sizes);
     let (mut all, mut fast) = (0, 0);
-    for (name, make) in families().filter(|(name, _)| name.contains(&options.only)) {
-        let row = measure.row(name, sizes.map(make))?;
-        table.print(&row);
-        all += 1;
-        fast += usize::from(row.ratio() > GREATEST);
+    let chosen: Vec<_> = families().filter(|(name, _)| name.contains(&options.only)).collect();
+    for families in chosen.chunks(TOGETHER) {
+        for row in measure.rows(families) {
+            let row = row?;
+            table.print(&row);
+            all += 1;
+            fast += usize::from(row.ratio() > GREATEST);
+        }
     }
     println!("growth: {all} families, {fast} above {GREATEST}");
     Ok(fast)

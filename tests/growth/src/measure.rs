@@ -1,5 +1,7 @@
 //! The instructions that a source's answer takes, without the frame's fixed part.
 
+use std::thread;
+
 use corpus::{random::Random, script::script, shapes::SHAPES};
 
 use crate::callgrind::Valgrind;
@@ -26,10 +28,13 @@ pub struct Row {
     pub net: [i64; 2],
 }
 
-type Make = Box<dyn Fn(usize) -> Vec<u8>>;
+/// A family's source of a size.
+type Make = Box<dyn Fn(usize) -> Vec<u8> + Sync>;
 
-/// Each family's name, and its source of a size.
-pub fn families() -> impl Iterator<Item = (&'static str, Make)> {
+/// A family's name, and its sources.
+pub type Family = (&'static str, Make);
+
+pub fn families() -> impl Iterator<Item = Family> {
     let scripts: Make = Box::new(scripts);
     let shapes = SHAPES.iter().map(|shape| {
         let make: Make = Box::new(|size| shape.sized(size));
@@ -57,7 +62,18 @@ impl<'a> Measure<'a> {
         Ok(measure)
     }
 
-    pub fn row(&self, name: &'static str, sources: [Vec<u8>; 2]) -> Result<Row, String> {
+    /// The rows of these families, measured side by side.
+    pub fn rows(&self, families: &[Family]) -> Vec<Result<Row, String>> {
+        thread::scope(|scope| {
+            let measured: Vec<_> = families
+                .iter()
+                .map(|(name, make)| scope.spawn(move || self.row(name, self.sizes.map(make))))
+                .collect();
+            measured.into_iter().map(|row| row.join().expect("a row is measured")).collect()
+        })
+    }
+
+    fn row(&self, name: &'static str, sources: [Vec<u8>; 2]) -> Result<Row, String> {
         let mut row = Row { name, bytes: sources[1].len(), tokens: 0, net: [0; 2] };
         for (at, source) in sources.iter().enumerate() {
             let run = self.valgrind.run(&frame(source, self.sizes[at]))?;
