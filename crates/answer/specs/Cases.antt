@@ -1,11 +1,11 @@
 -- Three calls, on A, on B and on the join, as one case; demand 3's premises one by one; and what computes.
 -- Assumes nothing.
-use Prim.Native.Nat.{ℕ, zero, suc, _+_, _≤_}
+use Prim.Native.Nat.{ℕ, _+_, _≤_}
 use mathlib.Core.Path.{_≡_, refl}
 use mathlib.Core.Bool.{true, false}
 use mathlib.Core.List.{List, [], _∷_, _++_}
 use lib.Dec.{eqb}
-use lib.ListN.{length}
+use lib.ListN.{length, replicate}
 use Rattle.utf8.specs.Table
 use Rattle.utf8.specs.Validate
 use Rattle.lexer.specs.Syntax.{Newline, RParen}
@@ -31,8 +31,7 @@ abbrev pub lent : ℕ → ℕ → ℕ → Lent
 lent tokens events diagnostics = record { tokens = tokens; events = events; diagnostics = diagnostics; words = 3 }
 
 abbrev pub zeros : ℕ → List ℕ
-zeros zero = []
-zeros (suc n) = 0 ∷ zeros n
+zeros n = replicate n 0
 
 abbrev pub lent-slices : Lent → Slices
 lent-slices l =

@@ -6,7 +6,7 @@ use mathlib.Core.Path.{_≡_, refl, ap, _∙_}
 use mathlib.Core.Bool.{false}
 use mathlib.Core.List.{List, [], _∷_, _++_}
 use native.Mathlib.Omega.{arith}
-use lib.ListN.{length, take}
+use lib.ListN.{length, take, replicate, length-replicate}
 use Rattle.utf8.specs.declared.Utf8.the-variants.{Valid}
 use Rattle.utf8.specs.Validate.{from}
 use Rattle.lexer.specs.Syntax.{Whitespace, RParen}
@@ -23,14 +23,12 @@ use Rattle.answer.specs.Given.{T, E, D, Given}
 use Rattle.answer.specs.Accepts.{accepted, Gave, gives}
 use Rattle.answer.specs.Cases.{Lent, lent, zeros, lent-slices, made, called, within-limit, Needed}
 
-pub spaces : ℕ → List ℕ
-spaces zero = []
-spaces (suc n) = 32 ∷ spaces n
+unfoldable pub spaces : ℕ → List ℕ
+spaces n = replicate n 32
 
 many : (n : ℕ) → length (spaces n) ≡ n
 unfolding spaces
-many zero = refl
-many (suc n) = ap suc (many n)
+many n = length-replicate n 32
 
 well : (m n : ℕ) → from 0 m (spaces n) ≡ Valid
 unfolding spaces made
