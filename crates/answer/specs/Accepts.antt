@@ -12,7 +12,7 @@ use Rattle.utf8.specs.declared.Utf8.{Utf8}
 use Rattle.utf8.specs.declared.Utf8.the-variants.{Valid, At}
 use Rattle.utf8.specs.Validate.{validate}
 use Rattle.lexer.specs.Lexer.{tokenize}
-use Rattle.lexer.specs.Over.{fit-first}
+use Rattle.room.specs.Over.{fit-first}
 use Rattle.lexer.specs.Tokens.{kindOf, token-kinds, token-ends}
 use Rattle.lexer.specs.Laws.{length-ends}
 use Rattle.marks.specs.declared.Refusal.{Refusal}

@@ -9,7 +9,7 @@ use Rattle.utf8.specs.declared.Utf8.{Utf8}
 use Rattle.utf8.specs.declared.Utf8.the-variants.{Valid, At}
 use Rattle.utf8.specs.Validate.{validate}
 use Rattle.lexer.specs.Lexer.{tokenize}
-use Rattle.lexer.specs.Over.{fit}
+use Rattle.room.specs.Over.{fit}
 use Rattle.lexer.specs.Tokens.{token-kinds, token-ends}
 use Rattle.grammar.specs.Out.{Place}
 use Rattle.grammar.specs.Source.{source-events, source-places}

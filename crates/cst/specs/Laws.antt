@@ -8,7 +8,7 @@ use lib.ListN.{length, take, drop, length-map}
 use lib.Seq.{take-at, drop-at}
 use Rattle.utf8.specs.Width.{width}
 use Rattle.utf8.specs.Last.{last-from, last-char}
-use Rattle.lexer.specs.Over.{over, fit, nil-over, cons-over}
+use Rattle.room.specs.Over.{over, fit, nil-over, cons-over}
 use Rattle.lexer.specs.Tokens.{token-ends}
 use Rattle.grammar.specs.Words.{kindOf}
 use Rattle.grammar.specs.Out.{Diag, diags}

@@ -3,7 +3,7 @@ use Prim.Native.Nat.{ℕ}
 use mathlib.Core.Path.{_≡_}
 use mathlib.Core.List.{List, map}
 use lib.ListN.{length}
-use Rattle.lexer.specs.Over.{over}
+use Rattle.room.specs.Over.{over}
 use Rattle.lexer.specs.Tokens.{token-kinds}
 use Rattle.cst.specs.declared.grow.Counts.{Counts}
 use Rattle.answer.specs.declared.Answer.{Answer}

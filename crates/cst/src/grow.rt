@@ -1,6 +1,6 @@
 // From the tokens to events and diagnostics.
 use answer::Answer;
-use lexer::least;
+use room::least;
 use marks::Refusal;
 ghost use mathlib.Core.Path.{_≡_};
 ghost use Prim.Native.Nat.{_≤_};

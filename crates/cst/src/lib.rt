@@ -30,7 +30,7 @@ fn parse_valid(
     let read = marks::tokenize(source, kinds, ends);
     let t = read.count;
     let refusal = read.refusal;
-    let room = lexer::least(kinds.len(), ends.len());
+    let room = room::least(kinds.len(), ends.len());
     if room < t {
         marks::unmark(&mut kinds[..room]);
         return Answer::TokenRoom(t);

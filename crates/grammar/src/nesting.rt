@@ -10,9 +10,9 @@ pub enum Closer {
 }
 
 pub struct Nesting {
-    pub parens: u32,
-    pub brackets: u32,
-    pub braces: u32,
+    pub parens: usize,
+    pub brackets: usize,
+    pub braces: usize,
 }
 
 // New counts, or the closer that has no opener.
@@ -58,7 +58,7 @@ impl Nesting {
     }
 
     pub fn open_paren(self) -> Nesting
-        requires { ⌜ self .parens < 2 ^ 31 ⌝ }
+        requires { ⌜ self .parens < 2 ^ 63 ⌝ }
         ensures { λ r. ⌜ r ≡ open-paren self ⌝ }
     {
         Nesting {
@@ -69,7 +69,7 @@ impl Nesting {
     }
 
     pub fn open_bracket(self) -> Nesting
-        requires { ⌜ self .brackets < 2 ^ 31 ⌝ }
+        requires { ⌜ self .brackets < 2 ^ 63 ⌝ }
         ensures { λ r. ⌜ r ≡ open-bracket self ⌝ }
     {
         Nesting {
@@ -80,7 +80,7 @@ impl Nesting {
     }
 
     pub fn open_brace(self) -> Nesting
-        requires { ⌜ self .braces < 2 ^ 31 ⌝ }
+        requires { ⌜ self .braces < 2 ^ 63 ⌝ }
         ensures { λ r. ⌜ r ≡ open-brace self ⌝ }
     {
         Nesting {
@@ -134,7 +134,7 @@ impl Nesting {
 
     // What a token of this kind does to the counts.
     pub fn bump(self, kind: u16) -> Bumped
-        requires { ⌜ Below (2 ^ 31) self ⌝ }
+        requires { ⌜ Below (2 ^ 63) self ⌝ }
         ensures { λ r. ⌜ r ≡ bump-by self kind ⌝ }
     {
         if L_PAREN == kind {

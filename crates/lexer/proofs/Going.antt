@@ -7,7 +7,7 @@ use native.Mathlib.Omega.{arith}
 use lib.ListN.{length, getD, take, drop, set, length-set}
 use Rattle.lexer.specs.declared.lexer.Token.{Token as Placed}
 use Rattle.lexer.specs.Lexer.{Token, next, tokenize}
-use Rattle.lexer.specs.Over.{over, given-back}
+use Rattle.room.specs.Over.{over, given-back}
 use Rattle.lexer.specs.Tokens.{ends, token-ends, room, Lexed, Written}
 use Rattle.lexer.specs.Laws.{token}
 use Rattle.lexer.specs.Code.{placed}

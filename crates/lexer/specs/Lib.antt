@@ -2,7 +2,6 @@
 pub mod Syntax
 pub mod Chars
 pub mod Lexer
-pub mod Over
 pub mod Tokens
 pub mod Code
 pub mod Good

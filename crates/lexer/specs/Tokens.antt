@@ -4,7 +4,7 @@ use mathlib.Core.Path.{_≡_}
 use mathlib.Core.List.{List, [], _∷_, map}
 use Prim.Native.Nat.{ℕ, _+_, min}
 use lib.ListN.{length}
-use Rattle.lexer.specs.Over.{over, fit}
+use Rattle.room.specs.Over.{over, fit}
 use Rattle.lexer.specs.Lexer.{Token, tokenize}
 
 abbrev pub kindOf : Token → ℕ

@@ -25,8 +25,9 @@ use crate::syntax::SLASH;
 use crate::syntax::SLASH_SLASH;
 use crate::syntax::SPECIAL_IDENT;
 use crate::syntax::WHITESPACE;
+use room::least;
 ghost use mathlib.Core.Path.{_≡_};
-ghost use Prim.Native.Nat.{_+_, _≤_, _<_, min};
+ghost use Prim.Native.Nat.{_+_, _≤_, _<_};
 ghost use lib.ListN.{length, getD, drop, set};
 ghost use Rattle.lexer.specs.Syntax.{Ident};
 ghost use Rattle.lexer.specs.Chars.{class-table, holds, word};
@@ -234,13 +235,6 @@ fn tokens(source: &[u8], kinds: &mut [u16], ends: &mut [u32]) -> usize
         at = end;
     }
     n
-}
-
-// The room in two slices is the shorter length.
-pub fn least(a: usize, b: usize) -> usize
-    ensures { λ r. ⌜ r ≡ min a b ⌝ }
-{
-    if a <= b { a } else { b }
 }
 
 // The tokens of a source, written while there is room in both slices, and counted on.

@@ -8,7 +8,6 @@ pub mod syntax;
 
 pub use class::classes;
 pub use lexer::Token;
-pub use lexer::least;
 pub use lexer::next;
 pub use lexer::put;
 pub use lexer::tokenize;

@@ -98,7 +98,7 @@ pub fn tokenize(source: &[u8], kinds: &mut [u16], ends: &mut [u32]) -> Read
     requires { ⌜ length (now source) ≤ 1048576 ⌝ }
     ensures { λ r. ⌜ Marked (now (source .entry)) (now (kinds .entry)) (now (ends .entry)) r (now (kinds .exit)) (now (ends .exit)) ⌝ }
 {
-    let room = lexer::least(kinds.len(), ends.len());
+    let room = room::least(kinds.len(), ends.len());
     tokens(source, &mut kinds[..room], &mut ends[..room])
 }
 

@@ -17,7 +17,7 @@ use Rattle.grammar.specs.declared.nesting.Nesting.{Nesting}
 use Rattle.grammar.specs.declared.nesting.Bumped.{Bumped}
 use Rattle.grammar.specs.Nesting.{default, counted, bump-nesting, bump-by, Below, open-paren, open-bracket, open-brace, close-paren, close-bracket, close-brace}
 use Rattle.parser.specs.declared.cursor.Cursor.{Cursor}
-use Rattle.parser.specs.Rep.{World, world, Went, WentTo, Said}
+use Rattle.parser.specs.Rep.{World, world, Ran, RanTo, Said}
 use Rattle.parser.specs.Counts.{reported, counts, Counted}
 use Rattle.parser.proofs.Kit.{scan-go-eq, scan-warn-eq, like-to, done, _then-to_}
 
@@ -72,13 +72,13 @@ module _ {L : Type 0} (step : L → List Sym → Round L) where
   module _ {F : File} {ev dm ds dm′ ds′ : List ℕ} {c c′ : Cursor} {n n′ : Nesting} {k : Sym} where
     -- `locals` makes the loop's locals of the counts
     pub scan-counted : (locals : Nesting → L) (l : L) {l′ : L} {v w′ : World} {a : L} → k ≡ Look.current (from F (c .pos)) → Look.eof (from F (c .pos)) ≡ false
-        → step l (from F (c .pos)) ≡ bump-nesting n (Look.current (from F (c .pos))) locals → Counted n k dm ds c dm′ ds′ c′ n′ → Went F take (world ev dm′ ds′ c′) v
-        → locals n′ ≡ l′ → WentTo F (scan step l′) v w′ a → WentTo F (scan step l) (world ev dm ds c) w′ a
+        → step l (from F (c .pos)) ≡ bump-nesting n (Look.current (from F (c .pos))) locals → Counted n k dm ds c dm′ ds′ c′ n′ → Ran F take (world ev dm′ ds′ c′) v
+        → locals n′ ≡ l′ → RanTo F (scan step l′) v w′ a → RanTo F (scan step l) (world ev dm ds c) w′ a
     unfolding bump-nesting
     scan-counted locals l {v} {w′} {a} q z e m t i h =
         let x = bump-by n k in
         like-to (reported x >> take >> scan step (locals (counts n x))) (counted-eq n locals x l _ z (e ∙ ap (λ j. counted n locals (bump-by n j)) (sym q)))
-        (m .went F ev then-to t then-to subst (λ j. WentTo F (scan step j) v w′ a) (sym i ∙ ap locals (m .is)) h)
+        (m .ran F ev then-to t then-to subst (λ j. RanTo F (scan step j) v w′ a) (sym i ∙ ap locals (m .is)) h)
 
 -- ---- bump_nesting
 module _ {n : Nesting} {k : Sym} {dm ds : List ℕ} {c : Cursor} (x : Bumped) (b : x ≡ bump-by n k) where
@@ -87,12 +87,10 @@ module _ {n : Nesting} {k : Sym} {dm ds : List ℕ} {c : Cursor} (x : Bumped) (b
   counted-go {m} e =
       let q = sym b ∙ e in
       record {
-        went = λ F ev. subst (λ x. Went F (reported x) (world ev dm ds c) (world ev dm ds c)) (sym q) (done true);
+        ran = λ F ev. subst (λ x. Ran F (reported x) (world ev dm ds c) (world ev dm ds c)) (sym q) (done true);
         is = sym (ap (counts n) q);
         below = λ i h. subst (Below (i + 1)) (ap (counts n) q) (bump-below i n h k);
         pos = refl;
-        events = refl;
-        diags = omega arith;
       }
 
   pub counted-refused : {y : Closer} {dm′ ds′ : List ℕ} {c′ : Cursor} → x ≡ Bumped.Refused y → Said (number (Message.UnexpectedCloser y)) dm ds c dm′ ds′ c′
@@ -101,10 +99,8 @@ module _ {n : Nesting} {k : Sym} {dm ds : List ℕ} {c : Cursor} (x : Bumped) (b
   counted-refused {dm′} {ds′} {c′} e s =
       let q = sym b ∙ e in
       record {
-        went = λ F ev. subst (λ x. Went F (reported x) (world ev dm ds c) (world ev dm′ ds′ c′)) (sym q) (s .went F ev);
+        ran = λ F ev. subst (λ x. Ran F (reported x) (world ev dm ds c) (world ev dm′ ds′ c′)) (sym q) (s .ran F ev);
         is = sym (ap (counts n) q);
         below = λ i h. subst (Below (i + 1)) (ap (counts n) q) (bump-below i n h k);
         pos = s .pos;
-        events = s .events;
-        diags = omega (arith, s .diags);
       }

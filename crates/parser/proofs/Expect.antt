@@ -8,7 +8,7 @@ use Rattle.grammar.specs.Run.{take}
 use Rattle.grammar.specs.Bump.{expect-kind}
 use Rattle.grammar.specs.Laws.Here.{expect-here}
 use Rattle.grammar.specs.declared.message.Message.{Message}
-use Rattle.parser.specs.Rep.{World, Went, WentTo}
+use Rattle.parser.specs.Rep.{World, Ran, RanTo}
 use Rattle.parser.proofs.Kit.{like}
 
 -- at its kind, expect_kind takes the token
@@ -23,8 +23,8 @@ take-says k [] e = absurd (false≢true e)
 take-says k (s ∷ r) e = refl
 
 module _ {F : File} {w w′ : World} (k : Sym) (m : Message) (t : regular-trivia k ≡ false) (e : at (is k) (from F (w .c .pos)) ≡ true) where
-  pub expected : Went F take w w′ → WentTo F (expect-kind k m) w w′ true
-  expected h = record { went = like take (expect-take k m t _ e) h; val = ap (λ x. x .val) (expect-take k m t _ e) ∙ take-says k _ e }
+  pub expected : Ran F take w w′ → RanTo F (expect-kind k m) w w′ true
+  expected h = record { ran = like take (expect-take k m t _ e) h; val = ap (λ x. x .val) (expect-take k m t _ e) ∙ take-says k _ e }
 
-  pub take-expected : Went F (expect-kind k m) w w′ → Went F take w w′
+  pub take-expected : Ran F (expect-kind k m) w w′ → Ran F take w w′
   take-expected = like (expect-kind k m) (sym (expect-take k m t _ e))

@@ -1,16 +1,16 @@
 -- One event, one diagnostic, one token more: what they do to what stands for a state; and what is read of the tokens.
 -- Assumes nothing.
 use mathlib.Core.Bool.{Bool, true, false, false≢true}
-use mathlib.Core.List.{List, [], _∷_, _++_, append-nil}
+use mathlib.Core.List.{List, [], _∷_, _++_, append-nil, map, map-append}
 use mathlib.Core.Path.{_≡_, refl, sym, ap, ap₂, subst, _∙_}
-use Prim.Native.Nat.{ℕ, zero, suc, _+_, _-_, _≤_, _<_, min}
-use native.Mathlib.Nat.{le-of-suc-le-suc, not-suc-le-zero}
+use Prim.Native.Nat.{ℕ, _+_, _-_, _≤_, _<_, _^_}
 use native.Mathlib.Numerals.{add-one}
 use native.Mathlib.Omega.{arith}
 use lib.Dec.{leb, eqb}
-use lib.ListN.{length, getD, set, drop, length-append, length-drop, drop-of-length-le}
+use lib.ListN.{length, getD, set, drop, length-append, length-drop, length-map, length-set, drop-of-length-le}
 use lib.Seq.{drop-cons}
 use borrow.Author.Tests.{leb-true, leb-false, ne-eqb}
+use Rattle.room.specs.Over.{over, over-append}
 use Rattle.lexer.specs.Syntax
 use Rattle.grammar.specs.Words.{Sym, is}
 use Rattle.grammar.specs.Words.{File, from}
@@ -25,128 +25,68 @@ use Rattle.grammar.specs.Message.{number}
 use Rattle.grammar.specs.Out.{kind, Diag}
 use Rattle.grammar.specs.State.{State, run, write, report}
 use Rattle.grammar.specs.Laws.Code.{run-err}
-use Rattle.parser.specs.Rep.{onto, Base, World, world, room, Rep, Wrote, Went}
+use Rattle.parser.specs.Rep.{World, world, Rep, Small, Onward, Wrote, Ran}
+use Rattle.parser.proofs.Kit.{stays, _farther_, small-written}
 
 abbrev unrecognized : ℕ
 unrecognized = number Message.UnrecognizedToken
 
-module _ {A : Type 0} (f : A → ℕ) where
-  pub length-onto : (r : ℕ) (base : List ℕ) (xs : List A) → length (onto f r base xs) ≡ length base
-  unfolding onto
-  length-onto zero base xs = refl
-  length-onto (suc r) [] xs = refl
-  length-onto (suc r) (b ∷ base) [] = refl
-  length-onto (suc r) (b ∷ base) (x ∷ xs) = ap suc (length-onto r base xs)
-
-  onto-in : (r : ℕ) (base : List ℕ) (xs : List A) (x : A) → length xs < r → onto f r base (xs ++ x ∷ []) ≡ set (onto f r base xs) (length xs) (f x)
-  unfolding onto
-  onto-in zero base xs x h = absurd (not-suc-le-zero h)
-  onto-in (suc r) [] [] x h = refl
-  onto-in (suc r) [] (y ∷ xs) x h = refl
-  onto-in (suc zero) (b ∷ base) [] x h = refl
-  onto-in (suc (suc r)) (b ∷ []) [] x h = refl
-  onto-in (suc (suc r)) (b ∷ c ∷ base) [] x h = refl
-  onto-in (suc r) (b ∷ base) (y ∷ xs) x h = ap (λ l. f y ∷ l) (onto-in r base xs x (le-of-suc-le-suc h))
-
-  onto-out : (r : ℕ) (base : List ℕ) (xs : List A) (x : A) → r ≤ length xs → onto f r base (xs ++ x ∷ []) ≡ onto f r base xs
-  unfolding onto
-  onto-out zero base xs x h = refl
-  onto-out (suc r) [] xs x h = refl
-  onto-out (suc r) (b ∷ base) [] x h = absurd (not-suc-le-zero h)
-  onto-out (suc r) (b ∷ base) (y ∷ xs) x h = ap (λ l. f y ∷ l) (onto-out r base xs x (le-of-suc-le-suc h))
-
 length-snoc : {A : Type 0} (xs : List A) (x : A) → length (xs ++ x ∷ []) ≡ length xs + 1
 length-snoc xs x = length-append xs (x ∷ [])
 
--- ---- one event more
-abbrev put-cursor : Cursor → Cursor
-put-cursor c = record { pos = c .pos; events = c .events + 1; diags = c .diags }
+-- one number more, where those before it have come to
+over-one : (l vs : List ℕ) (n v : ℕ) → length vs ≡ n → over l 0 (vs ++ v ∷ []) ≡ set (over l 0 vs) n v
+over-one l vs n v e = over-append l 0 vs (v ∷ []) ∙ ap (λ k. set (over l 0 vs) k v) (omega (arith, e))
 
-module _ {F : File} {ev dm ds : List ℕ} {c : Cursor} (v : ℕ) where
-  ev-room : {b : Base} {s : State} → Rep F b (world ev dm ds c) s → length ev ≡ length (b .ev)
-  ev-room {b} {s} r = ap length (r .ev) ∙ length-onto (λ x. x) (length (b .ev)) (b .ev) (s .evs)
-
-  pub put-in : c .events < length ev → Wrote F v (world ev dm ds c) (world (set ev (c .events) v) dm ds (put-cursor c))
-  put-in h = record {
-    sim = λ b s r. record {
-      rest = r .rest;
-      pos = r .pos;
-      events = length-snoc (s .evs) v ∙ ap (λ n. n + 1) (r .events);
-      diags = r .diags;
-      ev = sym (onto-in (λ x. x) (length (b .ev)) (b .ev) (s .evs) v (omega (arith, r .events, ev-room r))
-          ∙ ap₂ (λ (l : List ℕ) (n : ℕ). set l n v) (sym (r .ev)) (r .events));
-      dm = r .dm;
-      ds = r .ds;
-    };
-    pos = refl;
-  }
-
-  pub put-out : length ev ≤ c .events → Wrote F v (world ev dm ds c) (world ev dm ds (put-cursor c))
-  put-out h = record {
-    sim = λ b s r. record {
-      rest = r .rest;
-      pos = r .pos;
-      events = length-snoc (s .evs) v ∙ ap (λ n. n + 1) (r .events);
-      diags = r .diags;
-      ev = sym (onto-out (λ x. x) (length (b .ev)) (b .ev) (s .evs) v (omega (arith, r .events, ev-room r)) ∙ sym (r .ev));
-      dm = r .dm;
-      ds = r .ds;
-    };
-    pos = refl;
-  }
-
--- ---- one diagnostic more
-abbrev say-cursor : Cursor → Cursor
-say-cursor c = record { pos = c .pos; events = c .events; diags = c .diags + 1 }
-
-module _ {F : File} {ev dm ds : List ℕ} {c : Cursor} {b : Base} {s : State} (m : ℕ) (r : Rep F b (world ev dm ds c) s) where
-  dm-room : length dm ≡ length (b .dm)
-  dm-room = ap length (r .dm) ∙ length-onto (λ d. d .msg) (room b) (b .dm) (s .dgs)
-
-  ds-room : length ds ≡ length (b .ds)
-  ds-room = ap length (r .ds) ∙ length-onto (λ d. d .pos) (room b) (b .ds) (s .dgs)
-
-  abbrev new : Diag
-  new = record { msg = m; pos = s .pos }
-
-  report-in : (x : ℕ) → x ≡ c .pos → c .diags < length dm → c .diags < length ds → Rep F b (world ev (set dm (c .diags) m) (set ds (c .diags) x) (say-cursor c)) (report m s)
-  report-in x e h h′ =
-      let i : length (s .dgs) < room b = omega (arith, r .diags, dm-room, ds-room) in
-      record {
-        rest = r .rest;
-        pos = r .pos;
-        events = r .events;
-        diags = length-snoc (s .dgs) new ∙ ap (λ n. n + 1) (r .diags);
-        ev = r .ev;
-        dm = sym (onto-in (λ d. d .msg) (room b) (b .dm) (s .dgs) new i ∙ ap₂ (λ (l : List ℕ) (n : ℕ). set l n m) (sym (r .dm)) (r .diags));
-        ds = sym (onto-in (λ d. d .pos) (room b) (b .ds) (s .dgs) new i
-            ∙ ap₂ (λ (l : List ℕ) (n : ℕ). set l n (s .pos)) (sym (r .ds)) (r .diags) ∙ ap (λ n. set ds (c .diags) n) (r .pos ∙ sym e));
-      }
-
-  report-out : min (length dm) (length ds) ≤ c .diags → Rep F b (world ev dm ds (say-cursor c)) (report m s)
-  report-out h =
-      let i : room b ≤ length (s .dgs) = omega (arith, r .diags, dm-room, ds-room) in
-      record {
-        rest = r .rest;
-        pos = r .pos;
-        events = r .events;
-        diags = length-snoc (s .dgs) new ∙ ap (λ n. n + 1) (r .diags);
-        ev = r .ev;
-        dm = sym (onto-out (λ d. d .msg) (room b) (b .dm) (s .dgs) new i ∙ sym (r .dm));
-        ds = sym (onto-out (λ d. d .pos) (room b) (b .ds) (s .dgs) new i ∙ sym (r .ds));
-      }
+-- the same of what is written for each of a list
+over-map : {A : Type 0} (f : A → ℕ) (l : List ℕ) (xs : List A) (n : ℕ) (x : A) {l′ : List ℕ} → length xs ≡ n → l′ ≡ over l 0 (map f xs)
+    → set l′ n (f x) ≡ over l 0 (map f (xs ++ x ∷ []))
+over-map f l xs n x e q = rw (q, map-append f xs (x ∷ [])) (sym (over-one l (map f xs) n (f x) (length-map xs f ∙ e)))
 
 err-rest : (m : ℕ) (r : List Sym) → Run.err m r .rest ≡ r
 unfolding Run.err
 err-rest m r = refl
 
-module _ {F : File} {ev dm ds : List ℕ} {c : Cursor} (m : ℕ) where
-  pub say-in : (x : ℕ) → x ≡ c .pos → c .diags < length dm → c .diags < length ds
-      → Went F (Run.err m) (world ev dm ds c) (world ev (set dm (c .diags) m) (set ds (c .diags) x) (say-cursor c))
-  say-in x e h h′ = record { sim = λ b s r. subst (Rep F b _) (sym (run-err m s)) (report-in m r x e h h′); rest = err-rest m _ }
+-- ---- one event more, one diagnostic more: the code's count is right where it fits
+module _ {F : File} {ev dm ds : List ℕ} {c c′ : Cursor} where
+  pub put-event : (v : ℕ) {ev′ : List ℕ} → ev′ ≡ set ev (c .events) v → c′ .pos ≡ c .pos → (c .events + 1 < 2 ^ 64 → c′ .events ≡ c .events + 1)
+      → c′ .diags ≡ c .diags → Wrote F v (world ev dm ds c) (world ev′ dm ds c′)
+  put-event v l p n d = record {
+    sim = λ b s r z.
+        let fits : c .events + 1 < 2 ^ 64 = omega (arith, z .events, length-snoc (s .evs) v, r .events) in
+        record {
+          rest = r .rest ∙ ap (from F) (sym p);
+          pos = r .pos ∙ sym p;
+          events = length-snoc (s .evs) v ∙ ap (λ n. n + 1) (r .events) ∙ sym (n fits);
+          diags = r .diags ∙ sym d;
+          ev = l ∙ ap (λ (l : List ℕ). set l (c .events) v) (r .ev) ∙ sym (over-one (b .ev) (s .evs) (c .events) v (r .events));
+          dm = r .dm;
+          ds = r .ds;
+        };
+    pos = p;
+    onward = record { ahead = omega (arith, p); ev = ap length l ∙ length-set ev (c .events) v; dm = refl; ds = refl };
+  }
 
-  pub say-out : min (length dm) (length ds) ≤ c .diags → Went F (Run.err m) (world ev dm ds c) (world ev dm ds (say-cursor c))
-  say-out h = record { sim = λ b s r. subst (Rep F b _) (sym (run-err m s)) (report-out m r h); rest = err-rest m _ }
+  pub say-here : (m : ℕ) {x : ℕ} {dm′ ds′ : List ℕ} → dm′ ≡ set dm (c .diags) m → ds′ ≡ set ds (c .diags) x → (c .pos < 2 ^ 32 → x ≡ c .pos) → c′ .pos ≡ c .pos
+      → c′ .events ≡ c .events → (c .diags + 1 < 2 ^ 64 → c′ .diags ≡ c .diags + 1) → Ran F (Run.err m) (world ev dm ds c) (world ev dm′ ds′ c′)
+  say-here m {x} l l′ i p e n = record {
+    sim = λ b s r z.
+        let z₁ : Small (report m s) = subst Small (run-err m s) z in
+        let new : Diag = record { msg = m; pos = s .pos } in
+        let fits : c .diags + 1 < 2 ^ 64 = omega (arith, z₁ .diags, length-snoc (s .dgs) new, r .diags) in
+        let at : x ≡ s .pos = i (omega (arith, z₁ .pos, r .pos)) ∙ sym (r .pos) in
+        subst (Rep F b _) (sym (run-err m s)) (record {
+          rest = r .rest ∙ ap (from F) (sym p);
+          pos = r .pos ∙ sym p;
+          events = r .events ∙ sym e;
+          diags = length-snoc (s .dgs) new ∙ ap (λ n. n + 1) (r .diags) ∙ sym (n fits);
+          ev = r .ev;
+          dm = l ∙ over-map (λ d. d .msg) (b .dm) (s .dgs) (c .diags) new (r .diags) (r .dm);
+          ds = l′ ∙ ap (set ds (c .diags)) at ∙ over-map (λ d. d .pos) (b .ds) (s .dgs) (c .diags) new (r .diags) (r .ds);
+        });
+    rest = err-rest m _ ∙ ap (from F) (sym p);
+    onward = record { ahead = omega (arith, p); ev = refl; dm = ap length l ∙ length-set dm (c .diags) m; ds = ap length l′ ∙ length-set ds (c .diags) x };
+  }
 
 -- ---- the tokens from a place on
 module _ (F : File) where
@@ -201,30 +141,47 @@ take-cons : (r : List Sym) (x : Sym) (l : List Sym) → r ≡ x ∷ l → take r
 unfolding take
 take-cons r x l e = ap (λ l. take l .rest) e
 
-pub take-end : {F : File} {w : World} → length F ≤ w .c .pos → Went F take w w
-take-end {F} {w} h = record { sim = λ b s r. subst (Rep F b w) (sym (run-end s (r .rest ∙ rest-nil F (w .c .pos) h))) r; rest = take-nil _ (rest-nil F (w .c .pos) h) }
+pub take-end : {F : File} {w : World} → length F ≤ w .c .pos → Ran F take w w
+take-end {F} {w} h = record {
+  sim = λ b s r z. subst (Rep F b w) (sym (run-end s (r .rest ∙ rest-nil F (w .c .pos) h))) r;
+  rest = take-nil _ (rest-nil F (w .c .pos) h);
+  onward = stays;
+}
 
-step-on : {F : File} {b : Base} (w : World) {w′ : World} {s : State} → s .pos ≡ w .c .pos → Rep F b w′ s → Rep F b (past w w′) (one-on (from F (w .c .pos + 1)) s)
+step-on : {F : File} {b : World} (w : World) {w′ : World} {s : State} → s .pos ≡ w .c .pos → Rep F b w′ s → Rep F b (past w w′) (one-on (from F (w .c .pos + 1)) s)
 step-on w e z = record { rest = refl; pos = ap (λ i. i + 1) e; events = z .events; diags = z .diags; ev = z .ev; dm = z .dm; ds = z .ds }
 
 head : {F : File} {w : World} (x : Sym) → w .c .pos < length F → getD F (w .c .pos) 0 ≡ x
-    → {b : Base} {s : State} → Rep F b w s → s .rest ≡ x ∷ from F (w .c .pos + 1)
+    → {b : World} {s : State} → Rep F b w s → s .rest ≡ x ∷ from F (w .c .pos + 1)
 head {F} {w} x h e r = r .rest ∙ rest-cons F (w .c .pos) h ∙ ap (λ (y : Sym). y ∷ from F (w .c .pos + 1)) e
 
+-- the cursor one token on
+on-past : {w w′ : World} → Onward w w′ → Onward w (past w w′)
+on-past o = record { ahead = omega arith; ev = o .ev; dm = o .dm; ds = o .ds }
+
+small-here : {l : List Sym} {s : State} → Small (one-on l s) → Small s
+small-here z = record { pos = omega (arith, z .pos); events = z .events; diags = z .diags }
+
 module _ {F : File} {w w′ : World} (x : Sym) (h : w .c .pos < length F) (e : getD F (w .c .pos) 0 ≡ x) where
-  take-plain : is Syntax.Error x ≡ false → Wrote F (kind x) w w′ → Went F take w (past w w′)
+  take-plain : is Syntax.Error x ≡ false → Wrote F (kind x) w w′ → Ran F take w (past w w′)
   take-plain n p = record {
-    sim = λ b s r.
-        subst (Rep F b (past w w′)) (sym (run-plain x (from F (w .c .pos + 1)) s (head {F = F} {w = w} x h e r) n)) (step-on w (r .pos) (p .sim b s r));
+    sim = λ b s r z.
+        let q = run-plain x (from F (w .c .pos + 1)) s (head {F = F} {w = w} x h e r) n in
+        subst (Rep F b (past w w′)) (sym q) (step-on w (r .pos) (p .sim b s r (small-here (subst Small q z))));
     rest = take-cons _ _ _ (rest-cons F (w .c .pos) h);
+    onward = on-past (p .onward);
   }
 
-  take-bad : {v : World} → is Syntax.Error x ≡ true → Went F (Run.err unrecognized) w v → Wrote F (kind x) v w′ → Went F take w (past w w′)
+  take-bad : {v : World} → is Syntax.Error x ≡ true → Ran F (Run.err unrecognized) w v → Wrote F (kind x) v w′ → Ran F take w (past w w′)
   take-bad n m p = record {
-    sim = λ b s r.
-        subst (Rep F b (past w w′)) (sym (run-bad x (from F (w .c .pos + 1)) s (head {F = F} {w = w} x h e r) n))
-        (step-on w (r .pos) (p .sim b (report unrecognized s) (subst (Rep F b _) (run-err unrecognized s) (m .sim b s r))));
+    sim = λ b s r z.
+        let q = run-bad x (from F (w .c .pos + 1)) s (head {F = F} {w = w} x h e r) n in
+        let z₁ = small-here (subst Small q z) in
+        let z₂ = subst Small (sym (run-err unrecognized s)) (small-written (kind x) _ z₁) in
+        subst (Rep F b (past w w′)) (sym q)
+        (step-on w (r .pos) (p .sim b (report unrecognized s) (subst (Rep F b _) (run-err unrecognized s) (m .sim b s r z₂)) z₁));
     rest = take-cons _ _ _ (rest-cons F (w .c .pos) h);
+    onward = on-past (m .onward farther p .onward);
   }
 
 -- a test that holds is made at a token
@@ -242,12 +199,12 @@ module _ (F : File) (p : ℕ) {x : Bool} where
 
 -- ---- bump
 module _ {F : File} {w w′ : World} where
-  pub bump-bad : {v : World} → w .c .pos < length F → getD F (w .c .pos) 0 ≡ 1 → Went F (Run.err unrecognized) w v → Wrote F 60 v w′ → Went F take w (past w w′)
+  pub bump-bad : {v : World} → w .c .pos < length F → getD F (w .c .pos) 0 ≡ 1 → Ran F (Run.err unrecognized) w v → Wrote F 60 v w′ → Ran F take w (past w w′)
   bump-bad {v} h e m p =
       let s = getD F (w .c .pos) 0 in
       take-bad s h refl (ap (λ n. eqb 1 n) e) m (subst (λ n. Wrote F n v w′) (sym (ap kind e)) p)
 
-  pub bump-plain : (e : ℕ) → w .c .pos < length F → (getD F (w .c .pos) 0 ≡ 1 → ⊥) → e ≡ kind (getD F (w .c .pos) 0) → Wrote F e w w′ → Went F take w (past w w′)
+  pub bump-plain : (e : ℕ) → w .c .pos < length F → (getD F (w .c .pos) 0 ≡ 1 → ⊥) → e ≡ kind (getD F (w .c .pos) 0) → Wrote F e w w′ → Ran F take w (past w w′)
   bump-plain e h n ee p = take-plain (getD F (w .c .pos) 0) h refl (ne-eqb 1 _ (λ z. n (sym z))) (subst (λ n. Wrote F n w w′) ee p)
 
 -- ---- what is left says where the cursor is
@@ -255,7 +212,7 @@ module _ (F : File) where
   pub left : (p : ℕ) → length (from F p) ≡ length F - p
   left p = length-drop p F
 
-pub past-here : {A : Type 0} {F : File} {f : P A} {w w′ : World} → Went F f w w′ → length (f (from F (w .c .pos)) .rest) < length (from F (w .c .pos)) → w .c .pos < w′ .c .pos
+pub past-here : {A : Type 0} {F : File} {f : P A} {w w′ : World} → Ran F f w w′ → length (f (from F (w .c .pos)) .rest) < length (from F (w .c .pos)) → w .c .pos < w′ .c .pos
 past-here {F} {w} {w′} h e = omega (arith, e, ap length (h .rest), left F (w .c .pos), left F (w′ .c .pos))
 
 -- ---- lookahead

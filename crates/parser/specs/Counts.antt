@@ -2,7 +2,7 @@
 use mathlib.Core.Path.{_≡_}
 use mathlib.Core.Bool.{Bool}
 use mathlib.Core.List.{List}
-use Prim.Native.Nat.{ℕ, _+_, _≤_}
+use Prim.Native.Nat.{ℕ, _+_}
 use Rattle.grammar.specs.Words.{Sym, File}
 use Rattle.grammar.specs.Run.{P}
 use Rattle.grammar.specs.declared.message.Message.{Message}
@@ -11,7 +11,7 @@ use Rattle.grammar.specs.declared.nesting.Bumped.{Bumped}
 use Rattle.grammar.specs.Bump.{error-here, nop}
 use Rattle.grammar.specs.Nesting.{bump-by, Below}
 use Rattle.parser.specs.declared.cursor.Cursor.{Cursor}
-use Rattle.parser.specs.Rep.{world, Went}
+use Rattle.parser.specs.Rep.{world, Ran}
 
 unfoldable pub reported : Bumped → P Bool
 reported (Bumped.Counts n) = nop
@@ -23,9 +23,7 @@ counts n (Bumped.Refused c) = n
 
 -- the contract: a token of kind k makes of n the counts n′
 pub record Counted (n : Nesting) (k : Sym) (dm ds : List ℕ) (c : Cursor) (dm′ ds′ : List ℕ) (c′ : Cursor) (n′ : Nesting) : Type 0 where
-  pub went : (F : File) (ev : List ℕ) → Went F (reported (bump-by n k)) (world ev dm ds c) (world ev dm′ ds′ c′)
+  pub ran : (F : File) (ev : List ℕ) → Ran F (reported (bump-by n k)) (world ev dm ds c) (world ev dm′ ds′ c′)
   pub is : n′ ≡ counts n (bump-by n k)
   pub below : (b : ℕ) → Below b n → Below (b + 1) n′
   pub pos : c′ .pos ≡ c .pos
-  pub events : c′ .events ≡ c .events
-  pub diags : c′ .diags ≤ c .diags + 1

@@ -24,11 +24,11 @@ ghost use Rattle.grammar.specs.Look.{at, regular-trivia, non-comment-trivia};
 ghost use Rattle.grammar.specs.Run.{if_then_else_, take};
 ghost use Rattle.grammar.specs.Bump.{nop, bump-while, expect-kind, expect-name, error-token};
 ghost use Rattle.parser.specs.Sets.{trivia-to};
-ghost use Rattle.parser.specs.Rep.{world, Ready, Ran, RanTo, TookAll};
+ghost use Rattle.parser.specs.Rep.{entry, exit, Ran, RanTo, TookAll};
 
 // while the token is trivia up to `last` { bump }. Each such kind is its own event, and `current` past the last token, 0, is none.
 fn bump_while(kinds: &[u16], ev: &mut [u16], c0: Cursor, last: u16) -> Cursor
-    requires { ⌜ (Ready 0 (now kinds) c0) × (last < 256) ⌝ }
+    requires { ⌜ last < 256 ⌝ }
     ensures { λ r. ⌜ TookAll (now (kinds .entry)) (bump-while (trivia-to last)) (now (ev .entry)) c0 (now (ev .exit)) r ⌝ }
 {
     let mut c = c0;
@@ -46,8 +46,7 @@ pub fn bump_regular_trivia(
     ds: &mut [u32],
     c0: Cursor,
 ) -> Cursor
-    requires { ⌜ Ready 0 (now kinds) c0 ⌝ }
-    ensures { λ r. ⌜ Ran 1 0 0 (now (kinds .entry)) (bump-while regular-trivia) (world (now (ev .entry)) (now (dm .entry)) (now (ds .entry)) c0) (world (now (ev .exit)) (now (dm .exit)) (now (ds .exit)) r) ⌝ }
+    ensures { λ r. ⌜ Ran (now (kinds .entry)) (bump-while regular-trivia) (entry ev dm ds c0) (exit ev dm ds r) ⌝ }
 {
     bump_while(kinds, ev, c0, REGULAR_TRIVIA)
 }
@@ -59,8 +58,7 @@ pub fn bump_non_comment_trivia(
     ds: &mut [u32],
     c0: Cursor,
 ) -> Cursor
-    requires { ⌜ Ready 0 (now kinds) c0 ⌝ }
-    ensures { λ r. ⌜ Ran 1 0 0 (now (kinds .entry)) (bump-while non-comment-trivia) (world (now (ev .entry)) (now (dm .entry)) (now (ds .entry)) c0) (world (now (ev .exit)) (now (dm .exit)) (now (ds .exit)) r) ⌝ }
+    ensures { λ r. ⌜ Ran (now (kinds .entry)) (bump-while non-comment-trivia) (entry ev dm ds c0) (exit ev dm ds r) ⌝ }
 {
     bump_while(kinds, ev, c0, NON_COMMENT_TRIVIA)
 }
@@ -72,8 +70,7 @@ pub fn bump_inline_whitespace(
     ds: &mut [u32],
     c0: Cursor,
 ) -> Cursor
-    requires { ⌜ Ready 0 (now kinds) c0 ⌝ }
-    ensures { λ r. ⌜ Ran 1 0 0 (now (kinds .entry)) (bump-while (is Whitespace)) (world (now (ev .entry)) (now (dm .entry)) (now (ds .entry)) c0) (world (now (ev .exit)) (now (dm .exit)) (now (ds .exit)) r) ⌝ }
+    ensures { λ r. ⌜ Ran (now (kinds .entry)) (bump-while (is Whitespace)) (entry ev dm ds c0) (exit ev dm ds r) ⌝ }
 {
     bump_while(kinds, ev, c0, SPACE)
 }
@@ -95,8 +92,7 @@ fn expect_behind(
     k: u16,
     m: Message,
 ) -> Flow
-    requires { ⌜ Ready 1 (now kinds) c0 ⌝ }
-    ensures { λ r. ⌜ RanTo 1 0 1 (now (kinds .entry)) (expect-kind k m) (world (now (ev .entry)) (now (dm .entry)) (now (ds .entry)) c0) (world (now (ev .exit)) (now (dm .exit)) (now (ds .exit)) (r .c)) (r .ok) ⌝ }
+    ensures { λ r. ⌜ RanTo (now (kinds .entry)) (expect-kind k m) (entry ev dm ds c0) (exit ev dm ds (r .c)) (r .ok) ⌝ }
 {
     let c = bump_regular_trivia(kinds, ev, dm, ds, c0);
     if at_kind(kinds, c.pos, k) {
@@ -117,8 +113,7 @@ pub fn expect_kind(
     k: u16,
     m: Message,
 ) -> Flow
-    requires { ⌜ Ready 1 (now kinds) c0 ⌝ }
-    ensures { λ r. ⌜ RanTo 1 0 1 (now (kinds .entry)) (expect-kind k m) (world (now (ev .entry)) (now (dm .entry)) (now (ds .entry)) c0) (world (now (ev .exit)) (now (dm .exit)) (now (ds .exit)) (r .c)) (r .ok) ⌝ }
+    ensures { λ r. ⌜ RanTo (now (kinds .entry)) (expect-kind k m) (entry ev dm ds c0) (exit ev dm ds (r .c)) (r .ok) ⌝ }
 {
     if stands_here(kinds, c0.pos, k) {
         let d = bump(kinds, ev, dm, ds, c0);
@@ -136,8 +131,7 @@ pub fn expect_name(
     c0: Cursor,
     m: Message,
 ) -> Cursor
-    requires { ⌜ Ready 1 (now kinds) c0 ⌝ }
-    ensures { λ r. ⌜ Ran 1 0 1 (now (kinds .entry)) (expect-name m) (world (now (ev .entry)) (now (dm .entry)) (now (ds .entry)) c0) (world (now (ev .exit)) (now (dm .exit)) (now (ds .exit)) r) ⌝ }
+    ensures { λ r. ⌜ Ran (now (kinds .entry)) (expect-name m) (entry ev dm ds c0) (exit ev dm ds r) ⌝ }
 {
     if is_name_like(current(kinds, c0.pos)) {
         return bump(kinds, ev, dm, ds, c0);
@@ -154,8 +148,7 @@ pub fn error_token(
     c0: Cursor,
     m: Message,
 ) -> Cursor
-    requires { ⌜ Ready 2 (now kinds) c0 ⌝ }
-    ensures { λ r. ⌜ Ran 1 2 1 (now (kinds .entry)) (error-token m) (world (now (ev .entry)) (now (dm .entry)) (now (ds .entry)) c0) (world (now (ev .exit)) (now (dm .exit)) (now (ds .exit)) r) ⌝ }
+    ensures { λ r. ⌜ Ran (now (kinds .entry)) (error-token m) (entry ev dm ds c0) (exit ev dm ds r) ⌝ }
 {
     let a = put(ev, c0, 1);
     let b = error_here(dm, ds, a, m);
@@ -172,8 +165,7 @@ pub fn bump_at(
     c0: Cursor,
     k: u16,
 ) -> Cursor
-    requires { ⌜ Ready 0 (now kinds) c0 ⌝ }
-    ensures { λ r. ⌜ Ran 1 0 0 (now (kinds .entry)) (if at (is k) then take else nop) (world (now (ev .entry)) (now (dm .entry)) (now (ds .entry)) c0) (world (now (ev .exit)) (now (dm .exit)) (now (ds .exit)) r) ⌝ }
+    ensures { λ r. ⌜ Ran (now (kinds .entry)) (if at (is k) then take else nop) (entry ev dm ds c0) (exit ev dm ds r) ⌝ }
 {
     if at_kind(kinds, c0.pos, k) {
         return bump(kinds, ev, dm, ds, c0);

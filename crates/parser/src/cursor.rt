@@ -1,12 +1,13 @@
 // The cursor goes by value; events and diagnostics are written while there is room, and counted on.
 use grammar::message::Message;
 use grammar::message::number;
+use room::set_u16;
+use room::set_u32;
 ghost use mathlib.Core.Path.{_≡_};
-ghost use Prim.Native.Nat.{_≤_, _<_, _^_};
-ghost use lib.ListN.{length, getD};
+ghost use Prim.Native.Nat.{_+_, _<_, _^_};
 ghost use Rattle.grammar.specs.Message.{number as numberOf};
 ghost use Rattle.grammar.specs.Out.{kind};
-ghost use Rattle.parser.specs.Rep.{world, Put, Said, Bumped, Took};
+ghost use Rattle.parser.specs.Rep.{entry, exit, Put, Said, Plain, Bumped, Took};
 
 pub struct Cursor {
     pub pos: usize,
@@ -20,51 +21,49 @@ pub struct Flow {
     pub ok: bool,
 }
 
+// One more. No reading comes to the greatest number (`Small`), so nothing is asked of the caller.
+fn one_more(n: usize) -> usize
+    ensures { λ r. ⌜ (n + 1 < 2 ^ 64 → r ≡ n + 1) ⌝ }
+{
+    if n < usize::MAX {
+        return n + 1;
+    }
+    0
+}
+
+// The low half; an index that is no greater is itself.
+fn low_half(n: usize) -> u32
+    ensures { λ r. ⌜ (n < 2 ^ 32 → r ≡ n) ⌝ }
+{
+    (n % 0x1_0000_0000) as u32
+}
+
 // start_node, finish_node and the event of a token
 pub fn put(ev: &mut [u16], c: Cursor, v: u16) -> Cursor
-    requires { ⌜ c .events < 2 ^ 40 ⌝ }
     ensures { λ r. ⌜ Put v (now (ev .entry)) c (now (ev .exit)) r ⌝ }
 {
     let e = c.events;
-    let next = Cursor {
+    set_u16(ev, e, v);
+    Cursor {
         pos: c.pos,
-        events: e + 1,
+        events: one_more(e),
         diags: c.diags,
-    };
-    if e < ev.len() {
-        ev[e] = v;
     }
-    next
-}
-
-fn narrow(x: usize) -> u32
-    requires { ⌜ x < 2 ^ 32 ⌝ }
-    ensures { λ r. ⌜ r ≡ x ⌝ }
-{
-    x as u32
 }
 
 // The message, and the index of the token here; past the last token, their number. error_at_eof is the same at the end.
 pub fn error_here(dm: &mut [u16], ds: &mut [u32], c: Cursor, m: Message) -> Cursor
-    requires { ⌜ (c .diags < 2 ^ 40) × (c .pos < 2 ^ 32) ⌝ }
     ensures { λ r. ⌜ Said (numberOf m) (now (dm .entry)) (now (ds .entry)) c (now (dm .exit)) (now (ds .exit)) r ⌝ }
 {
     let d = c.diags;
     let p = c.pos;
-    let at = narrow(p);
-    let text = number(m);
-    let next = Cursor {
+    set_u16(dm, d, number(m));
+    set_u32(ds, d, low_half(p));
+    Cursor {
         pos: p,
         events: c.events,
-        diags: d + 1,
-    };
-    if d < dm.len() {
-        if d < ds.len() {
-            dm[d] = text;
-            ds[d] = at;
-        }
+        diags: one_more(d),
     }
-    next
 }
 
 // A token's event: Error's is 60, and a keyword's is Ident's.
@@ -82,7 +81,7 @@ fn event_of(k: u16) -> u16
 
 // bump at a token that is not Error, and whose event is v.
 pub fn bump_plain(kinds: &[u16], ev: &mut [u16], c: Cursor, v: u16) -> Cursor
-    requires { ⌜ (c .events < 2 ^ 40) × (c .pos < length (now kinds)) × (length (now kinds) ≤ 2 ^ 20) × (getD (now kinds) (c .pos) 0 ≡ 1 → ⊥) × (v ≡ kind (getD (now kinds) (c .pos) 0)) ⌝ }
+    requires { ⌜ Plain (now kinds) (c .pos) v ⌝ }
     ensures { λ r. ⌜ Took (now (kinds .entry)) (now (ev .entry)) c (now (ev .exit)) r ⌝ }
 {
     let next = c.pos + 1;
@@ -95,8 +94,7 @@ pub fn bump_plain(kinds: &[u16], ev: &mut [u16], c: Cursor, v: u16) -> Cursor
 }
 
 pub fn bump(kinds: &[u16], ev: &mut [u16], dm: &mut [u16], ds: &mut [u32], c: Cursor) -> Cursor
-    requires { ⌜ (c .events < 2 ^ 40) × (c .diags < 2 ^ 40) × (c .pos ≤ length (now kinds)) × (length (now kinds) ≤ 2 ^ 20) ⌝ }
-    ensures { λ r. ⌜ Bumped (now (kinds .entry)) (world (now (ev .entry)) (now (dm .entry)) (now (ds .entry)) c) (world (now (ev .exit)) (now (dm .exit)) (now (ds .exit)) r) ⌝ }
+    ensures { λ r. ⌜ Bumped (now (kinds .entry)) (entry ev dm ds c) (exit ev dm ds r) ⌝ }
 {
     let p = c.pos;
     if p < kinds.len() {

@@ -4,7 +4,7 @@ use crate::cursor::error_here;
 use grammar::message::Message;
 use grammar::nesting::Bumped;
 use grammar::nesting::Nesting;
-ghost use Prim.Native.Nat.{_<_, _^_};
+ghost use Prim.Native.Nat.{_^_};
 ghost use Rattle.grammar.specs.Nesting.{Below};
 ghost use Rattle.parser.specs.Counts.{Counted};
 
@@ -21,8 +21,10 @@ pub fn bump_nesting(
     nesting: Nesting,
     kind: u16,
 ) -> Nested
-    requires { ⌜ (c .diags < 2 ^ 40) × (c .pos < 2 ^ 32) × (Below (2 ^ 31) nesting) ⌝ }
-    ensures { λ r. ⌜ Counted nesting kind (now (dm .entry)) (now (ds .entry)) c (now (dm .exit)) (now (ds .exit)) (r .c) (r .nesting) ⌝ }
+    requires { ⌜ Below (2 ^ 63) nesting ⌝ }
+    ensures {
+        λ r. ⌜ Counted nesting kind (now (dm .entry)) (now (ds .entry)) c (now (dm .exit)) (now (ds .exit)) (r .c) (r .nesting) ⌝
+    }
 {
     let b = nesting.bump(kind);
     match b {

@@ -6,7 +6,7 @@ use native.Mathlib.Omega.{arith}
 use native.Mathlib.Numerals.{add-one}
 use lib.ListN.{length, getD, take, drop, set, length-set, length-take, length-map, drop-of-length-le}
 use lib.Seq.{drop-cons, drop-set-lt, take-set-lt, getD-take, length-take-le}
-use Rattle.lexer.specs.Over.{over, written}
+use Rattle.room.specs.Over.{over, written}
 use Rattle.places.specs.Places.{start-of, stop-of, Placed}
 use Rattle.places.specs.Laws.{less}
 

@@ -5,7 +5,7 @@ use mathlib.Core.Path.{_≡_, refl, sym, ap, _∙_}
 use mathlib.Core.List.{List, [], _∷_, _++_, map}
 use native.Mathlib.Omega.{arith}
 use lib.ListN.{length, take, drop, length-map}
-use Rattle.lexer.specs.Over.{over, nil-over, cons-over}
+use Rattle.room.specs.Over.{over, nil-over, cons-over}
 use Rattle.grammar.specs.Out.{Diag, places}
 use Rattle.places.specs.Places.{start-of, stop-of, Placed}
 use Rattle.places.specs.Laws.{starts-of-places, stops-of-places}

@@ -1,5 +1,5 @@
 // Diagnostics are written with the index of a token; here each index becomes the token's start and end in bytes.
-use lexer::least;
+use room::least;
 ghost use mathlib.Core.Path.{_≡_};
 ghost use Prim.Native.Nat.{_<_, _^_};
 ghost use lib.ListN.{length};

@@ -7,7 +7,7 @@ use borrow.Author.Tests.{lt-ltb, le-ltb}
 use lib.ListN.{length, take, drop, length-map}
 use lib.Seq.{length-take-le, take-all}
 use Rattle.lexer.specs.Lexer.{tokenize}
-use Rattle.lexer.specs.Over.{fit, fit-first}
+use Rattle.room.specs.Over.{fit, fit-first}
 use Rattle.lexer.specs.Tokens.{room, token-kinds, token-ends, Written}
 use Rattle.lexer.specs.Laws.{length-ends}
 use Rattle.grammar.specs.Words.{kindOf}

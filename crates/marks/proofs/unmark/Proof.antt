@@ -6,7 +6,7 @@ use native.Mathlib.Omega.{arith}
 use borrow.Author.Needs.{needs}
 use lib.ListN.{length, getD, drop, set, length-set, length-map, drop-of-length-le}
 use lib.Seq.{drop-set-lt}
-use Rattle.lexer.specs.Over.{over, over-all}
+use Rattle.room.specs.Over.{over, over-all}
 use Rattle.grammar.specs.Words.{kindOf}
 use Rattle.lexer.proofs.Laws.{next-byte}
 use Rattle.marks.proofs.unmark.Statement.{statement}

@@ -8,7 +8,7 @@ use lib.Dec.{ltb}
 use lib.ListN.{length, take, drop, length-map}
 use lib.Seq.{length-take-le}
 use Rattle.lexer.specs.Lexer.{tokenize}
-use Rattle.lexer.specs.Over.{length-over, over-fit, given-back}
+use Rattle.room.specs.Over.{length-over, over-fit, given-back}
 use Rattle.grammar.specs.Source.{sym as symOf, symbols}
 use Rattle.cst.specs.declared.grow.Counts.{Counts}
 use Rattle.answer.specs.declared.Answer.{Answer}

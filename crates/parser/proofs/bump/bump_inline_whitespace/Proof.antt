@@ -3,21 +3,12 @@ use mathlib.Core.Path.{_∙_}
 use mathlib.Core.Bool.{or-false}
 use mathlib.Core.List.{[], _∷_}
 use native.Mathlib.Omega.{arith}
-use borrow.Author.Needs.{needs}
 use Rattle.grammar.specs.Look.{oneOf}
 use Rattle.lexer.specs.Syntax.{Whitespace}
 use Rattle.parser.specs.Sets.{trivia-to, trivia-is}
 use Rattle.parser.proofs.Kit.{of-set}
 use Rattle.parser.proofs.bump.bump_inline_whitespace.Statement.{statement}
 use Rattle.parser.proofs.bump.bump_inline_whitespace.Tie as tie
-
-bump-while-requires : tie.Need-bump-while-requires
-bump-while-requires c κs =
-    let c₁ = c .before .before .before .before .before in
-    (omega (arith, c₁ .pre), omega arith)
-
-same-length : tie.Need-same-length
-same-length c = search needs
 
 returns : tie.Need-returns
 unfolding oneOf trivia-to
@@ -26,4 +17,4 @@ returns c =
     of-set (λ k. trivia-is _ (Whitespace ∷ []) k tt tt ∙ or-false _) (c₁ .bump-while .ensures .ran _ _)
 
 pub bump-inline-whitespace-spec : {M : Type 1} → statement M
-bump-inline-whitespace-spec = tie.close (tie.spec bump-while-requires same-length returns)
+bump-inline-whitespace-spec = tie.close (tie.spec (λ c κs. omega arith) (λ c. returns c .onward .ev) returns)

@@ -1,21 +1,12 @@
 -- `parser::bump::bump_regular_trivia`: one computed test of the run. Assumes nothing.
 use mathlib.Core.List.{[], _∷_}
 use native.Mathlib.Omega.{arith}
-use borrow.Author.Needs.{needs}
 use Rattle.grammar.specs.Look.{oneOf}
 use Rattle.lexer.specs.Syntax.{Whitespace, Newline, Comment}
 use Rattle.parser.specs.Sets.{trivia-to, trivia-is}
 use Rattle.parser.proofs.Kit.{of-set}
 use Rattle.parser.proofs.bump.bump_regular_trivia.Statement.{statement}
 use Rattle.parser.proofs.bump.bump_regular_trivia.Tie as tie
-
-bump-while-requires : tie.Need-bump-while-requires
-bump-while-requires c κs =
-    let c₁ = c .before .before .before .before .before in
-    (omega (arith, c₁ .pre), omega arith)
-
-same-length : tie.Need-same-length
-same-length c = search needs
 
 returns : tie.Need-returns
 unfolding oneOf trivia-to
@@ -24,4 +15,4 @@ returns c =
     of-set (λ k. trivia-is _ (Whitespace ∷ Newline ∷ Comment ∷ []) k tt tt) (c₁ .bump-while .ensures .ran _ _)
 
 pub bump-regular-trivia-spec : {M : Type 1} → statement M
-bump-regular-trivia-spec = tie.close (tie.spec bump-while-requires same-length returns)
+bump-regular-trivia-spec = tie.close (tie.spec (λ c κs. omega arith) (λ c. returns c .onward .ev) returns)

@@ -1,0 +1,2 @@
+-- Writing into a lent list while there is room.
+pub mod Over
