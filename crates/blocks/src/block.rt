@@ -28,7 +28,7 @@ ghost use lib.ListN.{drop};
 ghost use Rattle.grammar.specs.Words.{is, DO as doWord, IF as ifWord, REPEAT as repeatWord, WHILE as whileWord};
 ghost use Rattle.grammar.specs.Look.{at, current, control-flow};
 ghost use Rattle.grammar.specs.Block.{MAX-CONTROL-FLOW-NESTING as limit, parse-block, parse-if, parse-while, parse-do-while, parse-repeat, parse-control-flow};
-ghost use Rattle.parser.specs.Rep.{world, Ready, RanTo};
+ghost use Rattle.parser.specs.Rep.{entry, exit, RanTo};
 ghost use Rattle.blocks.specs.Shapes.{ItemAt, Then, Body, Last};
 
 // A form's first block: whether another follows, and if not, the form's end.
@@ -55,8 +55,8 @@ pub fn parse_block(
     terminators: Terminators,
     depth: usize,
 ) -> BlockEnd
-    requires { ⌜ (Ready 8 (now kinds) c0) × (depth ≤ limit) ⌝ }
-    ensures { λ r. ⌜ (RanTo 7 4 1 (now (kinds .entry)) (parse-block limit owner terminators depth) (world (now (ev .entry)) (now (dm .entry)) (now (ds .entry)) c0) (world (now (ev .exit)) (now (dm .exit)) (now (ds .exit)) (r .c)) (r .outcome)) × ItemAt (now (kinds .entry)) (r .c .pos) (r .item) ⌝ }
+    requires { ⌜ (depth ≤ limit) ⌝ }
+    ensures { λ r. ⌜ (RanTo (now (kinds .entry)) (parse-block limit owner terminators depth) (entry ev dm ds c0) (exit ev dm ds (r .c)) (r .outcome)) × ItemAt (now (kinds .entry)) (r .c .pos) (r .item) ⌝ }
 {
     let place = Place {
         depth: depth as u16,
@@ -78,8 +78,8 @@ fn block_from(
     ds: &mut [u32],
     start: Start,
 ) -> BlockEnd
-    requires { ⌜ (Ready 8 (now kinds) (start .c)) × (start .place .depth ≤ limit) ⌝ }
-    ensures { λ r. ⌜ (RanTo 7 4 1 (now (kinds .entry)) (parse-block limit (start .place .owner) (start .place .terminators) (start .place .depth)) (world (now (ev .entry)) (now (dm .entry)) (now (ds .entry)) (start .c)) (world (now (ev .exit)) (now (dm .exit)) (now (ds .exit)) (r .c)) (r .outcome)) × ItemAt (now (kinds .entry)) (r .c .pos) (r .item) ⌝ }
+    requires { ⌜ (start .place .depth ≤ limit) ⌝ }
+    ensures { λ r. ⌜ (RanTo (now (kinds .entry)) (parse-block limit (start .place .owner) (start .place .terminators) (start .place .depth)) (entry ev dm ds (start .c)) (exit ev dm ds (r .c)) (r .outcome)) × ItemAt (now (kinds .entry)) (r .c .pos) (r .item) ⌝ }
 {
     let c0 = start.c;
     let place = start.place;
@@ -113,8 +113,8 @@ fn parse_control_flow(
     k: u16,
     depth: usize,
 ) -> Form
-    requires { ⌜ (Ready 7 (now kinds) c0) × (k ≡ current (drop (c0 .pos) (now kinds))) × (at control-flow (drop (c0 .pos) (now kinds)) ≡ true) × (depth ≤ limit) ⌝ }
-    ensures { λ r. ⌜ (RanTo 7 0 0 (now (kinds .entry)) (parse-control-flow (parse-block limit) depth) (world (now (ev .entry)) (now (dm .entry)) (now (ds .entry)) c0) (world (now (ev .exit)) (now (dm .exit)) (now (ds .exit)) (r .c)) (r .eof)) × (ItemAt (now (kinds .entry)) (r .c .pos) (r .item)) × (c0 .pos < r .c .pos) ⌝ }
+    requires { ⌜ (k ≡ current (drop (c0 .pos) (now kinds))) × (at control-flow (drop (c0 .pos) (now kinds)) ≡ true) × (depth ≤ limit) ⌝ }
+    ensures { λ r. ⌜ (RanTo (now (kinds .entry)) (parse-control-flow (parse-block limit) depth) (entry ev dm ds c0) (exit ev dm ds (r .c)) (r .eof)) × (ItemAt (now (kinds .entry)) (r .c .pos) (r .item)) × (c0 .pos < r .c .pos) ⌝ }
 {
     if k == IF {
         return parse_if(kinds, ev, dm, ds, c0, depth);
@@ -139,8 +139,8 @@ fn inner_block(
     terminators: Terminators,
     depth: usize,
 ) -> BlockEnd
-    requires { ⌜ (Ready 8 (now kinds) c0) × (depth ≤ limit) ⌝ }
-    ensures { λ r. ⌜ (RanTo 7 4 1 (now (kinds .entry)) (parse-block limit owner terminators depth) (world (now (ev .entry)) (now (dm .entry)) (now (ds .entry)) c0) (world (now (ev .exit)) (now (dm .exit)) (now (ds .exit)) (r .c)) (r .outcome)) × ItemAt (now (kinds .entry)) (r .c .pos) (r .item) ⌝ }
+    requires { ⌜ (depth ≤ limit) ⌝ }
+    ensures { λ r. ⌜ (RanTo (now (kinds .entry)) (parse-block limit owner terminators depth) (entry ev dm ds c0) (exit ev dm ds (r .c)) (r .outcome)) × ItemAt (now (kinds .entry)) (r .c .pos) (r .item) ⌝ }
 {
     let place = Place {
         depth: depth as u16,
@@ -164,8 +164,8 @@ fn last_block(
     owner: BlockOwner,
     depth: usize,
 ) -> Form
-    requires { ⌜ (Ready 8 (now kinds) c0) × (depth ≤ limit) ⌝ }
-    ensures { λ r. ⌜ Last (now (kinds .entry)) owner depth (world (now (ev .entry)) (now (dm .entry)) (now (ds .entry)) c0) (world (now (ev .exit)) (now (dm .exit)) (now (ds .exit)) (r .c)) (r .eof) (r .item) ⌝ }
+    requires { ⌜ (depth ≤ limit) ⌝ }
+    ensures { λ r. ⌜ Last (now (kinds .entry)) owner depth (entry ev dm ds c0) (exit ev dm ds (r .c)) (r .eof) (r .item) ⌝ }
 {
     let b = inner_block(kinds, ev, dm, ds, c0, owner, Terminators::End, depth);
     finish(kinds, ev, dm, ds, b, owner)
@@ -180,8 +180,8 @@ fn then_block(
     c0: Cursor,
     depth: usize,
 ) -> Half
-    requires { ⌜ (Ready 8 (now kinds) c0) × (depth ≤ limit) ⌝ }
-    ensures { λ r. ⌜ Then (now (kinds .entry)) depth (world (now (ev .entry)) (now (dm .entry)) (now (ds .entry)) c0) (world (now (ev .exit)) (now (dm .exit)) (now (ds .exit)) (r .c)) (r .more) (r .eof) (r .item) ⌝ }
+    requires { ⌜ (depth ≤ limit) ⌝ }
+    ensures { λ r. ⌜ Then (now (kinds .entry)) depth (entry ev dm ds c0) (exit ev dm ds (r .c)) (r .more) (r .eof) (r .item) ⌝ }
 {
     let b = inner_block(
         kinds,
@@ -223,8 +223,8 @@ fn body_block(
     c0: Cursor,
     depth: usize,
 ) -> Half
-    requires { ⌜ (Ready 8 (now kinds) c0) × (depth ≤ limit) ⌝ }
-    ensures { λ r. ⌜ Body (now (kinds .entry)) depth (world (now (ev .entry)) (now (dm .entry)) (now (ds .entry)) c0) (world (now (ev .exit)) (now (dm .exit)) (now (ds .exit)) (r .c)) (r .more) (r .eof) (r .item) ⌝ }
+    requires { ⌜ (depth ≤ limit) ⌝ }
+    ensures { λ r. ⌜ Body (now (kinds .entry)) depth (entry ev dm ds c0) (exit ev dm ds (r .c)) (r .more) (r .eof) (r .item) ⌝ }
 {
     let b = inner_block(
         kinds,
@@ -265,8 +265,8 @@ fn parse_if(
     c0: Cursor,
     depth: usize,
 ) -> Form
-    requires { ⌜ (Ready 7 (now kinds) c0) × (at (is ifWord) (drop (c0 .pos) (now kinds)) ≡ true) × (depth ≤ limit) ⌝ }
-    ensures { λ r. ⌜ (RanTo 7 0 0 (now (kinds .entry)) (parse-if (parse-block limit) depth) (world (now (ev .entry)) (now (dm .entry)) (now (ds .entry)) c0) (world (now (ev .exit)) (now (dm .exit)) (now (ds .exit)) (r .c)) (r .eof)) × (ItemAt (now (kinds .entry)) (r .c .pos) (r .item)) × (c0 .pos < r .c .pos) ⌝ }
+    requires { ⌜ (at (is ifWord) (drop (c0 .pos) (now kinds)) ≡ true) × (depth ≤ limit) ⌝ }
+    ensures { λ r. ⌜ (RanTo (now (kinds .entry)) (parse-if (parse-block limit) depth) (entry ev dm ds c0) (exit ev dm ds (r .c)) (r .eof)) × (ItemAt (now (kinds .entry)) (r .c .pos) (r .item)) × (c0 .pos < r .c .pos) ⌝ }
 {
     let h = if_header(kinds, ev, dm, ds, c0);
     let b = then_block(kinds, ev, dm, ds, h, depth);
@@ -289,8 +289,8 @@ fn parse_while(
     c0: Cursor,
     depth: usize,
 ) -> Form
-    requires { ⌜ (Ready 7 (now kinds) c0) × (at (is whileWord) (drop (c0 .pos) (now kinds)) ≡ true) × (depth ≤ limit) ⌝ }
-    ensures { λ r. ⌜ (RanTo 7 0 0 (now (kinds .entry)) (parse-while (parse-block limit) depth) (world (now (ev .entry)) (now (dm .entry)) (now (ds .entry)) c0) (world (now (ev .exit)) (now (dm .exit)) (now (ds .exit)) (r .c)) (r .eof)) × (ItemAt (now (kinds .entry)) (r .c .pos) (r .item)) × (c0 .pos < r .c .pos) ⌝ }
+    requires { ⌜ (at (is whileWord) (drop (c0 .pos) (now kinds)) ≡ true) × (depth ≤ limit) ⌝ }
+    ensures { λ r. ⌜ (RanTo (now (kinds .entry)) (parse-while (parse-block limit) depth) (entry ev dm ds c0) (exit ev dm ds (r .c)) (r .eof)) × (ItemAt (now (kinds .entry)) (r .c .pos) (r .item)) × (c0 .pos < r .c .pos) ⌝ }
 {
     let h = while_header(kinds, ev, dm, ds, c0);
     last_block(kinds, ev, dm, ds, h, BlockOwner::While, depth)
@@ -304,8 +304,8 @@ fn parse_do_while(
     c0: Cursor,
     depth: usize,
 ) -> Form
-    requires { ⌜ (Ready 7 (now kinds) c0) × (at (is doWord) (drop (c0 .pos) (now kinds)) ≡ true) × (depth ≤ limit) ⌝ }
-    ensures { λ r. ⌜ (RanTo 7 0 0 (now (kinds .entry)) (parse-do-while (parse-block limit) depth) (world (now (ev .entry)) (now (dm .entry)) (now (ds .entry)) c0) (world (now (ev .exit)) (now (dm .exit)) (now (ds .exit)) (r .c)) (r .eof)) × (ItemAt (now (kinds .entry)) (r .c .pos) (r .item)) × (c0 .pos < r .c .pos) ⌝ }
+    requires { ⌜ (at (is doWord) (drop (c0 .pos) (now kinds)) ≡ true) × (depth ≤ limit) ⌝ }
+    ensures { λ r. ⌜ (RanTo (now (kinds .entry)) (parse-do-while (parse-block limit) depth) (entry ev dm ds c0) (exit ev dm ds (r .c)) (r .eof)) × (ItemAt (now (kinds .entry)) (r .c .pos) (r .item)) × (c0 .pos < r .c .pos) ⌝ }
 {
     let h = do_header(kinds, ev, dm, ds, c0);
     let b = body_block(kinds, ev, dm, ds, h, depth);
@@ -328,8 +328,8 @@ fn parse_repeat(
     c0: Cursor,
     depth: usize,
 ) -> Form
-    requires { ⌜ (Ready 7 (now kinds) c0) × (at (is repeatWord) (drop (c0 .pos) (now kinds)) ≡ true) × (depth ≤ limit) ⌝ }
-    ensures { λ r. ⌜ (RanTo 7 0 0 (now (kinds .entry)) (parse-repeat (parse-block limit) depth) (world (now (ev .entry)) (now (dm .entry)) (now (ds .entry)) c0) (world (now (ev .exit)) (now (dm .exit)) (now (ds .exit)) (r .c)) (r .eof)) × (ItemAt (now (kinds .entry)) (r .c .pos) (r .item)) × (c0 .pos < r .c .pos) ⌝ }
+    requires { ⌜ (at (is repeatWord) (drop (c0 .pos) (now kinds)) ≡ true) × (depth ≤ limit) ⌝ }
+    ensures { λ r. ⌜ (RanTo (now (kinds .entry)) (parse-repeat (parse-block limit) depth) (entry ev dm ds c0) (exit ev dm ds (r .c)) (r .eof)) × (ItemAt (now (kinds .entry)) (r .c .pos) (r .item)) × (c0 .pos < r .c .pos) ⌝ }
 {
     let h = repeat_header(kinds, ev, dm, ds, c0);
     last_block(kinds, ev, dm, ds, h, BlockOwner::Repeat, depth)

@@ -19,7 +19,7 @@ ghost use Rattle.grammar.specs.Words.{is, ELSE as elseWord};
 ghost use Rattle.grammar.specs.Look.{at};
 ghost use Rattle.grammar.specs.Block.{found-terminator, reached-eof};
 ghost use Rattle.grammar.specs.declared.block.BlockParseOutcome.the-variants.{ReachedEof};
-ghost use Rattle.parser.specs.Rep.{world, Ready, Put};
+ghost use Rattle.parser.specs.Rep.{entry, exit, Put};
 ghost use Rattle.blocks.specs.Shapes.{Recovered, Ended, Finished, ItemAt};
 
 // A block's end; `item` says that an item is known to start here.
@@ -46,7 +46,7 @@ fn recover(
     boundary: BlockRecoveryBoundary,
 ) -> Cursor
     requires { ⌜ (c0 .events < 2 ^ 39) × (c0 .diags < 2 ^ 40) × (c0 .pos < 2 ^ 32) ⌝ }
-    ensures { λ r. ⌜ Recovered owner boundary (world (now (ev .entry)) (now (dm .entry)) (now (ds .entry)) c0) (world (now (ev .exit)) (now (dm .exit)) (now (ds .exit)) r) ⌝ }
+    ensures { λ r. ⌜ Recovered owner boundary (entry ev dm ds c0) (exit ev dm ds r) ⌝ }
 {
     let a = put(ev, c0, 1);
     let b = error_here(dm, ds, a, Message::Recovery(owner, boundary));
@@ -63,7 +63,7 @@ pub fn close(
     k: Closing,
 ) -> BlockEnd
     requires { ⌜ (c0 .events < 2 ^ 38) × (c0 .diags < 2 ^ 40) × (c0 .pos < 2 ^ 32) ⌝ }
-    ensures { λ r. ⌜ Ended k owner (world (now (ev .entry)) (now (dm .entry)) (now (ds .entry)) c0) (world (now (ev .exit)) (now (dm .exit)) (now (ds .exit)) (r .c)) (r .outcome) (r .item) ⌝ }
+    ensures { λ r. ⌜ Ended k owner (entry ev dm ds c0) (exit ev dm ds (r .c)) (r .outcome) (r .item) ⌝ }
 {
     match k {
         Closing::Eof => {
@@ -126,8 +126,8 @@ pub fn finish(
     b: BlockEnd,
     owner: BlockOwner,
 ) -> Form
-    requires { ⌜ (Ready 2 (now kinds) (b .c)) × ItemAt (now kinds) (b .c .pos) (b .item) ⌝ }
-    ensures { λ r. ⌜ Finished (now (kinds .entry)) owner (b .outcome) (world (now (ev .entry)) (now (dm .entry)) (now (ds .entry)) (b .c)) (world (now (ev .exit)) (now (dm .exit)) (now (ds .exit)) (r .c)) (r .eof) (r .item) ⌝ }
+    requires { ⌜ ItemAt (now kinds) (b .c .pos) (b .item) ⌝ }
+    ensures { λ r. ⌜ Finished (now (kinds .entry)) owner (b .outcome) (entry ev dm ds (b .c)) (exit ev dm ds (r .c)) (r .eof) (r .item) ⌝ }
 {
     let c = b.c;
     let outcome = b.outcome;

@@ -9,7 +9,7 @@ ghost use mathlib.Core.Bool.{false};
 ghost use mathlib.Core.Path.{_≡_};
 ghost use Rattle.grammar.specs.Look.{regular-trivia};
 ghost use Rattle.grammar.specs.Bump.{expect-kind};
-ghost use Rattle.parser.specs.Rep.{world, Ready, RanTo};
+ghost use Rattle.parser.specs.Rep.{entry, exit, RanTo};
 
 pub fn expect(
     kinds: &[u16],
@@ -20,8 +20,8 @@ pub fn expect(
     k: u16,
     m: Message,
 ) -> Flow
-    requires { ⌜ (Ready 1 (now kinds) c0) × (regular-trivia k ≡ false) ⌝ }
-    ensures { λ r. ⌜ RanTo 1 0 1 (now (kinds .entry)) (expect-kind k m) (world (now (ev .entry)) (now (dm .entry)) (now (ds .entry)) c0) (world (now (ev .exit)) (now (dm .exit)) (now (ds .exit)) (r .c)) (r .ok) ⌝ }
+    requires { ⌜ (regular-trivia k ≡ false) ⌝ }
+    ensures { λ r. ⌜ RanTo (now (kinds .entry)) (expect-kind k m) (entry ev dm ds c0) (exit ev dm ds (r .c)) (r .ok) ⌝ }
 {
     if at_kind(kinds, c0.pos, k) {
         let d = bump(kinds, ev, dm, ds, c0);

@@ -15,7 +15,7 @@ ghost use mathlib.Core.Bool.{true, false};
 ghost use lib.ListN.{drop};
 ghost use Rattle.grammar.specs.Words.{is, DO as doWord, ELSE as elseWord, IF as ifWord, REPEAT as repeatWord, WHILE as whileWord};
 ghost use Rattle.grammar.specs.Look.{at, regular-trivia};
-ghost use Rattle.parser.specs.Rep.{world, Ready};
+ghost use Rattle.parser.specs.Rep.{entry, exit};
 ghost use Rattle.blocks.specs.Shapes.{header as headerOf, keyword-line, else-line, Opened, Led, Lined};
 
 // The node's opening event, its keyword, suffixes and the rest of the line: `if`, `while` and `repeat`.
@@ -28,8 +28,8 @@ fn header(
     node: u16,
     keyword: u16,
 ) -> Cursor
-    requires { ⌜ (Ready 3 (now kinds) c0) × (at (is keyword) (drop (c0 .pos) (now kinds)) ≡ true) × (regular-trivia keyword ≡ false) ⌝ }
-    ensures { λ r. ⌜ Opened (now (kinds .entry)) node (headerOf keyword) (world (now (ev .entry)) (now (dm .entry)) (now (ds .entry)) c0) (world (now (ev .exit)) (now (dm .exit)) (now (ds .exit)) r) ⌝ }
+    requires { ⌜ (at (is keyword) (drop (c0 .pos) (now kinds)) ≡ true) × (regular-trivia keyword ≡ false) ⌝ }
+    ensures { λ r. ⌜ Opened (now (kinds .entry)) node (headerOf keyword) (entry ev dm ds c0) (exit ev dm ds r) ⌝ }
 {
     let a = put(ev, c0, node);
     let b = expect(kinds, ev, dm, ds, a, keyword, Message::Unreached);
@@ -47,8 +47,8 @@ fn keyword_line(
     c0: Cursor,
     keyword: u16,
 ) -> Cursor
-    requires { ⌜ (Ready 1 (now kinds) c0) × (at (is keyword) (drop (c0 .pos) (now kinds)) ≡ true) × (regular-trivia keyword ≡ false) ⌝ }
-    ensures { λ r. ⌜ Lined (now (kinds .entry)) keyword (world (now (ev .entry)) (now (dm .entry)) (now (ds .entry)) c0) (world (now (ev .exit)) (now (dm .exit)) (now (ds .exit)) r) ⌝ }
+    requires { ⌜ (at (is keyword) (drop (c0 .pos) (now kinds)) ≡ true) × (regular-trivia keyword ≡ false) ⌝ }
+    ensures { λ r. ⌜ Lined (now (kinds .entry)) keyword (entry ev dm ds c0) (exit ev dm ds r) ⌝ }
 {
     let b = expect(kinds, ev, dm, ds, c0, keyword, Message::Unreached);
     let bc = b.c;
@@ -63,8 +63,8 @@ pub fn do_header(
     ds: &mut [u32],
     c0: Cursor,
 ) -> Cursor
-    requires { ⌜ (Ready 2 (now kinds) c0) × (at (is doWord) (drop (c0 .pos) (now kinds)) ≡ true) ⌝ }
-    ensures { λ r. ⌜ Opened (now (kinds .entry)) 21 (keyword-line doWord) (world (now (ev .entry)) (now (dm .entry)) (now (ds .entry)) c0) (world (now (ev .exit)) (now (dm .exit)) (now (ds .exit)) r) ⌝ }
+    requires { ⌜ (at (is doWord) (drop (c0 .pos) (now kinds)) ≡ true) ⌝ }
+    ensures { λ r. ⌜ Opened (now (kinds .entry)) 21 (keyword-line doWord) (entry ev dm ds c0) (exit ev dm ds r) ⌝ }
 {
     let a = put(ev, c0, 21);
     keyword_line(kinds, ev, dm, ds, a, DO)
@@ -78,8 +78,8 @@ pub fn else_line(
     ds: &mut [u32],
     c0: Cursor,
 ) -> Cursor
-    requires { ⌜ (Ready 1 (now kinds) c0) × (at (is elseWord) (drop (c0 .pos) (now kinds)) ≡ true) ⌝ }
-    ensures { λ r. ⌜ Led 1 2 (now (kinds .entry)) else-line (world (now (ev .entry)) (now (dm .entry)) (now (ds .entry)) c0) (world (now (ev .exit)) (now (dm .exit)) (now (ds .exit)) r) ⌝ }
+    requires { ⌜ (at (is elseWord) (drop (c0 .pos) (now kinds)) ≡ true) ⌝ }
+    ensures { λ r. ⌜ Led 1 2 (now (kinds .entry)) else-line (entry ev dm ds c0) (exit ev dm ds r) ⌝ }
 {
     keyword_line(kinds, ev, dm, ds, c0, ELSE)
 }
@@ -92,8 +92,8 @@ pub fn while_line(
     ds: &mut [u32],
     c0: Cursor,
 ) -> Cursor
-    requires { ⌜ (Ready 1 (now kinds) c0) × (at (is whileWord) (drop (c0 .pos) (now kinds)) ≡ true) ⌝ }
-    ensures { λ r. ⌜ Led 1 2 (now (kinds .entry)) (keyword-line whileWord) (world (now (ev .entry)) (now (dm .entry)) (now (ds .entry)) c0) (world (now (ev .exit)) (now (dm .exit)) (now (ds .exit)) r) ⌝ }
+    requires { ⌜ (at (is whileWord) (drop (c0 .pos) (now kinds)) ≡ true) ⌝ }
+    ensures { λ r. ⌜ Led 1 2 (now (kinds .entry)) (keyword-line whileWord) (entry ev dm ds c0) (exit ev dm ds r) ⌝ }
 {
     keyword_line(kinds, ev, dm, ds, c0, WHILE)
 }
@@ -106,8 +106,8 @@ pub fn if_header(
     ds: &mut [u32],
     c0: Cursor,
 ) -> Cursor
-    requires { ⌜ (Ready 3 (now kinds) c0) × (at (is ifWord) (drop (c0 .pos) (now kinds)) ≡ true) ⌝ }
-    ensures { λ r. ⌜ Opened (now (kinds .entry)) 19 (headerOf ifWord) (world (now (ev .entry)) (now (dm .entry)) (now (ds .entry)) c0) (world (now (ev .exit)) (now (dm .exit)) (now (ds .exit)) r) ⌝ }
+    requires { ⌜ (at (is ifWord) (drop (c0 .pos) (now kinds)) ≡ true) ⌝ }
+    ensures { λ r. ⌜ Opened (now (kinds .entry)) 19 (headerOf ifWord) (entry ev dm ds c0) (exit ev dm ds r) ⌝ }
 {
     header(kinds, ev, dm, ds, c0, 19, IF)
 }
@@ -120,8 +120,8 @@ pub fn while_header(
     ds: &mut [u32],
     c0: Cursor,
 ) -> Cursor
-    requires { ⌜ (Ready 3 (now kinds) c0) × (at (is whileWord) (drop (c0 .pos) (now kinds)) ≡ true) ⌝ }
-    ensures { λ r. ⌜ Opened (now (kinds .entry)) 20 (headerOf whileWord) (world (now (ev .entry)) (now (dm .entry)) (now (ds .entry)) c0) (world (now (ev .exit)) (now (dm .exit)) (now (ds .exit)) r) ⌝ }
+    requires { ⌜ (at (is whileWord) (drop (c0 .pos) (now kinds)) ≡ true) ⌝ }
+    ensures { λ r. ⌜ Opened (now (kinds .entry)) 20 (headerOf whileWord) (entry ev dm ds c0) (exit ev dm ds r) ⌝ }
 {
     header(kinds, ev, dm, ds, c0, 20, WHILE)
 }
@@ -134,8 +134,8 @@ pub fn repeat_header(
     ds: &mut [u32],
     c0: Cursor,
 ) -> Cursor
-    requires { ⌜ (Ready 3 (now kinds) c0) × (at (is repeatWord) (drop (c0 .pos) (now kinds)) ≡ true) ⌝ }
-    ensures { λ r. ⌜ Opened (now (kinds .entry)) 22 (headerOf repeatWord) (world (now (ev .entry)) (now (dm .entry)) (now (ds .entry)) c0) (world (now (ev .exit)) (now (dm .exit)) (now (ds .exit)) r) ⌝ }
+    requires { ⌜ (at (is repeatWord) (drop (c0 .pos) (now kinds)) ≡ true) ⌝ }
+    ensures { λ r. ⌜ Opened (now (kinds .entry)) 22 (headerOf repeatWord) (entry ev dm ds c0) (exit ev dm ds r) ⌝ }
 {
     header(kinds, ev, dm, ds, c0, 22, REPEAT)
 }

@@ -7,7 +7,7 @@ use parser::cursor::error_here;
 use parser::cursor::put;
 use parser::look::eof;
 ghost use Rattle.grammar.specs.Block.{reject-excessive-control-flow-nesting as reject};
-ghost use Rattle.parser.specs.Rep.{world, Ready, Ran};
+ghost use Rattle.parser.specs.Rep.{entry, exit, Ran};
 
 // Past its test of the depth: an Error node around all that is left.
 pub fn reject_excessive_control_flow_nesting(
@@ -17,8 +17,7 @@ pub fn reject_excessive_control_flow_nesting(
     ds: &mut [u32],
     c0: Cursor,
 ) -> Cursor
-    requires { ⌜ Ready 2 (now kinds) c0 ⌝ }
-    ensures { λ r. ⌜ Ran 1 2 1 (now (kinds .entry)) reject (world (now (ev .entry)) (now (dm .entry)) (now (ds .entry)) c0) (world (now (ev .exit)) (now (dm .exit)) (now (ds .exit)) r) ⌝ }
+    ensures { λ r. ⌜ Ran (now (kinds .entry)) reject (entry ev dm ds c0) (exit ev dm ds r) ⌝ }
 {
     let a = put(ev, c0, 1);
     let mut c = error_here(dm, ds, a, Message::Block(BlockMessage::NestingTooDeep));

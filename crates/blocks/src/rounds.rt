@@ -12,7 +12,7 @@ use parser::cursor::Cursor;
 use parser::cursor::put;
 use parser::look::Remembered;
 use parser::look::current;
-ghost use Rattle.parser.specs.Rep.{world, Ready};
+ghost use Rattle.parser.specs.Rep.{entry, exit};
 ghost use Rattle.blocks.specs.Shapes.{ItemAt, FormHere, Rounded, Begun};
 
 // Control-flow nodes in one another.
@@ -43,8 +43,7 @@ fn form_here(
     c0: Cursor,
     depth: usize,
 ) -> Stopped
-    requires { ⌜ Ready 7 (now kinds) c0 ⌝ }
-    ensures { λ r. ⌜ FormHere (now (kinds .entry)) depth (world (now (ev .entry)) (now (dm .entry)) (now (ds .entry)) c0) (world (now (ev .exit)) (now (dm .exit)) (now (ds .exit)) (r .c)) (r .outcome) (r .item) (r .control) (r .word) ⌝ }
+    ensures { λ r. ⌜ FormHere (now (kinds .entry)) depth (entry ev dm ds c0) (exit ev dm ds (r .c)) (r .outcome) (r .item) (r .control) (r .word) ⌝ }
 {
     if MAX_CONTROL_FLOW_NESTING <= depth {
         let d = reject_excessive_control_flow_nesting(kinds, ev, dm, ds, c0);
@@ -79,8 +78,8 @@ fn rounds(
     place: Place,
     item0: bool,
 ) -> Stopped
-    requires { ⌜ (Ready 7 (now kinds) c0) × ItemAt (now kinds) (c0 .pos) item0 ⌝ }
-    ensures { λ r. ⌜ Rounded (now (kinds .entry)) (place .owner) (place .terminators) (place .depth) (world (now (ev .entry)) (now (dm .entry)) (now (ds .entry)) c0) (world (now (ev .exit)) (now (dm .exit)) (now (ds .exit)) (r .c)) (r .outcome) (r .item) (r .control) (r .word) ⌝ }
+    requires { ⌜ ItemAt (now kinds) (c0 .pos) item0 ⌝ }
+    ensures { λ r. ⌜ Rounded (now (kinds .entry)) (place .owner) (place .terminators) (place .depth) (entry ev dm ds c0) (exit ev dm ds (r .c)) (r .outcome) (r .item) (r .control) (r .word) ⌝ }
 {
     let owner = place.owner;
     let terminators = place.terminators;
@@ -130,8 +129,7 @@ pub fn first_rounds(
     c0: Cursor,
     place: Place,
 ) -> Stopped
-    requires { ⌜ Ready 8 (now kinds) c0 ⌝ }
-    ensures { λ r. ⌜ Begun (now (kinds .entry)) (place .owner) (place .terminators) (place .depth) (world (now (ev .entry)) (now (dm .entry)) (now (ds .entry)) c0) (world (now (ev .exit)) (now (dm .exit)) (now (ds .exit)) (r .c)) (r .outcome) (r .item) (r .control) (r .word) ⌝ }
+    ensures { λ r. ⌜ Begun (now (kinds .entry)) (place .owner) (place .terminators) (place .depth) (entry ev dm ds c0) (exit ev dm ds (r .c)) (r .outcome) (r .item) (r .control) (r .word) ⌝ }
 {
     let c = put(ev, c0, 18);
     rounds(kinds, ev, dm, ds, c, place, false)
@@ -147,8 +145,8 @@ pub fn next_rounds(
     place: Place,
     item0: bool,
 ) -> Stopped
-    requires { ⌜ (Ready 7 (now kinds) c0) × ItemAt (now kinds) (c0 .pos) item0 ⌝ }
-    ensures { λ r. ⌜ Rounded (now (kinds .entry)) (place .owner) (place .terminators) (place .depth) (world (now (ev .entry)) (now (dm .entry)) (now (ds .entry)) c0) (world (now (ev .exit)) (now (dm .exit)) (now (ds .exit)) (r .c)) (r .outcome) (r .item) (r .control) (r .word) ⌝ }
+    requires { ⌜ ItemAt (now kinds) (c0 .pos) item0 ⌝ }
+    ensures { λ r. ⌜ Rounded (now (kinds .entry)) (place .owner) (place .terminators) (place .depth) (entry ev dm ds c0) (exit ev dm ds (r .c)) (r .outcome) (r .item) (r .control) (r .word) ⌝ }
 {
     rounds(kinds, ev, dm, ds, c0, place, item0)
 }

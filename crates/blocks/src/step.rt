@@ -8,7 +8,7 @@ use parser::cursor::Cursor;
 use parser::cursor::bump;
 ghost use Rattle.grammar.specs.Bump.{error-token};
 ghost use Rattle.grammar.specs.declared.message.Message.the-variants.{Block as block};
-ghost use Rattle.parser.specs.Rep.{world, Ready, Ran};
+ghost use Rattle.parser.specs.Rep.{entry, exit, Ran};
 ghost use Rattle.blocks.specs.Arms.{taking};
 
 // An Error node around a token that has no place in a block.
@@ -20,8 +20,7 @@ fn bad_token(
     c0: Cursor,
     m: BlockMessage,
 ) -> Cursor
-    requires { ⌜ Ready 2 (now kinds) c0 ⌝ }
-    ensures { λ r. ⌜ Ran 1 2 1 (now (kinds .entry)) (error-token (block m)) (world (now (ev .entry)) (now (dm .entry)) (now (ds .entry)) c0) (world (now (ev .exit)) (now (dm .exit)) (now (ds .exit)) r) ⌝ }
+    ensures { λ r. ⌜ Ran (now (kinds .entry)) (error-token (block m)) (entry ev dm ds c0) (exit ev dm ds r) ⌝ }
 {
     error_token(kinds, ev, dm, ds, c0, Message::Block(m))
 }
@@ -34,8 +33,7 @@ pub fn take(
     c0: Cursor,
     t: Taken,
 ) -> Cursor
-    requires { ⌜ Ready 2 (now kinds) c0 ⌝ }
-    ensures { λ r. ⌜ Ran 2 2 1 (now (kinds .entry)) (taking t) (world (now (ev .entry)) (now (dm .entry)) (now (ds .entry)) c0) (world (now (ev .exit)) (now (dm .exit)) (now (ds .exit)) r) ⌝ }
+    ensures { λ r. ⌜ Ran (now (kinds .entry)) (taking t) (entry ev dm ds c0) (exit ev dm ds r) ⌝ }
 {
     match t {
         Taken::Trivia => bump(kinds, ev, dm, ds, c0),

@@ -16,7 +16,7 @@ ghost use mathlib.Core.List.{[], _∷_};
 ghost use Rattle.lexer.specs.Syntax.{Number, QuotedString};
 ghost use Rattle.grammar.specs.Look.{name-like, oneOf};
 ghost use Rattle.grammar.specs.Block.{suffix-operand, suffix-round, parse-structured-header-suffixes};
-ghost use Rattle.parser.specs.Rep.{world, Ready, Ran, RanTo};
+ghost use Rattle.parser.specs.Rep.{entry, exit, Ran, RanTo};
 
 // The kinds of a name, and Number and QuotedString, as bits.
 const OPERANDS: u64 = 0xf80000000;
@@ -29,8 +29,7 @@ fn is_operand(k: u16) -> bool
 
 // Behind the dot: whether an operand stands there.
 fn suffix_operand(kinds: &[u16], ev: &mut [u16], dm: &mut [u16], ds: &mut [u32], c0: Cursor) -> Flow
-    requires { ⌜ Ready 2 (now kinds) c0 ⌝ }
-    ensures { λ r. ⌜ RanTo 1 0 2 (now (kinds .entry)) suffix-operand (world (now (ev .entry)) (now (dm .entry)) (now (ds .entry)) c0) (world (now (ev .exit)) (now (dm .exit)) (now (ds .exit)) (r .c)) (r .ok) ⌝ }
+    ensures { λ r. ⌜ RanTo (now (kinds .entry)) suffix-operand (entry ev dm ds c0) (exit ev dm ds (r .c)) (r .ok) ⌝ }
 {
     let k = current(kinds, c0.pos);
     if k == 47 {
@@ -56,8 +55,7 @@ fn suffix_operand(kinds: &[u16], ev: &mut [u16], dm: &mut [u16], ds: &mut [u32],
 
 // Whether there is a further suffix.
 fn suffix_round(kinds: &[u16], ev: &mut [u16], dm: &mut [u16], ds: &mut [u32], c0: Cursor) -> Flow
-    requires { ⌜ Ready 2 (now kinds) c0 ⌝ }
-    ensures { λ r. ⌜ RanTo 3 0 0 (now (kinds .entry)) suffix-round (world (now (ev .entry)) (now (dm .entry)) (now (ds .entry)) c0) (world (now (ev .exit)) (now (dm .exit)) (now (ds .exit)) (r .c)) (r .ok) ⌝ }
+    ensures { λ r. ⌜ RanTo (now (kinds .entry)) suffix-round (entry ev dm ds c0) (exit ev dm ds (r .c)) (r .ok) ⌝ }
 {
     let a = bump_inline_whitespace(kinds, ev, dm, ds, c0);
     if !at_kind(kinds, a.pos, 41) {
@@ -75,8 +73,7 @@ pub fn parse_structured_header_suffixes(
     ds: &mut [u32],
     c0: Cursor,
 ) -> Cursor
-    requires { ⌜ Ready 2 (now kinds) c0 ⌝ }
-    ensures { λ r. ⌜ Ran 3 0 0 (now (kinds .entry)) parse-structured-header-suffixes (world (now (ev .entry)) (now (dm .entry)) (now (ds .entry)) c0) (world (now (ev .exit)) (now (dm .exit)) (now (ds .exit)) r) ⌝ }
+    ensures { λ r. ⌜ Ran (now (kinds .entry)) parse-structured-header-suffixes (entry ev dm ds c0) (exit ev dm ds r) ⌝ }
 {
     let mut c = c0;
     loop {

@@ -9,7 +9,7 @@ use parser::cursor::Cursor;
 use parser::cursor::put;
 use parser::kinds::ADV_MAP;
 ghost use Rattle.grammar.specs.Item.{parse-advice-map};
-ghost use Rattle.parser.specs.Rep.{world, Ready, Ran};
+ghost use Rattle.parser.specs.Rep.{entry, exit, Ran};
 
 const ADVICE_MAP: u16 = 12;
 
@@ -20,8 +20,7 @@ pub fn parse_advice_map(
     ds: &mut [u32],
     c0: Cursor,
 ) -> Cursor
-    requires { ⌜ Ready 8 (now kinds) c0 ⌝ }
-    ensures { λ r. ⌜ Ran 2 4 5 (now (kinds .entry)) parse-advice-map (world (now (ev .entry)) (now (dm .entry)) (now (ds .entry)) c0) (world (now (ev .exit)) (now (dm .exit)) (now (ds .exit)) r) ⌝ }
+    ensures { λ r. ⌜ Ran (now (kinds .entry)) parse-advice-map (entry ev dm ds c0) (exit ev dm ds r) ⌝ }
 {
     let a = put(ev, c0, ADVICE_MAP);
     let b = keyword_and_name(

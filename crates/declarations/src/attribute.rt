@@ -11,7 +11,7 @@ use parser::cursor::put;
 use parser::look::at_kind;
 ghost use Rattle.grammar.specs.Run.{loop};
 ghost use Rattle.grammar.specs.Item.{parse-attribute, attribute-round};
-ghost use Rattle.parser.specs.Rep.{world, Ready, Ran, RanTo};
+ghost use Rattle.parser.specs.Rep.{entry, exit, Ran, RanTo};
 
 const ATTRIBUTE: u16 = 15;
 
@@ -24,8 +24,7 @@ pub fn parse_attribute(
     ds: &mut [u32],
     c0: Cursor,
 ) -> Cursor
-    requires { ⌜ Ready 5 (now kinds) c0 ⌝ }
-    ensures { λ r. ⌜ Ran 1 2 4 (now (kinds .entry)) parse-attribute (world (now (ev .entry)) (now (dm .entry)) (now (ds .entry)) c0) (world (now (ev .exit)) (now (dm .exit)) (now (ds .exit)) r) ⌝ }
+    ensures { λ r. ⌜ Ran (now (kinds .entry)) parse-attribute (entry ev dm ds c0) (exit ev dm ds r) ⌝ }
 {
     let a = put(ev, c0, ATTRIBUTE);
     let b = keyword_and_name(
@@ -58,8 +57,7 @@ fn attribute_round(
     ds: &mut [u32],
     c0: Cursor,
 ) -> Flow
-    requires { ⌜ Ready 5 (now kinds) c0 ⌝ }
-    ensures { λ r. ⌜ RanTo 1 2 4 (now (kinds .entry)) attribute-round (world (now (ev .entry)) (now (dm .entry)) (now (ds .entry)) c0) (world (now (ev .exit)) (now (dm .exit)) (now (ds .exit)) (r .c)) (r .ok) ⌝ }
+    ensures { λ r. ⌜ RanTo (now (kinds .entry)) attribute-round (entry ev dm ds c0) (exit ev dm ds (r .c)) (r .ok) ⌝ }
 {
     let a = bump_regular_trivia(kinds, ev, dm, ds, c0);
     if at_kind(kinds, a.pos, AT) {
@@ -76,8 +74,7 @@ pub fn attributes(
     ds: &mut [u32],
     c0: Cursor,
 ) -> Cursor
-    requires { ⌜ Ready 5 (now kinds) c0 ⌝ }
-    ensures { λ r. ⌜ Ran 7 2 4 (now (kinds .entry)) (loop attribute-round) (world (now (ev .entry)) (now (dm .entry)) (now (ds .entry)) c0) (world (now (ev .exit)) (now (dm .exit)) (now (ds .exit)) r) ⌝ }
+    ensures { λ r. ⌜ Ran (now (kinds .entry)) (loop attribute-round) (entry ev dm ds c0) (exit ev dm ds r) ⌝ }
 {
     let mut c = c0;
     loop {

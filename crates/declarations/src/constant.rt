@@ -8,7 +8,7 @@ use parser::cursor::Cursor;
 use parser::cursor::put;
 use parser::kinds::CONST;
 ghost use Rattle.grammar.specs.Item.{parse-constant};
-ghost use Rattle.parser.specs.Rep.{world, Ready, Ran};
+ghost use Rattle.parser.specs.Rep.{entry, exit, Ran};
 
 const CONSTANT: u16 = 10;
 
@@ -19,8 +19,7 @@ pub fn parse_constant(
     ds: &mut [u32],
     c0: Cursor,
 ) -> Cursor
-    requires { ⌜ Ready 8 (now kinds) c0 ⌝ }
-    ensures { λ r. ⌜ Ran 2 6 6 (now (kinds .entry)) parse-constant (world (now (ev .entry)) (now (dm .entry)) (now (ds .entry)) c0) (world (now (ev .exit)) (now (dm .exit)) (now (ds .exit)) r) ⌝ }
+    ensures { λ r. ⌜ Ran (now (kinds .entry)) parse-constant (entry ev dm ds c0) (exit ev dm ds r) ⌝ }
 {
     let a = put(ev, c0, CONSTANT);
     let b = optional_visibility(kinds, ev, dm, ds, a);

@@ -9,7 +9,7 @@ use parser::cursor::Cursor;
 use parser::cursor::put;
 use parser::kinds::NAMESPACE;
 ghost use Rattle.grammar.specs.Item.{parse-namespace};
-ghost use Rattle.parser.specs.Rep.{world, Ready, Ran};
+ghost use Rattle.parser.specs.Rep.{entry, exit, Ran};
 
 // The node's kind; NAMESPACE is the word.
 const NAMESPACE_NODE: u16 = 4;
@@ -21,8 +21,7 @@ pub fn parse_namespace(
     ds: &mut [u32],
     c0: Cursor,
 ) -> Cursor
-    requires { ⌜ Ready 4 (now kinds) c0 ⌝ }
-    ensures { λ r. ⌜ Ran 2 4 2 (now (kinds .entry)) parse-namespace (world (now (ev .entry)) (now (dm .entry)) (now (ds .entry)) c0) (world (now (ev .exit)) (now (dm .exit)) (now (ds .exit)) r) ⌝ }
+    ensures { λ r. ⌜ Ran (now (kinds .entry)) parse-namespace (entry ev dm ds c0) (exit ev dm ds r) ⌝ }
 {
     let a = put(ev, c0, NAMESPACE_NODE);
     let b = expect_kind(kinds, ev, dm, ds, a, NAMESPACE, Message::Unreached);

@@ -8,7 +8,7 @@ use parser::bump::expect_kind;
 use parser::bump::expect_name;
 use parser::cursor::Cursor;
 use parser::look::at_kind;
-ghost use Rattle.parser.specs.Rep.{world, Ready, Ran};
+ghost use Rattle.parser.specs.Rep.{entry, exit, Ran};
 ghost use Rattle.declarations.specs.Parts.{keyword-and-name, optional-parens, value-line};
 
 const EQUAL: u16 = 44;
@@ -28,8 +28,7 @@ pub fn keyword_and_name(
     m: Message,
     name: Message,
 ) -> Cursor
-    requires { ⌜ Ready 2 (now kinds) c0 ⌝ }
-    ensures { λ r. ⌜ Ran 1 0 2 (now (kinds .entry)) (keyword-and-name k m name) (world (now (ev .entry)) (now (dm .entry)) (now (ds .entry)) c0) (world (now (ev .exit)) (now (dm .exit)) (now (ds .exit)) r) ⌝ }
+    ensures { λ r. ⌜ Ran (now (kinds .entry)) (keyword-and-name k m name) (entry ev dm ds c0) (exit ev dm ds r) ⌝ }
 {
     let a = expect_kind(kinds, ev, dm, ds, c0, k, m);
     let ac = a.c;
@@ -46,8 +45,7 @@ pub fn optional_parens(
     c0: Cursor,
     missing: Message,
 ) -> Cursor
-    requires { ⌜ Ready 2 (now kinds) c0 ⌝ }
-    ensures { λ r. ⌜ Ran 1 0 2 (now (kinds .entry)) (optional-parens missing) (world (now (ev .entry)) (now (dm .entry)) (now (ds .entry)) c0) (world (now (ev .exit)) (now (dm .exit)) (now (ds .exit)) r) ⌝ }
+    ensures { λ r. ⌜ Ran (now (kinds .entry)) (optional-parens missing) (entry ev dm ds c0) (exit ev dm ds r) ⌝ }
 {
     if at_kind(kinds, c0.pos, L_PAREN) {
         return parse_balanced_group(kinds, ev, dm, ds, c0, L_PAREN, R_PAREN, missing);
@@ -64,8 +62,7 @@ pub fn value_line(
     c0: Cursor,
     missing: Message,
 ) -> Cursor
-    requires { ⌜ Ready 3 (now kinds) c0 ⌝ }
-    ensures { λ r. ⌜ Ran 2 2 1 (now (kinds .entry)) (value-line missing) (world (now (ev .entry)) (now (dm .entry)) (now (ds .entry)) c0) (world (now (ev .exit)) (now (dm .exit)) (now (ds .exit)) r) ⌝ }
+    ensures { λ r. ⌜ Ran (now (kinds .entry)) (value-line missing) (entry ev dm ds c0) (exit ev dm ds r) ⌝ }
 {
     let a = expect_kind(kinds, ev, dm, ds, c0, EQUAL, missing);
     let ac = a.c;

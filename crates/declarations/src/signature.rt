@@ -12,7 +12,7 @@ use parser::cursor::put;
 use parser::look::at_kind;
 use parser::look::peek_after_non_comment_trivia;
 ghost use Rattle.grammar.specs.Item.{parse-results, parse-signature};
-ghost use Rattle.parser.specs.Rep.{world, Ready, Ran};
+ghost use Rattle.parser.specs.Rep.{entry, exit, Ran};
 
 const SIGNATURE: u16 = 17;
 
@@ -26,8 +26,7 @@ fn parse_results(
     ds: &mut [u32],
     c0: Cursor,
 ) -> Cursor
-    requires { ⌜ Ready 2 (now kinds) c0 ⌝ }
-    ensures { λ r. ⌜ Ran 2 0 2 (now (kinds .entry)) parse-results (world (now (ev .entry)) (now (dm .entry)) (now (ds .entry)) c0) (world (now (ev .exit)) (now (dm .exit)) (now (ds .exit)) r) ⌝ }
+    ensures { λ r. ⌜ Ran (now (kinds .entry)) parse-results (entry ev dm ds c0) (exit ev dm ds r) ⌝ }
 {
     let a = bump_non_comment_trivia(kinds, ev, dm, ds, c0);
     let b = bump(kinds, ev, dm, ds, a);
@@ -54,8 +53,7 @@ pub fn parse_signature(
     ds: &mut [u32],
     c0: Cursor,
 ) -> Cursor
-    requires { ⌜ Ready 4 (now kinds) c0 ⌝ }
-    ensures { λ r. ⌜ Ran 2 2 4 (now (kinds .entry)) parse-signature (world (now (ev .entry)) (now (dm .entry)) (now (ds .entry)) c0) (world (now (ev .exit)) (now (dm .exit)) (now (ds .exit)) r) ⌝ }
+    ensures { λ r. ⌜ Ran (now (kinds .entry)) parse-signature (entry ev dm ds c0) (exit ev dm ds r) ⌝ }
 {
     let a = put(ev, c0, SIGNATURE);
     let b = parse_balanced_group(

@@ -8,7 +8,7 @@ use parser::cursor::Cursor;
 use parser::cursor::put;
 use parser::kinds::MOD;
 ghost use Rattle.grammar.specs.Item.{parse-submodule};
-ghost use Rattle.parser.specs.Rep.{world, Ready, Ran};
+ghost use Rattle.parser.specs.Rep.{entry, exit, Ran};
 
 const SUBMODULE: u16 = 6;
 
@@ -19,8 +19,7 @@ pub fn parse_submodule(
     ds: &mut [u32],
     c0: Cursor,
 ) -> Cursor
-    requires { ⌜ Ready 6 (now kinds) c0 ⌝ }
-    ensures { λ r. ⌜ Ran 1 4 5 (now (kinds .entry)) parse-submodule (world (now (ev .entry)) (now (dm .entry)) (now (ds .entry)) c0) (world (now (ev .exit)) (now (dm .exit)) (now (ds .exit)) r) ⌝ }
+    ensures { λ r. ⌜ Ran (now (kinds .entry)) parse-submodule (entry ev dm ds c0) (exit ev dm ds r) ⌝ }
 {
     let a = put(ev, c0, SUBMODULE);
     let b = optional_visibility(kinds, ev, dm, ds, a);

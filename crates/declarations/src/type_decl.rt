@@ -23,7 +23,7 @@ ghost use Rattle.grammar.specs.Run.{scan};
 ghost use Rattle.grammar.specs.Nesting.{default};
 ghost use Rattle.grammar.specs.Line.{type-round, parse-type-body};
 ghost use Rattle.grammar.specs.Item.{type-name-and-body, parse-type-decl};
-ghost use Rattle.parser.specs.Rep.{world, Ready, Ran};
+ghost use Rattle.parser.specs.Rep.{entry, exit, Ran};
 ghost use Rattle.parser.specs.Ahead.{BreakKnown};
 ghost use Rattle.declarations.specs.Parts.{type-keyword, type-ends};
 
@@ -69,8 +69,7 @@ fn at_type_end(kinds: &[u16], p: usize, nesting: Nesting, known: Remembered) -> 
 }
 
 fn type_tokens(kinds: &[u16], ev: &mut [u16], dm: &mut [u16], ds: &mut [u32], c0: Cursor) -> Cursor
-    requires { ⌜ Ready 0 (now kinds) c0 ⌝ }
-    ensures { λ r. ⌜ Ran 2 0 0 (now (kinds .entry)) (scan type-round default) (world (now (ev .entry)) (now (dm .entry)) (now (ds .entry)) c0) (world (now (ev .exit)) (now (dm .exit)) (now (ds .exit)) r) ⌝ }
+    ensures { λ r. ⌜ Ran (now (kinds .entry)) (scan type-round default) (entry ev dm ds c0) (exit ev dm ds r) ⌝ }
 {
     let mut c = c0;
     let mut nesting = Nesting::new();
@@ -99,8 +98,7 @@ pub fn parse_type_body(
     ds: &mut [u32],
     c0: Cursor,
 ) -> Cursor
-    requires { ⌜ Ready 2 (now kinds) c0 ⌝ }
-    ensures { λ r. ⌜ Ran 2 2 0 (now (kinds .entry)) parse-type-body (world (now (ev .entry)) (now (dm .entry)) (now (ds .entry)) c0) (world (now (ev .exit)) (now (dm .exit)) (now (ds .exit)) r) ⌝ }
+    ensures { λ r. ⌜ Ran (now (kinds .entry)) parse-type-body (entry ev dm ds c0) (exit ev dm ds r) ⌝ }
 {
     let a = put(ev, c0, TYPE_BODY);
     let b = type_tokens(kinds, ev, dm, ds, a);
@@ -115,8 +113,7 @@ fn type_name_and_body(
     ds: &mut [u32],
     c0: Cursor,
 ) -> Cursor
-    requires { ⌜ Ready 4 (now kinds) c0 ⌝ }
-    ensures { λ r. ⌜ Ran 2 2 2 (now (kinds .entry)) type-name-and-body (world (now (ev .entry)) (now (dm .entry)) (now (ds .entry)) c0) (world (now (ev .exit)) (now (dm .exit)) (now (ds .exit)) r) ⌝ }
+    ensures { λ r. ⌜ Ran (now (kinds .entry)) type-name-and-body (entry ev dm ds c0) (exit ev dm ds r) ⌝ }
 {
     let a = bump_regular_trivia(kinds, ev, dm, ds, c0);
     let b = expect_name(
@@ -141,8 +138,7 @@ fn type_name_and_body(
 
 // The keyword and what stands behind it, or a diagnostic.
 fn type_keyword(kinds: &[u16], ev: &mut [u16], dm: &mut [u16], ds: &mut [u32], c0: Cursor) -> Cursor
-    requires { ⌜ Ready 4 (now kinds) c0 ⌝ }
-    ensures { λ r. ⌜ Ran 2 2 2 (now (kinds .entry)) type-keyword (world (now (ev .entry)) (now (dm .entry)) (now (ds .entry)) c0) (world (now (ev .exit)) (now (dm .exit)) (now (ds .exit)) r) ⌝ }
+    ensures { λ r. ⌜ Ran (now (kinds .entry)) type-keyword (entry ev dm ds c0) (exit ev dm ds r) ⌝ }
 {
     if in_words(TYPE_WORDS, current(kinds, c0.pos)) {
         let a = bump(kinds, ev, dm, ds, c0);
@@ -158,8 +154,7 @@ pub fn parse_type_decl(
     ds: &mut [u32],
     c0: Cursor,
 ) -> Cursor
-    requires { ⌜ Ready 8 (now kinds) c0 ⌝ }
-    ensures { λ r. ⌜ Ran 2 6 5 (now (kinds .entry)) parse-type-decl (world (now (ev .entry)) (now (dm .entry)) (now (ds .entry)) c0) (world (now (ev .exit)) (now (dm .exit)) (now (ds .exit)) r) ⌝ }
+    ensures { λ r. ⌜ Ran (now (kinds .entry)) parse-type-decl (entry ev dm ds c0) (exit ev dm ds r) ⌝ }
 {
     let a = put(ev, c0, TYPE_DECL);
     let b = optional_visibility(kinds, ev, dm, ds, a);

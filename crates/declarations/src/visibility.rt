@@ -13,7 +13,7 @@ use parser::kinds::PUB;
 use parser::look::at_kind;
 use parser::look::next_relevant_top_level_token;
 ghost use Rattle.grammar.specs.Item.{package-in-parens, parse-visibility, optional-visibility};
-ghost use Rattle.parser.specs.Rep.{world, Ready, Ran};
+ghost use Rattle.parser.specs.Rep.{entry, exit, Ran};
 
 const VISIBILITY: u16 = 16;
 
@@ -25,8 +25,7 @@ fn package_in_parens(
     ds: &mut [u32],
     c0: Cursor,
 ) -> Cursor
-    requires { ⌜ Ready 2 (now kinds) c0 ⌝ }
-    ensures { λ r. ⌜ Ran 1 0 2 (now (kinds .entry)) package-in-parens (world (now (ev .entry)) (now (dm .entry)) (now (ds .entry)) c0) (world (now (ev .exit)) (now (dm .exit)) (now (ds .exit)) r) ⌝ }
+    ensures { λ r. ⌜ Ran (now (kinds .entry)) package-in-parens (entry ev dm ds c0) (exit ev dm ds r) ⌝ }
 {
     let a = bump_regular_trivia(kinds, ev, dm, ds, c0);
     let b = bump(kinds, ev, dm, ds, a);
@@ -59,8 +58,7 @@ pub fn parse_visibility(
     ds: &mut [u32],
     c0: Cursor,
 ) -> Cursor
-    requires { ⌜ Ready 3 (now kinds) c0 ⌝ }
-    ensures { λ r. ⌜ Ran 1 2 3 (now (kinds .entry)) parse-visibility (world (now (ev .entry)) (now (dm .entry)) (now (ds .entry)) c0) (world (now (ev .exit)) (now (dm .exit)) (now (ds .exit)) r) ⌝ }
+    ensures { λ r. ⌜ Ran (now (kinds .entry)) parse-visibility (entry ev dm ds c0) (exit ev dm ds r) ⌝ }
 {
     let a = put(ev, c0, VISIBILITY);
     let b = expect_kind(kinds, ev, dm, ds, a, PUB, Message::Unreached);
@@ -81,8 +79,7 @@ pub fn optional_visibility(
     ds: &mut [u32],
     c0: Cursor,
 ) -> Cursor
-    requires { ⌜ Ready 3 (now kinds) c0 ⌝ }
-    ensures { λ r. ⌜ Ran 1 2 3 (now (kinds .entry)) optional-visibility (world (now (ev .entry)) (now (dm .entry)) (now (ds .entry)) c0) (world (now (ev .exit)) (now (dm .exit)) (now (ds .exit)) r) ⌝ }
+    ensures { λ r. ⌜ Ran (now (kinds .entry)) optional-visibility (entry ev dm ds c0) (exit ev dm ds r) ⌝ }
 {
     if at_kind(kinds, c0.pos, PUB) {
         return parse_visibility(kinds, ev, dm, ds, c0);

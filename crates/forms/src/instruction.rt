@@ -29,7 +29,7 @@ ghost use Rattle.grammar.specs.Look.{at};
 ghost use Rattle.grammar.specs.Run.{scan};
 ghost use Rattle.grammar.specs.Nesting.{default};
 ghost use Rattle.grammar.specs.Instruction.{is-some, expects-operand, should-continue-instruction-after-whitespace as shouldContinue, should-stop-instruction-before as shouldStop, instruction-round, before-first, parse-instruction};
-ghost use Rattle.parser.specs.Rep.{world, Ready, Ran};
+ghost use Rattle.parser.specs.Rep.{entry, exit, Ran};
 ghost use Rattle.grammar.specs.declared.nesting.Significant.the-variants.{Kind};
 ghost use Rattle.forms.specs.Instruction.{starts-next, instruction-ends, behind, open-behind, Led};
 
@@ -64,7 +64,6 @@ pub fn should_continue_instruction_after_whitespace(
     previous: Significant,
     nesting: Nesting,
 ) -> bool
-    requires { ⌜ p ≤ length (now kinds) ⌝ }
     ensures { λ r. ⌜ r ≡ shouldContinue previous nesting (drop p (now (kinds .entry))) ⌝ }
 {
     if !nesting.is_root() {
@@ -82,7 +81,7 @@ pub fn should_continue_instruction_after_whitespace(
 
 // A terminator, an operation, or what ends a block that lacks its `end`; not asked at a doc comment.
 fn at_next(kinds: &[u16], p: usize) -> bool
-    requires { ⌜ (p ≤ length (now kinds)) × (at (is DocComment) (drop p (now kinds)) ≡ false) ⌝ }
+    requires { ⌜ at (is DocComment) (drop p (now kinds)) ≡ false ⌝ }
     ensures { λ r. ⌜ r ≡ starts-next (drop p (now (kinds .entry))) ⌝ }
 {
     if at_terminator(kinds, p, Terminators::ElseEnd) {
@@ -104,7 +103,7 @@ pub fn should_stop_instruction_before(
     previous: Significant,
     nesting: Nesting,
 ) -> bool
-    requires { ⌜ (p ≤ length (now kinds)) × (at (is DocComment) (drop p (now kinds)) ≡ false) ⌝ }
+    requires { ⌜ at (is DocComment) (drop p (now kinds)) ≡ false ⌝ }
     ensures { λ r. ⌜ r ≡ shouldStop previous nesting (drop p (now (kinds .entry))) ⌝ }
 {
     if !nesting.is_root() {
@@ -121,7 +120,6 @@ pub fn should_stop_instruction_before(
 
 // Whether an instruction ends before the token here.
 fn at_instruction_end(kinds: &[u16], p: usize, previous: Significant, nesting: Nesting) -> bool
-    requires { ⌜ p ≤ length (now kinds) ⌝ }
     ensures { λ r. ⌜ r ≡ instruction-ends previous nesting (drop p (now (kinds .entry))) ⌝ }
 {
     let k = current(kinds, p);
@@ -160,7 +158,6 @@ struct Lead {
 
 // The first rounds, for as long as one look at the token tells that it is taken and all that it changes is `previous`.
 fn plain_tokens(kinds: &[u16], ev: &mut [u16], c0: Cursor) -> Lead
-    requires { ⌜ Ready 0 (now kinds) c0 ⌝ }
     ensures { λ r. ⌜ Led (now (kinds .entry)) (now (ev .entry)) c0 (now (ev .exit)) (r .c) (r .previous) ⌝ }
 {
     let mut c = c0;
@@ -183,7 +180,6 @@ const GOES_ON: u64 = 0xef61fc008000000;
 
 // Whether one or two tokens tell that an instruction ends here, outside delimiters. Mostly they do.
 fn ends_plainly(kinds: &[u16], p: usize, previous: Significant) -> bool
-    requires { ⌜ p ≤ length (now kinds) ⌝ }
     ensures { λ r. ⌜ (r ≡ true → instruction-ends previous default (drop p (now (kinds .entry))) ≡ true) ⌝ }
 {
     let k = current(kinds, p);
@@ -208,8 +204,7 @@ fn further_tokens(
     c0: Cursor,
     previous0: Significant,
 ) -> Cursor
-    requires { ⌜ Ready 0 (now kinds) c0 ⌝ }
-    ensures { λ r. ⌜ Ran 2 0 0 (now (kinds .entry)) (scan instruction-round (behind previous0)) (world (now (ev .entry)) (now (dm .entry)) (now (ds .entry)) c0) (world (now (ev .exit)) (now (dm .exit)) (now (ds .exit)) r) ⌝ }
+    ensures { λ r. ⌜ Ran (now (kinds .entry)) (scan instruction-round (behind previous0)) (entry ev dm ds c0) (exit ev dm ds r) ⌝ }
 {
     let mut c = c0;
     let mut nesting = Nesting::new();
@@ -239,8 +234,7 @@ fn instruction_tokens(
     ds: &mut [u32],
     c0: Cursor,
 ) -> Cursor
-    requires { ⌜ Ready 0 (now kinds) c0 ⌝ }
-    ensures { λ r. ⌜ Ran 2 0 0 (now (kinds .entry)) (scan instruction-round before-first) (world (now (ev .entry)) (now (dm .entry)) (now (ds .entry)) c0) (world (now (ev .exit)) (now (dm .exit)) (now (ds .exit)) r) ⌝ }
+    ensures { λ r. ⌜ Ran (now (kinds .entry)) (scan instruction-round before-first) (entry ev dm ds c0) (exit ev dm ds r) ⌝ }
 {
     let lead = plain_tokens(kinds, ev, c0);
     let c = lead.c;
@@ -258,8 +252,7 @@ pub fn parse_instruction(
     ds: &mut [u32],
     c0: Cursor,
 ) -> Cursor
-    requires { ⌜ Ready 2 (now kinds) c0 ⌝ }
-    ensures { λ r. ⌜ Ran 2 2 0 (now (kinds .entry)) parse-instruction (world (now (ev .entry)) (now (dm .entry)) (now (ds .entry)) c0) (world (now (ev .exit)) (now (dm .exit)) (now (ds .exit)) r) ⌝ }
+    ensures { λ r. ⌜ Ran (now (kinds .entry)) parse-instruction (entry ev dm ds c0) (exit ev dm ds r) ⌝ }
 {
     let a = put(ev, c0, INSTRUCTION);
     let b = instruction_tokens(kinds, ev, dm, ds, a);

@@ -22,7 +22,7 @@ ghost use lib.ListN.{length, drop};
 ghost use Rattle.grammar.specs.Look.{is-trivia};
 ghost use Rattle.grammar.specs.Run.{scan};
 ghost use Rattle.grammar.specs.Line.{parse-line-tail, expr-round, no-token, parse-expr-until-line-end, parse-signature-result-until-line-end};
-ghost use Rattle.parser.specs.Rep.{world, Ready, Ran};
+ghost use Rattle.parser.specs.Rep.{entry, exit, Ran};
 ghost use Rattle.forms.specs.Line.{line-ends, expr-ends, result-end};
 
 const EXPR: u16 = 25;
@@ -42,8 +42,7 @@ pub fn parse_line_tail(
     ds: &mut [u32],
     c0: Cursor,
 ) -> Cursor
-    requires { ⌜ Ready 0 (now kinds) c0 ⌝ }
-    ensures { λ r. ⌜ Ran 1 0 0 (now (kinds .entry)) parse-line-tail (world (now (ev .entry)) (now (dm .entry)) (now (ds .entry)) c0) (world (now (ev .exit)) (now (dm .exit)) (now (ds .exit)) r) ⌝ }
+    ensures { λ r. ⌜ Ran (now (kinds .entry)) parse-line-tail (entry ev dm ds c0) (exit ev dm ds r) ⌝ }
 {
     let mut c = c0;
     while at_kind(kinds, c.pos, WHITESPACE) {
@@ -76,7 +75,6 @@ fn at_line_end(kinds: &[u16], p: usize, nesting: Nesting) -> bool
 
 // Whether an expression ends here: where the line does, or where whitespace stands before the next item.
 fn at_expr_end(kinds: &[u16], p: usize, nesting: Nesting, saw: bool) -> bool
-    requires { ⌜ p ≤ length (now kinds) ⌝ }
     ensures { λ r. ⌜ r ≡ expr-ends nesting saw (drop p (now (kinds .entry))) ⌝ }
 {
     if at_line_end(kinds, p, nesting) {
@@ -96,8 +94,7 @@ fn at_expr_end(kinds: &[u16], p: usize, nesting: Nesting, saw: bool) -> bool
 }
 
 fn expr_tokens(kinds: &[u16], ev: &mut [u16], dm: &mut [u16], ds: &mut [u32], c0: Cursor) -> Cursor
-    requires { ⌜ Ready 0 (now kinds) c0 ⌝ }
-    ensures { λ r. ⌜ Ran 2 0 0 (now (kinds .entry)) (scan expr-round no-token) (world (now (ev .entry)) (now (dm .entry)) (now (ds .entry)) c0) (world (now (ev .exit)) (now (dm .exit)) (now (ds .exit)) r) ⌝ }
+    ensures { λ r. ⌜ Ran (now (kinds .entry)) (scan expr-round no-token) (entry ev dm ds c0) (exit ev dm ds r) ⌝ }
 {
     let mut c = c0;
     let mut nesting = Nesting::new();
@@ -123,8 +120,7 @@ pub fn parse_expr_until_line_end(
     ds: &mut [u32],
     c0: Cursor,
 ) -> Cursor
-    requires { ⌜ Ready 2 (now kinds) c0 ⌝ }
-    ensures { λ r. ⌜ Ran 2 2 0 (now (kinds .entry)) parse-expr-until-line-end (world (now (ev .entry)) (now (dm .entry)) (now (ds .entry)) c0) (world (now (ev .exit)) (now (dm .exit)) (now (ds .exit)) r) ⌝ }
+    ensures { λ r. ⌜ Ran (now (kinds .entry)) parse-expr-until-line-end (entry ev dm ds c0) (exit ev dm ds r) ⌝ }
 {
     let a = bump_regular_trivia(kinds, ev, dm, ds, c0);
     let b = put(ev, a, EXPR);
@@ -141,8 +137,7 @@ fn result_end(
     c0: Cursor,
     taken: bool,
 ) -> Cursor
-    requires { ⌜ Ready 1 (now kinds) c0 ⌝ }
-    ensures { λ r. ⌜ Ran 1 0 1 (now (kinds .entry)) (result-end taken) (world (now (ev .entry)) (now (dm .entry)) (now (ds .entry)) c0) (world (now (ev .exit)) (now (dm .exit)) (now (ds .exit)) r) ⌝ }
+    ensures { λ r. ⌜ Ran (now (kinds .entry)) (result-end taken) (entry ev dm ds c0) (exit ev dm ds r) ⌝ }
 {
     if taken {
         return c0;
@@ -162,8 +157,7 @@ pub fn parse_signature_result_until_line_end(
     ds: &mut [u32],
     c0: Cursor,
 ) -> Cursor
-    requires { ⌜ Ready 1 (now kinds) c0 ⌝ }
-    ensures { λ r. ⌜ Ran 2 0 1 (now (kinds .entry)) parse-signature-result-until-line-end (world (now (ev .entry)) (now (dm .entry)) (now (ds .entry)) c0) (world (now (ev .exit)) (now (dm .exit)) (now (ds .exit)) r) ⌝ }
+    ensures { λ r. ⌜ Ran (now (kinds .entry)) parse-signature-result-until-line-end (entry ev dm ds c0) (exit ev dm ds r) ⌝ }
 {
     let mut c = c0;
     let mut nesting = Nesting::new();

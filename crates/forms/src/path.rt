@@ -19,7 +19,7 @@ ghost use mathlib.Core.Path.{_≡_};
 ghost use Prim.Native.Nat.{_<_, _^_};
 ghost use Rattle.grammar.specs.Run.{loop};
 ghost use Rattle.grammar.specs.Path.{path-segment, path-round, parse-path-with-message, parse-balanced-group};
-ghost use Rattle.parser.specs.Rep.{world, Ready, Ran, RanTo};
+ghost use Rattle.parser.specs.Rep.{entry, exit, Ran, RanTo};
 ghost use Rattle.forms.specs.Path.{path-names, group-step, group-rest};
 
 const PATH: u16 = 24;
@@ -28,8 +28,7 @@ const COLON_COLON: u16 = 39;
 
 // A further segment of a path, at its `::`.
 fn path_segment(kinds: &[u16], ev: &mut [u16], dm: &mut [u16], ds: &mut [u32], c0: Cursor) -> Flow
-    requires { ⌜ Ready 1 (now kinds) c0 ⌝ }
-    ensures { λ r. ⌜ RanTo 1 0 1 (now (kinds .entry)) path-segment (world (now (ev .entry)) (now (dm .entry)) (now (ds .entry)) c0) (world (now (ev .exit)) (now (dm .exit)) (now (ds .exit)) (r .c)) (r .ok) ⌝ }
+    ensures { λ r. ⌜ RanTo (now (kinds .entry)) path-segment (entry ev dm ds c0) (exit ev dm ds (r .c)) (r .ok) ⌝ }
 {
     let a = bump_non_comment_trivia(kinds, ev, dm, ds, c0);
     let b = bump(kinds, ev, dm, ds, a);
@@ -49,8 +48,7 @@ fn path_segments(
     ds: &mut [u32],
     c0: Cursor,
 ) -> Cursor
-    requires { ⌜ Ready 1 (now kinds) c0 ⌝ }
-    ensures { λ r. ⌜ Ran 2 0 1 (now (kinds .entry)) (loop path-round) (world (now (ev .entry)) (now (dm .entry)) (now (ds .entry)) c0) (world (now (ev .exit)) (now (dm .exit)) (now (ds .exit)) r) ⌝ }
+    ensures { λ r. ⌜ Ran (now (kinds .entry)) (loop path-round) (entry ev dm ds c0) (exit ev dm ds r) ⌝ }
 {
     let mut c = c0;
     loop {
@@ -76,8 +74,7 @@ fn path_names(
     c0: Cursor,
     m: Message,
 ) -> Cursor
-    requires { ⌜ Ready 1 (now kinds) c0 ⌝ }
-    ensures { λ r. ⌜ Ran 2 0 1 (now (kinds .entry)) (path-names m) (world (now (ev .entry)) (now (dm .entry)) (now (ds .entry)) c0) (world (now (ev .exit)) (now (dm .exit)) (now (ds .exit)) r) ⌝ }
+    ensures { λ r. ⌜ Ran (now (kinds .entry)) (path-names m) (entry ev dm ds c0) (exit ev dm ds r) ⌝ }
 {
     if is_name_like(current(kinds, c0.pos)) {
         let d = bump(kinds, ev, dm, ds, c0);
@@ -94,8 +91,7 @@ pub fn parse_path_with_message(
     c0: Cursor,
     m: Message,
 ) -> Cursor
-    requires { ⌜ Ready 2 (now kinds) c0 ⌝ }
-    ensures { λ r. ⌜ Ran 2 2 1 (now (kinds .entry)) (parse-path-with-message m) (world (now (ev .entry)) (now (dm .entry)) (now (ds .entry)) c0) (world (now (ev .exit)) (now (dm .exit)) (now (ds .exit)) r) ⌝ }
+    ensures { λ r. ⌜ Ran (now (kinds .entry)) (parse-path-with-message m) (entry ev dm ds c0) (exit ev dm ds r) ⌝ }
 {
     let a = put(ev, c0, PATH);
     let b = bump_at(kinds, ev, dm, ds, a, COLON_COLON);
@@ -106,7 +102,7 @@ pub fn parse_path_with_message(
 
 // How many delimiters of this kind are open behind the token k.
 fn group_depth(opener: u16, closer: u16, depth: usize, k: u16) -> usize
-    requires { ⌜ (0 < depth) × (depth < 2 ^ 40) ⌝ }
+    requires { ⌜ (0 < depth) × (depth < 2 ^ 63) ⌝ }
     ensures { λ r. ⌜ r ≡ group-step opener closer depth k ⌝ }
 {
     if opener == k {
@@ -129,8 +125,7 @@ fn group_rest(
     closer: u16,
     missing: Message,
 ) -> Cursor
-    requires { ⌜ Ready 1 (now kinds) c0 ⌝ }
-    ensures { λ r. ⌜ Ran 1 0 1 (now (kinds .entry)) (group-rest opener closer missing) (world (now (ev .entry)) (now (dm .entry)) (now (ds .entry)) c0) (world (now (ev .exit)) (now (dm .exit)) (now (ds .exit)) r) ⌝ }
+    ensures { λ r. ⌜ Ran (now (kinds .entry)) (group-rest opener closer missing) (entry ev dm ds c0) (exit ev dm ds r) ⌝ }
 {
     let mut c = c0;
     let mut depth: usize = 1;
@@ -157,8 +152,7 @@ pub fn parse_balanced_group(
     closer: u16,
     missing: Message,
 ) -> Cursor
-    requires { ⌜ Ready 2 (now kinds) c0 ⌝ }
-    ensures { λ r. ⌜ Ran 1 0 2 (now (kinds .entry)) (parse-balanced-group opener closer missing) (world (now (ev .entry)) (now (dm .entry)) (now (ds .entry)) c0) (world (now (ev .exit)) (now (dm .exit)) (now (ds .exit)) r) ⌝ }
+    ensures { λ r. ⌜ Ran (now (kinds .entry)) (parse-balanced-group opener closer missing) (entry ev dm ds c0) (exit ev dm ds r) ⌝ }
 {
     let a = bump_regular_trivia(kinds, ev, dm, ds, c0);
     let b = expect_kind(kinds, ev, dm, ds, a, opener, missing);

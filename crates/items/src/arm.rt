@@ -66,7 +66,6 @@ fn declared_arm(k: u16, d: u16) -> Arm
 
 // The tests of parse_source_item, in its order.
 pub fn arm_here(kinds: &[u16], p: usize) -> Arm
-    requires { ⌜ p ≤ length (now kinds) ⌝ }
     ensures { λ r. ⌜ r ≡ arm-of (drop p (now (kinds .entry))) ⌝ }
 {
     let k = current(kinds, p);

@@ -8,7 +8,7 @@ ghost use Prim.Native.Nat.{_≤_, _^_};
 ghost use lib.ListN.{length};
 ghost use Rattle.grammar.specs.Block.{MAX-CONTROL-FLOW-NESTING as limit};
 ghost use Rattle.grammar.specs.Item.{items-in};
-ghost use Rattle.parser.specs.Rep.{world, Ready, Ran};
+ghost use Rattle.parser.specs.Rep.{entry, exit, Ran};
 ghost use Rattle.items.specs.Entry.{base, Parsed};
 
 const SOURCE_FILE: u16 = 2;
@@ -16,7 +16,7 @@ const SOURCE_FILE: u16 = 2;
 // parse's loop; trivia behind an item is taken at once. An item writes at most 15 more than 7 for each of its tokens, and it takes one: 22 for each pay for all.
 fn source_items(kinds: &[u16], ev: &mut [u16], dm: &mut [u16], ds: &mut [u32], c0: Cursor) -> Cursor
     requires { ⌜ Ready (2 ^ 25) (now kinds) c0 ⌝ }
-    ensures { λ r. ⌜ Ran 22 0 0 (now (kinds .entry)) (items-in limit) (world (now (ev .entry)) (now (dm .entry)) (now (ds .entry)) c0) (world (now (ev .exit)) (now (dm .exit)) (now (ds .exit)) r) ⌝ }
+    ensures { λ r. ⌜ Ran (now (kinds .entry)) (items-in limit) (entry ev dm ds c0) (exit ev dm ds r) ⌝ }
 {
     let mut c = c0;
     while !eof(kinds, c.pos) {

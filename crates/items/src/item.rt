@@ -16,7 +16,7 @@ use parser::cursor::bump;
 use parser::cursor::put;
 ghost use Rattle.grammar.specs.Block.{MAX-CONTROL-FLOW-NESTING as limit, parse-block};
 ghost use Rattle.grammar.specs.Item.{parse-doc-form, parse-source-item};
-ghost use Rattle.parser.specs.Rep.{world, Ready, Ran};
+ghost use Rattle.parser.specs.Rep.{entry, exit, Ran};
 ghost use Rattle.items.specs.Arms.{by-arm};
 
 const DOC: u16 = 3;
@@ -28,8 +28,7 @@ pub fn parse_doc_form(
     ds: &mut [u32],
     c0: Cursor,
 ) -> Cursor
-    requires { ⌜ Ready 2 (now kinds) c0 ⌝ }
-    ensures { λ r. ⌜ Ran 1 2 0 (now (kinds .entry)) parse-doc-form (world (now (ev .entry)) (now (dm .entry)) (now (ds .entry)) c0) (world (now (ev .exit)) (now (dm .exit)) (now (ds .exit)) r) ⌝ }
+    ensures { λ r. ⌜ Ran (now (kinds .entry)) parse-doc-form (entry ev dm ds c0) (exit ev dm ds r) ⌝ }
 {
     let a = put(ev, c0, DOC);
     let b = bump(kinds, ev, dm, ds, a);
@@ -45,8 +44,7 @@ fn parse_arm(
     c0: Cursor,
     a: Arm,
 ) -> Cursor
-    requires { ⌜ Ready 32 (now kinds) c0 ⌝ }
-    ensures { λ r. ⌜ Ran 7 12 15 (now (kinds .entry)) (by-arm a (parse-block limit)) (world (now (ev .entry)) (now (dm .entry)) (now (ds .entry)) c0) (world (now (ev .exit)) (now (dm .exit)) (now (ds .exit)) r) ⌝ }
+    ensures { λ r. ⌜ Ran (now (kinds .entry)) (by-arm a (parse-block limit)) (entry ev dm ds c0) (exit ev dm ds r) ⌝ }
 {
     match a {
         Arm::Doc => parse_doc_form(kinds, ev, dm, ds, c0),
@@ -76,8 +74,7 @@ pub fn parse_source_item(
     ds: &mut [u32],
     c0: Cursor,
 ) -> Cursor
-    requires { ⌜ Ready 32 (now kinds) c0 ⌝ }
-    ensures { λ r. ⌜ Ran 7 12 15 (now (kinds .entry)) (parse-source-item (parse-block limit)) (world (now (ev .entry)) (now (dm .entry)) (now (ds .entry)) c0) (world (now (ev .exit)) (now (dm .exit)) (now (ds .exit)) r) ⌝ }
+    ensures { λ r. ⌜ Ran (now (kinds .entry)) (parse-source-item (parse-block limit)) (entry ev dm ds c0) (exit ev dm ds r) ⌝ }
 {
     let a = arm_here(kinds, c0.pos);
     parse_arm(kinds, ev, dm, ds, c0, a)

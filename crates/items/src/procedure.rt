@@ -23,7 +23,7 @@ use parser::kinds::PROC;
 use parser::look::at_kind;
 ghost use Rattle.grammar.specs.Block.{MAX-CONTROL-FLOW-NESTING as limit, closing as closingOf, parse-block};
 ghost use Rattle.grammar.specs.Item.{procedure-body, parse-procedure, parse-begin-block};
-ghost use Rattle.parser.specs.Rep.{world, Ready, Ran, RanTo};
+ghost use Rattle.parser.specs.Rep.{entry, exit, Ran, RanTo};
 ghost use Rattle.items.specs.Procedure.{optional-signature, procedure-header, procedure-lead};
 
 const BEGIN_BLOCK: u16 = 13;
@@ -40,8 +40,7 @@ fn closing(
     owner: BlockOwner,
     outcome: BlockParseOutcome,
 ) -> Cursor
-    requires { ⌜ Ready 1 (now kinds) c0 ⌝ }
-    ensures { λ r. ⌜ Ran 1 0 1 (now (kinds .entry)) (closingOf owner outcome) (world (now (ev .entry)) (now (dm .entry)) (now (ds .entry)) c0) (world (now (ev .exit)) (now (dm .exit)) (now (ds .exit)) r) ⌝ }
+    ensures { λ r. ⌜ Ran (now (kinds .entry)) (closingOf owner outcome) (entry ev dm ds c0) (exit ev dm ds r) ⌝ }
 {
     if found_terminator(outcome) {
         let d = expect_kind(kinds, ev, dm, ds, c0, END, Message::MissingEnd(owner));
@@ -57,8 +56,7 @@ fn optional_signature(
     ds: &mut [u32],
     c0: Cursor,
 ) -> Cursor
-    requires { ⌜ Ready 4 (now kinds) c0 ⌝ }
-    ensures { λ r. ⌜ Ran 2 2 4 (now (kinds .entry)) optional-signature (world (now (ev .entry)) (now (dm .entry)) (now (ds .entry)) c0) (world (now (ev .exit)) (now (dm .exit)) (now (ds .exit)) r) ⌝ }
+    ensures { λ r. ⌜ Ran (now (kinds .entry)) optional-signature (entry ev dm ds c0) (exit ev dm ds r) ⌝ }
 {
     if at_kind(kinds, c0.pos, L_PAREN) {
         return parse_signature(kinds, ev, dm, ds, c0);
@@ -74,8 +72,7 @@ fn procedure_header(
     ds: &mut [u32],
     c0: Cursor,
 ) -> Cursor
-    requires { ⌜ Ready 5 (now kinds) c0 ⌝ }
-    ensures { λ r. ⌜ Ran 2 2 5 (now (kinds .entry)) procedure-header (world (now (ev .entry)) (now (dm .entry)) (now (ds .entry)) c0) (world (now (ev .exit)) (now (dm .exit)) (now (ds .exit)) r) ⌝ }
+    ensures { λ r. ⌜ Ran (now (kinds .entry)) procedure-header (entry ev dm ds c0) (exit ev dm ds r) ⌝ }
 {
     let a = bump_regular_trivia(kinds, ev, dm, ds, c0);
     let b = expect_name(
@@ -99,8 +96,7 @@ fn procedure_body(
     ds: &mut [u32],
     c0: Cursor,
 ) -> Cursor
-    requires { ⌜ Ready 16 (now kinds) c0 ⌝ }
-    ensures { λ r. ⌜ Ran 7 6 7 (now (kinds .entry)) (procedure-body (parse-block limit)) (world (now (ev .entry)) (now (dm .entry)) (now (ds .entry)) c0) (world (now (ev .exit)) (now (dm .exit)) (now (ds .exit)) r) ⌝ }
+    ensures { λ r. ⌜ Ran (now (kinds .entry)) (procedure-body (parse-block limit)) (entry ev dm ds c0) (exit ev dm ds r) ⌝ }
 {
     let a = procedure_header(kinds, ev, dm, ds, c0);
     let b = parse_block(
@@ -120,8 +116,7 @@ fn procedure_body(
 
 // What stands before a procedure's name; whether `proc` was there.
 fn procedure_lead(kinds: &[u16], ev: &mut [u16], dm: &mut [u16], ds: &mut [u32], c0: Cursor) -> Flow
-    requires { ⌜ Ready 12 (now kinds) c0 ⌝ }
-    ensures { λ r. ⌜ RanTo 7 4 8 (now (kinds .entry)) procedure-lead (world (now (ev .entry)) (now (dm .entry)) (now (ds .entry)) c0) (world (now (ev .exit)) (now (dm .exit)) (now (ds .exit)) (r .c)) (r .ok) ⌝ }
+    ensures { λ r. ⌜ RanTo (now (kinds .entry)) procedure-lead (entry ev dm ds c0) (exit ev dm ds (r .c)) (r .ok) ⌝ }
 {
     let a = attributes(kinds, ev, dm, ds, c0);
     let b = bump_regular_trivia(kinds, ev, dm, ds, a);
@@ -145,8 +140,7 @@ pub fn parse_procedure(
     ds: &mut [u32],
     c0: Cursor,
 ) -> Cursor
-    requires { ⌜ Ready 32 (now kinds) c0 ⌝ }
-    ensures { λ r. ⌜ Ran 7 12 15 (now (kinds .entry)) (parse-procedure (parse-block limit)) (world (now (ev .entry)) (now (dm .entry)) (now (ds .entry)) c0) (world (now (ev .exit)) (now (dm .exit)) (now (ds .exit)) r) ⌝ }
+    ensures { λ r. ⌜ Ran (now (kinds .entry)) (parse-procedure (parse-block limit)) (entry ev dm ds c0) (exit ev dm ds r) ⌝ }
 {
     let a = put(ev, c0, PROCEDURE);
     let b = procedure_lead(kinds, ev, dm, ds, a);
@@ -166,8 +160,7 @@ pub fn parse_begin_block(
     ds: &mut [u32],
     c0: Cursor,
 ) -> Cursor
-    requires { ⌜ Ready 16 (now kinds) c0 ⌝ }
-    ensures { λ r. ⌜ Ran 7 6 3 (now (kinds .entry)) (parse-begin-block (parse-block limit)) (world (now (ev .entry)) (now (dm .entry)) (now (ds .entry)) c0) (world (now (ev .exit)) (now (dm .exit)) (now (ds .exit)) r) ⌝ }
+    ensures { λ r. ⌜ Ran (now (kinds .entry)) (parse-begin-block (parse-block limit)) (entry ev dm ds c0) (exit ev dm ds r) ⌝ }
 {
     let a = put(ev, c0, BEGIN_BLOCK);
     let b = expect_kind(kinds, ev, dm, ds, a, BEGIN, Message::Unreached);

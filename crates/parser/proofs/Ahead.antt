@@ -18,7 +18,7 @@ use Rattle.parser.proofs.Laws.{rest-cons, rest-nil, at-within, at-curre
 
 -- what is found from p on by tests that agree
 pub found-same : {F : File} {p r : ℕ} {s t : Sym → Bool} → ((k : Sym) → s k ≡ t k) → Found F p r (skip s (drop p F)) → Found F p r (skip t (drop p F))
-found-same {F} {p} e f = record { is = f .is ∙ ap (λ (t : Sym → Bool). skip t (drop p F)) (fun-ext e); ahead = f .ahead; within = f .within }
+found-same {F} {p} e f = record { is = f .is ∙ ap (λ (t : Sym → Bool). skip t (drop p F)) (fun-ext e); ahead = f .ahead }
 
 -- ---- the list behind the token that stands at c, where l is what is left there
 past-none : (t : Sym → Bool) (r : List Sym) → at t r ≡ false → past t r ≡ []

@@ -3,7 +3,6 @@ use mathlib.Core.Path.{_≡_}
 use mathlib.Core.Bool.{Bool, cond, _||_}
 use mathlib.Core.List.{List, [], _∷_}
 use Prim.Native.Nat.{ℕ, _+_, _≤_, _<_}
-use lib.ListN.{length}
 use Rattle.lexer.specs.Syntax.{DocComment, At}
 use Rattle.grammar.specs.Words.{Sym, File, from, is, ADV-MAP, BEGIN, CONST, ENUM, MOD, NAMESPACE, PROC, PUB, TYPE}
 use Rattle.grammar.specs.Look.{oneOf, regular-trivia, is-trivia, current, at, eof, skip, past, next-token-after-visibility, is-top-level-starter}
@@ -13,7 +12,6 @@ use Rattle.parser.specs.declared.look.Remembered.{Remembered}
 pub record Found (F : File) (p r : ℕ) (left : List Sym) : Type 0 where
   pub is : from F r ≡ left
   pub ahead : p ≤ r
-  pub within : r ≤ length F
 
 -- the token here or, at `pub`, the one behind the visibility
 unfoldable pub declared : List Sym → Sym

@@ -14,8 +14,7 @@ use crate::kinds::starts_item;
 use grammar::block::Terminators;
 ghost use mathlib.Core.Path.{_≡_};
 ghost use mathlib.Core.Bool.{true};
-ghost use Prim.Native.Nat.{_≤_};
-ghost use lib.ListN.{length, drop};
+ghost use lib.ListN.{drop};
 ghost use Rattle.lexer.specs.Syntax.{Whitespace, Newline, DocComment, RParen};
 ghost use Rattle.grammar.specs.Words.{is};
 ghost use Rattle.grammar.specs.Look.{regular-trivia, is-trivia, non-comment-trivia, at, current as currentOf, eof as eofOf, skip as skipOf, past, anyone};
@@ -58,7 +57,6 @@ pub fn at_kind(kinds: &[u16], p: usize, k: u16) -> bool
 
 // The first token from p on that is not trivia up to `last`.
 pub fn skip(kinds: &[u16], last: u16, p: usize) -> usize
-    requires { ⌜ p ≤ length (now kinds) ⌝ }
     ensures { λ r. ⌜ Found (now (kinds .entry)) p r (skipOf (trivia-to last) (drop p (now (kinds .entry)))) ⌝ }
 {
     let mut i = p;
@@ -72,28 +70,24 @@ pub fn skip(kinds: &[u16], last: u16, p: usize) -> usize
 }
 
 pub fn next_relevant_top_level_token(kinds: &[u16], p: usize) -> usize
-    requires { ⌜ p ≤ length (now kinds) ⌝ }
     ensures { λ r. ⌜ Found (now (kinds .entry)) p r (skipOf regular-trivia (drop p (now (kinds .entry)))) ⌝ }
 {
     skip(kinds, REGULAR_TRIVIA, p)
 }
 
 pub fn next_relevant_block_token(kinds: &[u16], p: usize) -> usize
-    requires { ⌜ p ≤ length (now kinds) ⌝ }
     ensures { λ r. ⌜ Found (now (kinds .entry)) p r (skipOf is-trivia (drop p (now (kinds .entry)))) ⌝ }
 {
     skip(kinds, TRIVIA, p)
 }
 
 pub fn peek_after_inline_whitespace(kinds: &[u16], p: usize) -> usize
-    requires { ⌜ p ≤ length (now kinds) ⌝ }
     ensures { λ r. ⌜ Found (now (kinds .entry)) p r (skipOf (is Whitespace) (drop p (now (kinds .entry)))) ⌝ }
 {
     skip(kinds, SPACE, p)
 }
 
 pub fn peek_after_non_comment_trivia(kinds: &[u16], p: usize) -> usize
-    requires { ⌜ p ≤ length (now kinds) ⌝ }
     ensures { λ r. ⌜ Found (now (kinds .entry)) p r (skipOf non-comment-trivia (drop p (now (kinds .entry)))) ⌝ }
 {
     skip(kinds, NON_COMMENT_TRIVIA, p)
@@ -101,7 +95,6 @@ pub fn peek_after_non_comment_trivia(kinds: &[u16], p: usize) -> usize
 
 // Inside the parentheses of a visibility: any one token, the closer, and then the token after it.
 fn after_inside(kinds: &[u16], p: usize) -> usize
-    requires { ⌜ p ≤ length (now kinds) ⌝ }
     ensures { λ r. ⌜ Found (now (kinds .entry)) p r (skipOf regular-trivia (past (is RParen) (skipOf regular-trivia (past anyone (drop p (now (kinds .entry))))))) ⌝ }
 {
     if kinds.len() <= p {
@@ -116,7 +109,6 @@ fn after_inside(kinds: &[u16], p: usize) -> usize
 
 // Of the list behind `pub`, which starts at p.
 pub fn next_token_after_visibility(kinds: &[u16], p: usize) -> usize
-    requires { ⌜ p ≤ length (now kinds) ⌝ }
     ensures { λ r. ⌜ Found (now (kinds .entry)) p r (afterVisibility (drop p (now (kinds .entry)))) ⌝ }
 {
     let next = next_relevant_top_level_token(kinds, p);
@@ -129,7 +121,6 @@ pub fn next_token_after_visibility(kinds: &[u16], p: usize) -> usize
 
 // The token here or, at `pub`, the one behind the visibility: what says which declaration starts here.
 pub fn declared(kinds: &[u16], p: usize) -> u16
-    requires { ⌜ p ≤ length (now kinds) ⌝ }
     ensures { λ r. ⌜ r ≡ declaredOf (drop p (now (kinds .entry))) ⌝ }
 {
     let k = current(kinds, p);
@@ -140,7 +131,6 @@ pub fn declared(kinds: &[u16], p: usize) -> u16
 }
 
 pub fn is_top_level_starter(kinds: &[u16], p: usize) -> bool
-    requires { ⌜ p ≤ length (now kinds) ⌝ }
     ensures { λ r. ⌜ r ≡ starterOf (drop p (now (kinds .entry))) ⌝ }
 {
     let k = current(kinds, p);
@@ -151,14 +141,12 @@ pub fn is_top_level_starter(kinds: &[u16], p: usize) -> bool
 }
 
 pub fn at_bare_while(kinds: &[u16], p: usize) -> bool
-    requires { ⌜ p ≤ length (now kinds) ⌝ }
     ensures { λ r. ⌜ r ≡ bareWhile (drop p (now (kinds .entry))) ⌝ }
 {
     at_kind(kinds, p, WHILE) && !at_kind(kinds, p + 1, 41)
 }
 
 pub fn at_terminator(kinds: &[u16], p: usize, terminators: Terminators) -> bool
-    requires { ⌜ p ≤ length (now kinds) ⌝ }
     ensures { λ r. ⌜ r ≡ atTerminator terminators (drop p (now (kinds .entry))) ⌝ }
 {
     match terminators {

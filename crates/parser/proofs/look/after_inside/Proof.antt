@@ -33,16 +33,7 @@ unfolding skip
 no-closer F l e = rest-nil F (length F) (omega arith) ∙ sym (ap (skip regular-trivia) e)
 
 returns : tie.Need-returns
-returns c = let a = c .before .before .args in record { is = none (a .kinds .now) (a .p) (search needs); ahead = omega arith; within = search needs }
-
-add-next-relevant-top-level-token : tie.Need-add-next-relevant-top-level-token
-add-next-relevant-top-level-token c = search needs
-
-next-relevant-top-level-token-requires : tie.Need-next-relevant-top-level-token-requires
-next-relevant-top-level-token-requires c κs = search needs
-
-at-kind-requires : tie.Need-at-kind-requires
-at-kind-requires c κs = search needs
+returns c = let a = c .before .before .args in record { is = none (a .kinds .now) (a .p) (search needs); ahead = omega arith }
 
 returns-2 : tie.Need-returns-2
 returns-2 c =
@@ -50,15 +41,14 @@ returns-2 c =
     let F = a .kinds .now in
     let found = c .before .before .next-relevant-top-level-token in
     let e = closer F (a .p) (found .result) (search needs) (found .ensures .is) in
-    record { is = no-closer F _ (past-off F (found .result) (is RParen) e (c .before .at-kind .ensures) (not-true _ (c .if2 .taken))); ahead = search needs; within = omega arith }
+    record { is = no-closer F _ (past-off F (found .result) (is RParen) e (c .before .at-kind .ensures) (not-true _ (c .if2 .taken))); ahead = search needs }
 
 add-next-relevant-top-level-token-2 : tie.Need-add-next-relevant-top-level-token-2
-add-next-relevant-top-level-token-2 c = search needs
-
-next-relevant-top-level-token-requires-2 : tie.Need-next-relevant-top-level-token-requires-2
-next-relevant-top-level-token-requires-2 c κs =
-    let a = c .before .before .before .before .before .args in
-    next-within (a .kinds .now) _ (is RParen) (c .before .at-kind .ensures) (not-false _ (c .if2 .left))
+add-next-relevant-top-level-token-2 c =
+    let F = c .before .before .before .before .before .args .kinds .now in
+    let found = c .before .before .next-relevant-top-level-token in
+    let h = next-within F (found .result) (is RParen) (c .before .at-kind .ensures) (not-false _ (c .if2 .left)) in
+    search needs
 
 returns-3 : tie.Need-returns-3
 returns-3 c =
@@ -70,18 +60,9 @@ returns-3 c =
     record {
       is = g .is ∙ ap (skip regular-trivia) (sym (past-on F (found .result) (is RParen) e (c .before .before .at-kind .ensures) (not-false _ (c .before .if2 .left))));
       ahead = omega (arith, found .ensures .ahead, g .ahead);
-      within = g .within;
     }
 
 pub after-inside-spec : {M : Type 1} → statement M
 after-inside-spec =
     tie.close
-    (tie.spec
-    returns
-    add-next-relevant-top-level-token
-    next-relevant-top-level-token-requires
-    at-kind-requires
-    returns-2
-    add-next-relevant-top-level-token-2
-    next-relevant-top-level-token-requires-2
-    returns-3)
+    (tie.spec returns (λ c. search needs) (λ c κs. tt) (λ c κs. tt) returns-2 add-next-relevant-top-level-token-2 (λ c κs. tt) returns-3)

@@ -4,18 +4,15 @@ use mathlib.Core.Bool.{not}
 use borrow.Author.Needs.{needs}
 use Rattle.grammar.specs.Words.{is, WHILE}
 use Rattle.grammar.specs.Look.{at-bare-while}
-use Rattle.parser.proofs.Ahead.{past-on}
+use Rattle.parser.proofs.Ahead.{past-on, next-within}
 use Rattle.parser.proofs.look.at_bare_while.Statement.{statement}
 use Rattle.parser.proofs.look.at_bare_while.Tie as tie
 
-at-kind-requires : tie.Need-at-kind-requires
-at-kind-requires c κs = search needs
-
 add-at-kind : tie.Need-add-at-kind
-add-at-kind c = search needs
-
-at-kind-requires-2 : tie.Need-at-kind-requires-2
-at-kind-requires-2 c κs = search needs
+add-at-kind c =
+    let a = c .before .before .before .args in
+    let h = next-within (a .kinds .now) (a .p) (is WHILE) (c .before .at-kind .ensures) (c .if1 .taken) in
+    search needs
 
 returns : tie.Need-returns
 unfolding at-bare-while
@@ -30,4 +27,4 @@ unfolding at-bare-while
 returns-2 c = rw (← c .before .at-kind .ensures, c .if1 .left)
 
 pub at-bare-while-spec : {M : Type 1} → statement M
-at-bare-while-spec = tie.close (tie.spec at-kind-requires add-at-kind at-kind-requires-2 returns returns-2)
+at-bare-while-spec = tie.close (tie.spec (λ c κs. tt) add-at-kind (λ c κs. tt) returns returns-2)

@@ -6,21 +6,6 @@ use Rattle.grammar.specs.Look.{at-stray-else}
 use Rattle.parser.proofs.look.at_stray_else.Statement.{statement}
 use Rattle.parser.proofs.look.at_stray_else.Tie as tie
 
-enum-told : tie.Need-enum-told
-enum-told c = search needs
-
-at-kind-requires : tie.Need-at-kind-requires
-at-kind-requires c κs = search needs
-
-enum-told-2 : tie.Need-enum-told-2
-enum-told-2 c = search needs
-
-enum-told-3 : tie.Need-enum-told-3
-enum-told-3 c = search needs
-
-at-kind-requires-2 : tie.Need-at-kind-requires-2
-at-kind-requires-2 c κs = search needs
-
 returns : tie.Need-returns
 unfolding at-stray-else
 returns c =
@@ -42,12 +27,4 @@ returns-3 c =
 pub at-stray-else-spec : {M : Type 1} → statement M
 at-stray-else-spec =
     tie.close
-    (tie.spec
-    enum-told
-    at-kind-requires
-    enum-told-2
-    enum-told-3
-    at-kind-requires-2
-    returns
-    returns-2
-    returns-3)
+    (tie.spec (λ c. search needs) (λ c κs. tt) (λ c. search needs) (λ c. search needs) (λ c κs. tt) returns returns-2 returns-3)

@@ -14,27 +14,6 @@ unfolding at oneOf
 either [] = refl
 either (s ∷ r) = ap (λ u. is ELSE s || u) (or-false _)
 
-enum-told : tie.Need-enum-told
-enum-told c = search needs
-
-at-kind-requires : tie.Need-at-kind-requires
-at-kind-requires c κs = search needs
-
-enum-told-2 : tie.Need-enum-told-2
-enum-told-2 c = search needs
-
-at-kind-requires-2 : tie.Need-at-kind-requires-2
-at-kind-requires-2 c κs = search needs
-
-at-kind-requires-3 : tie.Need-at-kind-requires-3
-at-kind-requires-3 c κs = search needs
-
-enum-told-3 : tie.Need-enum-told-3
-enum-told-3 c = search needs
-
-at-bare-while-requires : tie.Need-at-bare-while-requires
-at-bare-while-requires c κs = search needs
-
 returns : tie.Need-returns
 unfolding at-terminator
 returns c =
@@ -61,15 +40,4 @@ returns-4 c =
 pub at-terminator-spec : {M : Type 1} → statement M
 at-terminator-spec =
     tie.close
-    (tie.spec
-    enum-told
-    at-kind-requires
-    enum-told-2
-    at-kind-requires-2
-    at-kind-requires-3
-    enum-told-3
-    at-bare-while-requires
-    returns
-    returns-2
-    returns-3
-    returns-4)
+    (tie.spec (λ c. search needs) (λ c κs. tt) (λ c. search needs) (λ c κs. tt) (λ c κs. tt) (λ c. search needs) (λ c κs. tt) returns returns-2 returns-3 returns-4)

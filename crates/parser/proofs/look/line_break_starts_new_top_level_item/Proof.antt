@@ -35,15 +35,6 @@ add-next-relevant-top-level-token c =
     let h = next-within (b .args .kinds .now) (b .args .p) (is Newline) refl (b .pre .0) in
     search needs
 
-next-relevant-top-level-token-requires : tie.Need-next-relevant-top-level-token-requires
-next-relevant-top-level-token-requires c κs = next-within _ _ (is Newline) refl (c .before .before .before .pre .0)
-
-eof-requires : tie.Need-eof-requires
-eof-requires c κs = search needs
-
-is-top-level-starter-requires : tie.Need-is-top-level-starter-requires
-is-top-level-starter-requires c κs = search needs
-
 returns-2 : tie.Need-returns-2
 unfolding ends-or-starts
 returns-2 c =
@@ -62,11 +53,4 @@ returns-3 c =
 pub line-break-starts-new-top-level-item-spec : {M : Type 1} → statement M
 line-break-starts-new-top-level-item-spec =
     tie.close
-    (tie.spec
-    returns
-    add-next-relevant-top-level-token
-    next-relevant-top-level-token-requires
-    eof-requires
-    is-top-level-starter-requires
-    returns-2
-    returns-3)
+    (tie.spec returns add-next-relevant-top-level-token (λ c κs. tt) (λ c κs. tt) (λ c κs. tt) returns-2 returns-3)

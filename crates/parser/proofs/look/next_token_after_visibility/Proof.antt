@@ -25,25 +25,17 @@ module _ (r l : List Sym) (f : l ≡ skip regular-trivia r) where
   unfolding next-token-after-visibility
   opened e = rw (next-token-after-visibility, ← f, e) (ap (λ l. behind (skip regular-trivia (past (is LParen) l))) f)
 
-next-relevant-top-level-token-requires : tie.Need-next-relevant-top-level-token-requires
-next-relevant-top-level-token-requires c κs = search needs
-
-at-kind-requires : tie.Need-at-kind-requires
-at-kind-requires c κs = search needs
-
 returns : tie.Need-returns
 returns c =
     let f = c .before .before .next-relevant-top-level-token .ensures in
-    record { is = plain _ _ (f .is) (sym (c .before .at-kind .ensures) ∙ not-true _ (c .if1 .taken)); ahead = f .ahead; within = f .within }
+    record { is = plain _ _ (f .is) (sym (c .before .at-kind .ensures) ∙ not-true _ (c .if1 .taken)); ahead = f .ahead }
 
 add-next-relevant-top-level-token : tie.Need-add-next-relevant-top-level-token
-add-next-relevant-top-level-token c = search needs
-
-next-relevant-top-level-token-requires-2 : tie.Need-next-relevant-top-level-token-requires-2
-next-relevant-top-level-token-requires-2 c κs = next-within _ _ (is LParen) (c .before .at-kind .ensures) (not-false _ (c .if1 .left))
-
-after-inside-requires : tie.Need-after-inside-requires
-after-inside-requires c κs = search needs
+add-next-relevant-top-level-token c =
+    let F = c .before .before .before .before .args .kinds .now in
+    let found = c .before .before .next-relevant-top-level-token in
+    let h = next-within F (found .result) (is LParen) (c .before .at-kind .ensures) (not-false _ (c .if1 .left)) in
+    search needs
 
 returns-2 : tie.Need-returns-2
 returns-2 c =
@@ -56,17 +48,9 @@ returns-2 c =
     record {
       is = h .is ∙ ap behind (g .is ∙ ap (skip regular-trivia) (sym (past-on F (found .result) (is LParen) refl paren yes))) ∙ opened _ _ (found .ensures .is) (sym paren ∙ yes);
       ahead = omega (arith, found .ensures .ahead, g .ahead, h .ahead);
-      within = h .within;
     }
 
 pub next-token-after-visibility-spec : {M : Type 1} → statement M
 next-token-after-visibility-spec =
     tie.close
-    (tie.spec
-    next-relevant-top-level-token-requires
-    at-kind-requires
-    returns
-    add-next-relevant-top-level-token
-    next-relevant-top-level-token-requires-2
-    after-inside-requires
-    returns-2)
+    (tie.spec (λ c κs. tt) (λ c κs. tt) returns add-next-relevant-top-level-token (λ c κs. tt) (λ c κs. tt) returns-2)

@@ -2,7 +2,6 @@
 use mathlib.Core.Path.{_∙_}
 use mathlib.Core.Bool.{or-false}
 use mathlib.Core.List.{[], _∷_}
-use borrow.Author.Needs.{needs}
 use Rattle.lexer.specs.Syntax.{Whitespace}
 use Rattle.grammar.specs.Look.{oneOf}
 use Rattle.parser.specs.Sets.{trivia-to, trivia-is}
@@ -10,12 +9,9 @@ use Rattle.parser.proofs.Ahead.{found-same}
 use Rattle.parser.proofs.look.peek_after_inline_whitespace.Statement.{statement}
 use Rattle.parser.proofs.look.peek_after_inline_whitespace.Tie as tie
 
-skip-requires : tie.Need-skip-requires
-skip-requires c κs = search needs
-
 returns : tie.Need-returns
 unfolding oneOf trivia-to
 returns c = found-same (λ k. trivia-is _ (Whitespace ∷ []) k tt tt ∙ or-false _) (c .skip .ensures)
 
 pub peek-after-inline-whitespace-spec : {M : Type 1} → statement M
-peek-after-inline-whitespace-spec = tie.close (tie.spec skip-requires returns)
+peek-after-inline-whitespace-spec = tie.close (tie.spec (λ c κs. tt) returns)

@@ -12,63 +12,36 @@ use Rattle.parser.proofs.look.skip.Statement.{statement}
 use Rattle.parser.proofs.look.skip.Tie as tie
 
 abbrev Inv-loop : tie.InvT-loop
-Inv-loop kinds last p i₀ i = (p ≤ i) × (i ≤ length kinds) × (skip (trivia-to last) (drop p kinds) ≡ skip (trivia-to last) (drop i kinds))
+Inv-loop kinds last p i₀ i = (p ≤ i) × (skip (trivia-to last) (drop p kinds) ≡ skip (trivia-to last) (drop i kinds))
 
 abbrev μ-loop : tie.MeasureT-loop
 μ-loop kinds last p i₀ i = length kinds - i
 
 loop-holds : tie.Need-loop-holds Inv-loop μ-loop
-loop-holds c = (omega arith, c .before .pre, refl)
-
-mul-is-trivia-to : tie.Need-mul-is-trivia-to Inv-loop μ-loop
-mul-is-trivia-to c = search needs
-
-shared-slice-read-is-trivia-to : tie.Need-shared-slice-read-is-trivia-to Inv-loop μ-loop
-shared-slice-read-is-trivia-to c = search needs
-
-is-trivia-to-requires : tie.Need-is-trivia-to-requires Inv-loop μ-loop
-is-trivia-to-requires c κs = search needs
+loop-holds c = (omega arith, refl)
 
 returns : tie.Need-returns Inv-loop μ-loop
 returns c =
     let l = c .before .before .before .before .loop in
     let a = c .before .before .before .before .before .before .args in
     record {
-      is = skip-off (a .kinds .now) (trivia-to (a .last)) (l .i) (at-in (a .kinds .now) (trivia-to (a .last)) (l .i) (search needs)) (sym (c .before .is-trivia-to .ensures) ∙ not-true _ (c .if1 .taken)) ∙ sym (l .inv .2);
+      is = skip-off (a .kinds .now) (trivia-to (a .last)) (l .i) (at-in (a .kinds .now) (trivia-to (a .last)) (l .i) (search needs)) (sym (c .before .is-trivia-to .ensures) ∙ not-true _ (c .if1 .taken)) ∙ sym (l .inv .1);
       ahead = l .inv .0;
-      within = l .inv .1;
     }
-
-add-i : tie.Need-add-i Inv-loop μ-loop
-add-i c = search needs
-
-loop-less : tie.Need-loop-less Inv-loop μ-loop
-loop-less c = search needs
 
 loop-again : tie.Need-loop-again Inv-loop μ-loop
 loop-again c =
     let l = c .before .before .before .before .loop in
     let a = c .before .before .before .before .before .before .args in
-    (omega arith, omega arith, l .inv .2 ∙ skip-on (a .kinds .now) (trivia-to (a .last)) (l .i) (at-in (a .kinds .now) (trivia-to (a .last)) (l .i) (search needs)) (sym (c .before .is-trivia-to .ensures) ∙ not-false _ (c .if1 .left)))
+    (omega arith, l .inv .1 ∙ skip-on (a .kinds .now) (trivia-to (a .last)) (l .i) (at-in (a .kinds .now) (trivia-to (a .last)) (l .i) (search needs)) (sym (c .before .is-trivia-to .ensures) ∙ not-false _ (c .if1 .left)))
 
 returns-2 : tie.Need-returns-2 Inv-loop μ-loop
 returns-2 c =
     let l = c .before .loop in
     let a = c .before .before .before .args in
-    record { is = skip-end (a .kinds .now) (l .i) (trivia-to (a .last)) (search needs) ∙ sym (l .inv .2); ahead = l .inv .0; within = l .inv .1 }
+    record { is = skip-end (a .kinds .now) (l .i) (trivia-to (a .last)) (search needs) ∙ sym (l .inv .1); ahead = l .inv .0 }
 
 pub skip-spec : {M : Type 1} → statement M
 skip-spec =
     tie.close
-    (tie.spec
-    Inv-loop
-    μ-loop
-    loop-holds
-    mul-is-trivia-to
-    shared-slice-read-is-trivia-to
-    is-trivia-to-requires
-    returns
-    add-i
-    loop-less
-    loop-again
-    returns-2)
+    (tie.spec Inv-loop μ-loop loop-holds (λ c. search needs) (λ c. search needs) (λ c κs. tt) returns (λ c. search needs) (λ c. search needs) loop-again returns-2)

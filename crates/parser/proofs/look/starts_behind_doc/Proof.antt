@@ -35,12 +35,6 @@ add-next-relevant-block-token c =
     let h = next-within (b .args .kinds .now) (b .args .p) (is DocComment) refl (b .pre .0) in
     search needs
 
-next-relevant-block-token-requires : tie.Need-next-relevant-block-token-requires
-next-relevant-block-token-requires c κs = next-within _ _ (is DocComment) refl (c .before .before .before .pre .0)
-
-is-top-level-starter-requires : tie.Need-is-top-level-starter-requires
-is-top-level-starter-requires c κs = search needs
-
 returns-2 : tie.Need-returns-2
 returns-2 c =
     let b = c .before .before .before .before .before in
@@ -50,9 +44,4 @@ returns-2 c =
 pub starts-behind-doc-spec : {M : Type 1} → statement M
 starts-behind-doc-spec =
     tie.close
-    (tie.spec
-    returns
-    add-next-relevant-block-token
-    next-relevant-block-token-requires
-    is-top-level-starter-requires
-    returns-2)
+    (tie.spec returns add-next-relevant-block-token (λ c κs. tt) (λ c κs. tt) returns-2)
