@@ -1,5 +1,7 @@
 -- Where instructions end, and what their first tokens are taken as. Assumes nothing: these are definitions.
+use mathlib.Core.Path.{_≡_}
 use Prim.Native.Nat.{ℕ}
+use lib.ListN.{length}
 use mathlib.Core.Bool.{Bool, cond, not, _&&_, _||_}
 use mathlib.Core.List.{List, [], _∷_}
 use Rattle.lexer.specs.Syntax.{Whitespace, Newline, Comment, DocComment}
@@ -12,7 +14,7 @@ use Rattle.grammar.specs.Nesting.{default, is-root}
 use Rattle.grammar.specs.Instruction.{Inst, is-some, instruction-round, before-first, should-continue-instruction-after-whitespace, should-stop-instruction-before}
 use Rattle.grammar.specs.Run.{scan}
 use Rattle.parser.specs.declared.cursor.Cursor.{Cursor}
-use Rattle.parser.specs.Rep.{World, world, WentTo, Paid}
+use Rattle.parser.specs.Rep.{World, world, RanTo}
 
 -- a terminator, an operation, or what ends a block that lacks its `end`
 unfoldable pub starts-next : List Sym → Bool
@@ -44,6 +46,6 @@ open-behind (Significant.Kind k) = cond (expects-continuation-operand k) plain-k
 -- The loop's first rounds, from c to c′, leave the counts as they were: what goes on behind them goes on from the start.
 pub record Led (F : File) (ev : List ℕ) (c : Cursor) (ev′ : List ℕ) (c′ : Cursor) (previous : Significant) : Type 0 where
   pub leads : (dm ds : List ℕ) (w′ : World) (l : Inst)
-      → WentTo F (scan instruction-round (behind previous)) (world ev′ dm ds c′) w′ l
-      → WentTo F (scan instruction-round before-first) (world ev dm ds c) w′ l
-  pub paid : Paid 1 0 0 F c c′
+      → RanTo F (scan instruction-round (behind previous)) (world ev′ dm ds c′) w′ l
+      → RanTo F (scan instruction-round before-first) (world ev dm ds c) w′ l
+  pub kept : length ev′ ≡ length ev

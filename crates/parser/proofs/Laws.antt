@@ -212,8 +212,16 @@ module _ (F : File) where
   pub left : (p : ℕ) → length (from F p) ≡ length F - p
   left p = length-drop p F
 
-pub past-here : {A : Type 0} {F : File} {f : P A} {w w′ : World} → Ran F f w w′ → length (f (from F (w .c .pos)) .rest) < length (from F (w .c .pos)) → w .c .pos < w′ .c .pos
-past-here {F} {w} {w′} h e = omega (arith, e, ap length (h .rest), left F (w .c .pos), left F (w′ .c .pos))
+-- at least one token was there and is taken
+pub record Past (F : File) (w w′ : World) : Type 0 where
+  pub on : w .c .pos < w′ .c .pos
+  pub within : w .c .pos < length F
+
+pub past-here : {A : Type 0} {F : File} {f : P A} {w w′ : World} → Ran F f w w′ → length (f (from F (w .c .pos)) .rest) < length (from F (w .c .pos)) → Past F w w′
+past-here {F} {w} {w′} h e = record {
+  on = omega (arith, e, ap length (h .rest), left F (w .c .pos), left F (w′ .c .pos));
+  within = omega (arith, e, left F (w .c .pos));
+}
 
 -- ---- lookahead
 skip-stays : (p : Sym → Bool) (r : List Sym) → at p r ≡ false → r ≡ skip p r

@@ -1,7 +1,6 @@
 -- `forms::instruction::at_instruction_end`: the tests one after the other. Assumes nothing.
 use mathlib.Core.Bool.{not}
 use mathlib.Core.Path.{refl, sym, ap, _∙_}
-use borrow.Author.Needs.{needs}
 use Rattle.forms.specs.Instruction.{instruction-ends}
 use Rattle.lexer.specs.Syntax.{Whitespace}
 use Rattle.forms.proofs.Rounds.{line-end-is, not-doc}
@@ -9,23 +8,9 @@ use Rattle.parser.proofs.Ahead.{at-here, at-not}
 use Rattle.forms.proofs.instruction.at_instruction_end.Statement.{statement}
 use Rattle.forms.proofs.instruction.at_instruction_end.Tie as tie
 
-current-requires : tie.Need-current-requires
-current-requires c κs = search needs
-
-should-continue-instruction-after-whitespace-requires : tie.Need-should-continue-instruction-after-whitespace-requires
-should-continue-instruction-after-whitespace-requires c κs =
-    let c₁ = c .before .before .before in
-    c₁ .pre
-
 returns : tie.Need-returns
 unfolding instruction-ends
 returns c = rw (at-here Whitespace _ refl (c .before .before .current .ensures) (c .before .if1 .taken)) (ap not (c .should-continue-instruction-after-whitespace .ensures))
-
-in-set-requires : tie.Need-in-set-requires
-in-set-requires c κs = search needs
-
-is-root-requires : tie.Need-is-root-requires
-is-root-requires c κs = search needs
 
 returns-2 : tie.Need-returns-2
 unfolding instruction-ends
@@ -35,16 +20,13 @@ returns-2 c =
     let e = line-end-is _ (c .before .before .in-set .ensures) (c₂ .current .ensures) in
     rw (at-not Whitespace _ refl (c₂ .current .ensures) (c₁ .if1 .left), sym e ∙ c .before .if2 .taken) (c .is-root .ensures)
 
-is-some-requires : tie.Need-is-some-requires
-is-some-requires c κs = search needs
-
 should-stop-instruction-before-requires : tie.Need-should-stop-instruction-before-requires
 should-stop-instruction-before-requires c κs =
     let c₁ = c .before .before .before in
     let c₂ = c₁ .before .before in
     let c₃ = c₂ .before .before in
     let e = line-end-is _ (c₁ .in-set .ensures) (c₂ .current .ensures) in
-    (c₃ .pre, not-doc _ (sym e ∙ c .before .before .if2 .left))
+    not-doc _ (sym e ∙ c .before .before .if2 .left)
 
 returns-3 : tie.Need-returns-3
 unfolding instruction-ends
@@ -69,5 +51,4 @@ returns-4 c =
 pub at-instruction-end-spec : {M : Type 1} → statement M
 at-instruction-end-spec =
     tie.close
-    (tie.spec current-requires should-continue-instruction-after-whitespace-requires returns in-set-requires is-root-requires returns-2
-    is-some-requires should-stop-instruction-before-requires returns-3 returns-4)
+    (tie.spec (λ c κs. tt) (λ c κs. tt) returns (λ c κs. tt) (λ c κs. tt) returns-2 (λ c κs. tt) should-stop-instruction-before-requires returns-3 returns-4)

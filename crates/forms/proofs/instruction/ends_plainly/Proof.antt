@@ -16,32 +16,23 @@ use Rattle.forms.proofs.Rounds.{line-end-is}
 use Rattle.forms.proofs.instruction.ends_plainly.Statement.{statement}
 use Rattle.forms.proofs.instruction.ends_plainly.Tie as tie
 
-current-requires : tie.Need-current-requires
-current-requires c κs = search needs
-
-in-set-requires : tie.Need-in-set-requires
-in-set-requires c κs = search needs
-
 returns : tie.Need-returns
 returns c t = ends-at-line _ _ (sym (line-end-is _ (c .before .in-set .ensures) (c .before .before .current .ensures)) ∙ c .if1 .taken)
 
 returns-2 : tie.Need-returns-2
 returns-2 c t = absurd (false≢true t)
 
-expects-operand-requires : tie.Need-expects-operand-requires
-expects-operand-requires c κs = search needs
-
 returns-3 : tie.Need-returns-3
 returns-3 c t = absurd (false≢true t)
 
 add-current : tie.Need-add-current
-add-current c = search needs
-
-current-requires-2 : tie.Need-current-requires-2
-current-requires-2 c κs = search needs
-
-in-set-requires-2 : tie.Need-in-set-requires-2
-in-set-requires-2 c κs = search needs
+add-current c =
+    let c₁ = c .before .before in
+    let c₂ = c₁ .before .before .before in
+    let a = c₂ .before .before .args in
+    let w = at-here Whitespace _ refl (c₂ .current .ensures) (c₁ .if2 .left) in
+    let h = at-within (a .kinds .now) (a .p) (is Whitespace) refl w in
+    search needs
 
 returns-4 : tie.Need-returns-4
 unfolding at
@@ -60,5 +51,4 @@ returns-4 c t =
 pub ends-plainly-spec : {M : Type 1} → statement M
 ends-plainly-spec =
     tie.close
-    (tie.spec current-requires in-set-requires returns returns-2 expects-operand-requires returns-3 add-current current-requires-2
-    in-set-requires-2 returns-4)
+    (tie.spec (λ c κs. tt) (λ c κs. tt) returns returns-2 (λ c κs. tt) returns-3 add-current (λ c κs. tt) (λ c κs. tt) returns-4)

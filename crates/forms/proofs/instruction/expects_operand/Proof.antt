@@ -5,15 +5,6 @@ use Rattle.grammar.specs.Instruction.{expects-operand}
 use Rattle.forms.proofs.instruction.expects_operand.Statement.{statement}
 use Rattle.forms.proofs.instruction.expects_operand.Tie as tie
 
-enum-told : tie.Need-enum-told
-enum-told c = search needs
-
-enum-known-previous : tie.Need-enum-known-previous
-enum-known-previous c = search needs
-
-expects-continuation-operand-requires : tie.Need-expects-continuation-operand-requires
-expects-continuation-operand-requires c κs = search needs
-
 returns : tie.Need-returns
 unfolding expects-operand
 returns c = search needs
@@ -23,4 +14,4 @@ unfolding expects-operand
 returns-2 c = c .expects-continuation-operand .ensures ∙ sym (ap expects-operand (c .before .before .previous .given .1))
 
 pub expects-operand-spec : {M : Type 1} → statement M
-expects-operand-spec = tie.close (tie.spec enum-told enum-known-previous expects-continuation-operand-requires returns returns-2)
+expects-operand-spec = tie.close (tie.spec (λ c. search needs) (λ c. search needs) (λ c κs. tt) returns returns-2)

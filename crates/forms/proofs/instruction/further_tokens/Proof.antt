@@ -3,7 +3,6 @@ use mathlib.Core.Path.{refl, sym, ap, subst, _∙_}
 use Prim.Native.Nat.{_+_, _-_}
 use native.Mathlib.Omega.{arith}
 use lib.ListN.{length}
-use borrow.Author.Needs.{needs}
 use borrow.Author.Tests.{not-true, not-false}
 use Rattle.grammar.specs.Instruction.{Inst, instruction-round}
 use Rattle.grammar.specs.Look.{oneOf, is-trivia}
@@ -13,80 +12,32 @@ use Rattle.parser.specs.Rep.{world}
 use Rattle.forms.specs.Instruction.{behind}
 use Rattle.forms.proofs.Rounds.{instruction-locals, instruction-next, instruction-stops, instruction-takes, instruction-counts}
 use Rattle.parser.proofs.Counts.{scan-counted, below-le, below-default}
-use Rattle.parser.proofs.Kit.{begins-as, goes-on, scan-stop, scan-end, scan-go, Held}
+use Rattle.parser.proofs.Kit.{begins-as, goes-on, scan-stop, scan-end, scan-go, Leads}
 use Rattle.parser.proofs.Laws.{eof-within, at-by}
 use Rattle.forms.proofs.instruction.further_tokens.Statement.{statement}
 use Rattle.forms.proofs.instruction.further_tokens.Tie as tie
 
 abbrev Inv-loop : tie.InvT-loop
 Inv-loop kinds ev₀ dm₀ ds₀ c₀ nesting₀ previous₀ ev dm ds c nesting previous =
-    Held 2 0 0 kinds (scan instruction-round (behind previous₀)) (world ev₀ dm₀ ds₀ c₀)
+    Leads kinds (scan instruction-round (behind previous₀)) (world ev₀ dm₀ ds₀ c₀)
     (scan instruction-round (record { nesting = nesting; previous = previous })) (world ev dm ds c)
     × Below (c .pos + 1) nesting
 
 abbrev μ-loop : tie.MeasureT-loop
 μ-loop kinds ev₀ dm₀ ds₀ c₀ nesting₀ previous₀ ev dm ds c nesting previous = length kinds - c .pos
 
-new-requires : tie.Need-new-requires Inv-loop μ-loop
-new-requires c κs = search needs
-
 loop-holds : tie.Need-loop-holds Inv-loop μ-loop
 loop-holds c =
     let c₁ = c .before .before .before .before .before in (
-      record {
-        paid = omega (arith, c₁ .pre);
-        ev = refl;
-        dm = refl;
-        ds = refl;
-        leads = begins-as (ap (λ n. scan instruction-round (record { nesting = n; previous = c₁ .args .previous0 })) (sym (c .new .ensures)));
-      },
+      begins-as (ap (λ n. scan instruction-round (record { nesting = n; previous = c₁ .args .previous0 })) (sym (c .new .ensures))),
       subst (Below _) (sym (c .new .ensures)) (below-default _ (omega arith)),
     )
-
-eof-requires : tie.Need-eof-requires Inv-loop μ-loop
-eof-requires c κs = search needs
-
-at-instruction-end-requires : tie.Need-at-instruction-end-requires Inv-loop μ-loop
-at-instruction-end-requires c κs =
-    let c₁ = c .before .before .before .before .before .before .before .before in
-    omega (arith, c₁ .pre, c .before .before .loop .inv .0 .paid)
-
-same-length : tie.Need-same-length Inv-loop μ-loop
-same-length c =
-    let c₁ = c .before .before .before .before in
-    c₁ .loop .inv .0 .ev
-
-same-length-2 : tie.Need-same-length-2 Inv-loop μ-loop
-same-length-2 c =
-    let c₁ = c .before .before .before .before in
-    c₁ .loop .inv .0 .dm
-
-same-length-3 : tie.Need-same-length-3 Inv-loop μ-loop
-same-length-3 c =
-    let c₁ = c .before .before .before .before in
-    c₁ .loop .inv .0 .ds
 
 returns : tie.Need-returns Inv-loop μ-loop
 returns c =
     let c₁ = c .before .before .before .before in
-    let c₂ = c₁ .before .before .before .before .before .before in
     let l : Inst = record { nesting = c₁ .loop .nesting; previous = c₁ .loop .previous } in
-    record {
-      paid = omega (arith, c₂ .pre, c₁ .loop .inv .0 .paid);
-      went = c₁ .loop .inv .0 .leads .on _ _ (scan-stop instruction-round l (instruction-stops l _ (c .before .at-instruction-end .ensures) (c .if2 .taken))) .went;
-    }
-
-current-requires : tie.Need-current-requires Inv-loop μ-loop
-current-requires c κs = search needs
-
-is-trivia-requires : tie.Need-is-trivia-requires Inv-loop μ-loop
-is-trivia-requires c κs = search needs
-
-bump-requires : tie.Need-bump-requires Inv-loop μ-loop
-bump-requires c κs =
-    let c₁ = c .before .before .before .before .before .before .before .before .before .before in
-    let c₂ = c₁ .before .before .before .before .before .before in
-    omega (arith, c₂ .pre, c₁ .loop .inv .0 .paid)
+    c₁ .loop .inv .0 .on _ _ (scan-stop instruction-round l (instruction-stops l _ (c .before .at-instruction-end .ensures) (c .if2 .taken))) .ran
 
 loop-less : tie.Need-loop-less Inv-loop μ-loop
 loop-less c =
@@ -95,7 +46,8 @@ loop-less c =
     let c₃ = c₂ .before in
     let c₄ = c₃ .before in
     let c₅ = c₄ .before .before .before .before .before .before in
-    omega (arith, c₁ .bump .ensures .moved (eof-within (c₅ .args .kinds .now) (c₄ .loop .c .pos) (c₃ .eof .ensures) (not-true _ (c₂ .if1 .taken))))
+    let h = eof-within (c₅ .args .kinds .now) (c₄ .loop .c .pos) (c₃ .eof .ensures) (not-true _ (c₂ .if1 .taken)) in
+    omega (arith, h, c₁ .bump .ensures .moved h)
 
 loop-again : tie.Need-loop-again Inv-loop μ-loop
 unfolding oneOf
@@ -116,32 +68,19 @@ loop-again c =
     let t = at-by is-trivia _ refl (c₃ .is-trivia .ensures) (c₄ .current .ensures) in
     let e = instruction-takes l _ (c₆ .at-instruction-end .ensures) (c₅ .if2 .left) (sym t ∙ c₂ .if3 .taken) in
     let i = c₉ .loop .inv .0 in (
-      record {
-        paid = omega (arith, m, c₁₀ .pre, c₉ .loop .inv .0 .paid, c₁ .bump .ensures .paid);
-        ev = c₁ .bump .kept .1 .0 ∙ i .ev;
-        dm = c₁ .bump .kept .1 .1 .0 ∙ i .dm;
-        ds = c₁ .bump .kept .1 .1 .1 .0 ∙ i .ds;
-        leads = goes-on (i .leads) (λ w′ r k.
-            scan-go instruction-round l l z e (c₁ .bump .ensures .went) k);
-      },
+      goes-on i (λ w′ r k.
+            scan-go instruction-round l l z e (c₁ .bump .ensures .ran) k),
       below-le (omega (arith, m)) (c₉ .loop .inv .1),
     )
 
 bump-nesting-requires : tie.Need-bump-nesting-requires Inv-loop μ-loop
 bump-nesting-requires c κs =
-    let c₁ = c .before .before .before .before .before .before .before .before .before in
-    let c₂ = c₁ .before .before .before .before .before .before in (
-      omega (arith, c₂ .pre, c₁ .loop .inv .0 .paid),
-      omega (arith, c₂ .pre, c₁ .loop .inv .0 .paid),
-      below-le (omega (arith, c₂ .pre, c₁ .loop .inv .0 .paid)) (c₁ .loop .inv .1),
-    )
-
-bump-requires-2 : tie.Need-bump-requires-2 Inv-loop μ-loop
-bump-requires-2 c κs =
-    let c₁ = c .before .before .before .before .before .before .before .before .before in
-    let c₂ = c₁ .before .before .before .before .before .before .before .before .before .before in
-    let c₃ = c₂ .before .before .before .before .before .before in
-    omega (arith, c₃ .pre, c₂ .loop .inv .0 .paid, c₁ .bump-nesting .ensures .pos, c₁ .bump-nesting .ensures .events, c₁ .bump-nesting .ensures .diags)
+    let c₁ = c .before .before .before .before .before .before .before in
+    let c₂ = c₁ .before in
+    let c₃ = c₂ .before in
+    let c₄ = c₃ .before .before .before .before .before .before in
+    let h = eof-within (c₄ .args .kinds .now) (c₃ .loop .c .pos) (c₂ .eof .ensures) (not-true _ (c₁ .if1 .taken)) in
+    below-le (omega (arith, h, c₄ .good .0 .1)) (c₃ .loop .inv .1)
 
 loop-less-2 : tie.Need-loop-less-2 Inv-loop μ-loop
 loop-less-2 c =
@@ -176,38 +115,17 @@ loop-again-2 c =
     let t = at-by is-trivia _ refl (c₄ .is-trivia .ensures) (c₅ .current .ensures) in
     let e = instruction-counts l _ (c₇ .at-instruction-end .ensures) (c₆ .if2 .left) (sym t ∙ c₃ .if3 .left) in
     let i = c₁₀ .loop .inv .0 in (
-      record {
-        paid = omega (arith, m, c₁₁ .pre, c₁₀ .loop .inv .0 .paid, c₂ .bump-nesting .ensures .pos, c₂ .bump-nesting .ensures .events, c₂ .bump-nesting .ensures .diags, c₁ .bump2 .ensures .paid);
-        ev = c₁ .bump2 .kept .1 .0 ∙ i .ev;
-        dm = c₁ .bump2 .kept .1 .1 .0 ∙ c₂ .bump-nesting .kept .0 ∙ i .dm;
-        ds = c₁ .bump2 .kept .1 .1 .1 .0 ∙ c₂ .bump-nesting .kept .1 .0 ∙ i .ds;
-        leads = goes-on (i .leads) (λ w′ r k.
-            scan-counted instruction-round (instruction-locals l _) l (c₅ .current .ensures) z e (c₂ .bump-nesting .ensures) (c₁ .bump2 .ensures .went)
-            (instruction-next l _ _ _ (c₅ .current .ensures)) k);
-      },
+      goes-on i (λ w′ r k.
+            scan-counted instruction-round (instruction-locals l _) l (c₅ .current .ensures) z e (c₂ .bump-nesting .ensures) (c₁ .bump2 .ensures .ran)
+            (instruction-next l _ _ _ (c₅ .current .ensures)) k),
       below-le (omega (arith, m, c₂ .bump-nesting .ensures .pos)) (c₂ .bump-nesting .ensures .below _ (c₁₀ .loop .inv .1)),
     )
 
-same-length-4 : tie.Need-same-length-4 Inv-loop μ-loop
-same-length-4 c = c .before .before .loop .inv .0 .ev
-
-same-length-5 : tie.Need-same-length-5 Inv-loop μ-loop
-same-length-5 c = c .before .before .loop .inv .0 .dm
-
-same-length-6 : tie.Need-same-length-6 Inv-loop μ-loop
-same-length-6 c = c .before .before .loop .inv .0 .ds
-
 returns-2 : tie.Need-returns-2 Inv-loop μ-loop
 returns-2 c =
-    let c₁ = c .before .before .before .before .before .before .before .before in
-    record {
-      paid = omega (arith, c₁ .pre, c .before .before .loop .inv .0 .paid);
-      went = c .before .before .loop .inv .0 .leads .on _ _ (scan-end instruction-round _ (sym (c .before .eof .ensures) ∙ not-false _ (c .if1 .left))) .went;
-    }
+    c .before .before .loop .inv .0 .on _ _ (scan-end instruction-round _ (sym (c .before .eof .ensures) ∙ not-false _ (c .if1 .left))) .ran
 
 pub further-tokens-spec : {M : Type 1} → statement M
 further-tokens-spec =
     tie.close
-    (tie.spec Inv-loop μ-loop new-requires loop-holds eof-requires at-instruction-end-requires same-length same-length-2 same-length-3
-    returns current-requires is-trivia-requires bump-requires loop-less loop-again bump-nesting-requires bump-requires-2 loop-less-2
-    loop-again-2 same-length-4 same-length-5 same-length-6 returns-2)
+    (tie.spec Inv-loop μ-loop (λ c κs. tt) loop-holds (λ c κs. tt) (λ c κs. tt) (λ c. returns c .onward .ev) (λ c. returns c .onward .dm) (λ c. returns c .onward .ds) returns (λ c κs. tt) (λ c κs. tt) (λ c κs. tt) loop-less loop-again bump-nesting-requires (λ c κs. tt) loop-less-2 loop-again-2 (λ c. returns-2 c .onward .ev) (λ c. returns-2 c .onward .dm) (λ c. returns-2 c .onward .ds) returns-2)

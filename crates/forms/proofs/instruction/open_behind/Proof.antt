@@ -1,13 +1,9 @@
 -- `forms::instruction::open_behind` meets its contract. Assumes nothing.
 use mathlib.Core.Bool.{Bool, cond}
 use mathlib.Core.Path.{sym, ap, _∙_}
-use borrow.Author.Needs.{needs}
 use Rattle.forms.specs.Instruction.{plain-kinds, plain-punctuation, open-behind}
 use Rattle.forms.proofs.instruction.open_behind.Statement.{statement}
 use Rattle.forms.proofs.instruction.open_behind.Tie as tie
-
-expects-continuation-operand-requires : tie.Need-expects-continuation-operand-requires
-expects-continuation-operand-requires c κs = search needs
 
 returns : tie.Need-returns
 unfolding open-behind
@@ -18,4 +14,4 @@ unfolding open-behind
 returns-2 c = ap (λ (u : Bool). cond u plain-kinds plain-punctuation) (sym (c .if1 .left) ∙ c .before .expects-continuation-operand .ensures)
 
 pub open-behind-spec : {M : Type 1} → statement M
-open-behind-spec = tie.close (tie.spec expects-continuation-operand-requires returns returns-2)
+open-behind-spec = tie.close (tie.spec (λ c κs. tt) returns returns-2)

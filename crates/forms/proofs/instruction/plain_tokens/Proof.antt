@@ -5,7 +5,6 @@ use mathlib.Core.Path.{_≡_, refl, sym, ap, subst, _∙_}
 use Prim.Native.Nat.{ℕ, _-_}
 use native.Mathlib.Omega.{arith}
 use lib.ListN.{length}
-use borrow.Author.Needs.{needs}
 use borrow.Author.Tests.{not-true, not-false}
 use Rattle.grammar.specs.Instruction.{instruction-round}
 use Rattle.grammar.specs.Out.{kind}
@@ -23,28 +22,14 @@ opens : {x : Bool} {mask m : ℕ} (k : ℕ) → mask ≡ m → x ≡ bit mask k 
 opens k e t h = subst (λ i. bit i k ≡ true) e (sym t ∙ h)
 
 abbrev Inv-loop : tie.InvT-loop
-Inv-loop kinds ev₀ c₀ previous₀ mask₀ ev c previous mask = Led kinds ev₀ c₀ ev c previous × (length ev ≡ length ev₀) × (mask ≡ open-behind previous)
+Inv-loop kinds ev₀ c₀ previous₀ mask₀ ev c previous mask = Led kinds ev₀ c₀ ev c previous × (mask ≡ open-behind previous)
 
 abbrev μ-loop : tie.MeasureT-loop
 μ-loop kinds ev₀ c₀ previous₀ mask₀ ev c previous mask = length kinds - c .pos
 
 loop-holds : tie.Need-loop-holds Inv-loop μ-loop
 unfolding open-behind
-loop-holds c =
-    let c₁ = c .before .before in
-    (record { leads = λ dm ds w′ l h. h; paid = omega (arith, c₁ .pre) }, refl, refl)
-
-eof-requires : tie.Need-eof-requires Inv-loop μ-loop
-eof-requires c κs = search needs
-
-current-requires : tie.Need-current-requires Inv-loop μ-loop
-current-requires c κs = search needs
-
-in-set-requires : tie.Need-in-set-requires Inv-loop μ-loop
-in-set-requires c κs = search needs
-
-same-length : tie.Need-same-length Inv-loop μ-loop
-same-length c = c .before .before .before .before .before .loop .inv .1
+loop-holds c = (record { leads = λ dm ds w′ l h. h; kept = refl }, refl)
 
 returns : tie.Need-returns Inv-loop μ-loop
 returns c = c .before .before .before .before .before .loop .inv .0
@@ -57,16 +42,12 @@ bump-plain-requires c κs =
     let c₄ = c₃ .before .before .before in
     let h = eof-within (c₄ .args .kinds .now) (c₃ .loop .c .pos) (c₂ .eof .ensures) (not-true _ (c₁ .before .if1 .taken)) in
     let k = c₁ .current .ensures ∙ sym (current-in _ _ h) in
-    let b = opens _ (c₃ .loop .inv .2) (c .before .before .in-set .ensures) (not-false _ (c .before .if2 .left)) in (
-      omega (arith, c₄ .pre, c₃ .loop .inv .0 .paid),
-      h,
-      c₄ .pre .small,
-      λ e. not-error (c₃ .loop .previous) (c₁ .current .result) b (k ∙ e),
-      open-own (c₃ .loop .previous) (c₁ .current .result) b ∙ ap kind k,
-    )
-
-open-behind-requires : tie.Need-open-behind-requires Inv-loop μ-loop
-open-behind-requires c κs = search needs
+    let b = opens _ (c₃ .loop .inv .1) (c .before .before .in-set .ensures) (not-false _ (c .before .if2 .left)) in
+    record {
+      within = h;
+      no-error = λ e. not-error (c₃ .loop .previous) (c₁ .current .result) b (k ∙ e);
+      event = open-own (c₃ .loop .previous) (c₁ .current .result) b ∙ ap kind k;
+    }
 
 loop-less : tie.Need-loop-less Inv-loop μ-loop
 loop-less c =
@@ -89,19 +70,15 @@ loop-again c =
     let c₇ = c₆ .before in
     let i = c₇ .loop .inv in
     let z = sym (c₆ .eof .ensures) ∙ not-true _ (c₅ .if1 .taken) in
-    let b = opens _ (i .2) (c₃ .in-set .ensures) (not-false _ (c₂ .if2 .left)) in
+    let b = opens _ (i .1) (c₃ .in-set .ensures) (not-false _ (c₂ .if2 .left)) in
     let e = plain-round (c₇ .loop .previous) _ (c₄ .current .result) z (c₄ .current .ensures) b in (
       record {
         leads = λ dm ds w′ l k. i .0 .leads dm ds w′ l
-            (scan-go instruction-round (behind (c₇ .loop .previous)) (behind (Significant.Kind (c₄ .current .result))) z e (c₁ .bump-plain .ensures .bumped dm ds .went) k);
-        paid = omega (arith, i .0 .paid, c₁ .bump-plain .ensures .bumped [] [] .paid);
+            (scan-go instruction-round (behind (c₇ .loop .previous)) (behind (Significant.Kind (c₄ .current .result))) z e (c₁ .bump-plain .ensures .bumped dm ds .ran) k);
+        kept = c₁ .bump-plain .ensures .bumped [] [] .ran .onward .ev ∙ i .0 .kept;
       },
-      c₁ .bump-plain .kept .1 .0 ∙ i .1,
       c .open-behind .ensures,
     )
-
-same-length-2 : tie.Need-same-length-2 Inv-loop μ-loop
-same-length-2 c = c .before .before .loop .inv .1
 
 returns-2 : tie.Need-returns-2 Inv-loop μ-loop
 returns-2 c = c .before .before .loop .inv .0
@@ -109,5 +86,4 @@ returns-2 c = c .before .before .loop .inv .0
 pub plain-tokens-spec : {M : Type 1} → statement M
 plain-tokens-spec =
     tie.close
-    (tie.spec Inv-loop μ-loop loop-holds eof-requires current-requires in-set-requires same-length returns
-    bump-plain-requires open-behind-requires loop-less loop-again same-length-2 returns-2)
+    (tie.spec Inv-loop μ-loop loop-holds (λ c κs. tt) (λ c κs. tt) (λ c κs. tt) (λ c. returns c .kept) returns bump-plain-requires (λ c κs. tt) loop-less loop-again (λ c. returns-2 c .kept) returns-2)

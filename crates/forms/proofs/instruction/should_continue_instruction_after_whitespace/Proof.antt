@@ -1,6 +1,5 @@
 -- `forms::instruction::should_continue_instruction_after_whitespace`: the tests one after the other. Assumes nothing.
 use mathlib.Core.Path.{refl, sym, ap, _∙_}
-use borrow.Author.Needs.{needs}
 use borrow.Author.Tests.{not-true, not-false}
 use Rattle.grammar.specs.Instruction.{should-continue-instruction-after-whitespace}
 use Rattle.grammar.specs.Look.{at, oneOf, punctuation-continues-instruction}
@@ -8,24 +7,15 @@ use Rattle.parser.proofs.Laws.{at-by}
 use Rattle.forms.proofs.instruction.should_continue_instruction_after_whitespace.Statement.{statement}
 use Rattle.forms.proofs.instruction.should_continue_instruction_after_whitespace.Tie as tie
 
-is-root-requires : tie.Need-is-root-requires
-is-root-requires c κs = search needs
-
 returns : tie.Need-returns
 unfolding should-continue-instruction-after-whitespace oneOf
 returns c = rw (sym (c .before .is-root .ensures) ∙ not-true _ (c .if1 .taken))
-
-is-some-requires : tie.Need-is-some-requires
-is-some-requires c κs = search needs
 
 returns-2 : tie.Need-returns-2
 unfolding should-continue-instruction-after-whitespace oneOf
 returns-2 c =
     let c₁ = c .before .before .before in
     rw (sym (c₁ .is-root .ensures) ∙ not-false _ (c .before .before .if1 .left), sym (c .before .is-some .ensures) ∙ not-true _ (c .if2 .taken))
-
-expects-operand-requires : tie.Need-expects-operand-requires
-expects-operand-requires c κs = search needs
 
 returns-3 : tie.Need-returns-3
 unfolding should-continue-instruction-after-whitespace oneOf
@@ -34,15 +24,6 @@ returns-3 c =
     let c₂ = c₁ .before in
     let c₃ = c₂ .before in
     rw (sym (c₃ .is-root .ensures) ∙ not-false _ (c₂ .if1 .left), sym (c₁ .is-some .ensures) ∙ not-false _ (c .before .before .if2 .left), sym (c .before .expects-operand .ensures) ∙ c .if3 .taken)
-
-peek-after-inline-whitespace-requires : tie.Need-peek-after-inline-whitespace-requires
-peek-after-inline-whitespace-requires c κs = search needs
-
-current-requires : tie.Need-current-requires
-current-requires c κs = search needs
-
-punctuation-continues-instruction-requires : tie.Need-punctuation-continues-instruction-requires
-punctuation-continues-instruction-requires c κs = search needs
 
 returns-4 : tie.Need-returns-4
 unfolding should-continue-instruction-after-whitespace oneOf
@@ -62,5 +43,4 @@ returns-4 c =
 pub should-continue-instruction-after-whitespace-spec : {M : Type 1} → statement M
 should-continue-instruction-after-whitespace-spec =
     tie.close
-    (tie.spec is-root-requires returns is-some-requires returns-2 expects-operand-requires returns-3 peek-after-inline-whitespace-requires
-    current-requires punctuation-continues-instruction-requires returns-4)
+    (tie.spec (λ c κs. tt) returns (λ c κs. tt) returns-2 (λ c κs. tt) returns-3 (λ c κs. tt) (λ c κs. tt) (λ c κs. tt) returns-4)

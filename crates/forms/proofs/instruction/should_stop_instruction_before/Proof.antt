@@ -1,6 +1,5 @@
 -- `forms::instruction::should_stop_instruction_before`: the tests one after the other. Assumes nothing.
 use mathlib.Core.Path.{refl, sym, _∙_}
-use borrow.Author.Needs.{needs}
 use borrow.Author.Tests.{not-true, not-false}
 use Rattle.forms.specs.Instruction.{starts-next}
 use Rattle.grammar.specs.Instruction.{should-stop-instruction-before}
@@ -9,27 +8,15 @@ use Rattle.parser.proofs.Laws.{at-by}
 use Rattle.forms.proofs.instruction.should_stop_instruction_before.Statement.{statement}
 use Rattle.forms.proofs.instruction.should_stop_instruction_before.Tie as tie
 
-is-root-requires : tie.Need-is-root-requires
-is-root-requires c κs = search needs
-
 returns : tie.Need-returns
 unfolding should-stop-instruction-before starts-next oneOf
 returns c = rw (sym (c .before .is-root .ensures) ∙ not-true _ (c .if1 .taken))
-
-expects-operand-requires : tie.Need-expects-operand-requires
-expects-operand-requires c κs = search needs
 
 returns-2 : tie.Need-returns-2
 unfolding should-stop-instruction-before starts-next oneOf
 returns-2 c =
     let c₁ = c .before .before .before in
     rw (sym (c₁ .is-root .ensures) ∙ not-false _ (c .before .before .if1 .left), sym (c .before .expects-operand .ensures) ∙ c .if2 .taken)
-
-current-requires : tie.Need-current-requires
-current-requires c κs = search needs
-
-punctuation-continues-instruction-requires : tie.Need-punctuation-continues-instruction-requires
-punctuation-continues-instruction-requires c κs = search needs
 
 returns-3 : tie.Need-returns-3
 unfolding should-stop-instruction-before starts-next oneOf
@@ -60,5 +47,4 @@ returns-4 c =
 pub should-stop-instruction-before-spec : {M : Type 1} → statement M
 should-stop-instruction-before-spec =
     tie.close
-    (tie.spec is-root-requires returns expects-operand-requires returns-2 current-requires punctuation-continues-instruction-requires
-    returns-3 at-next-requires returns-4)
+    (tie.spec (λ c κs. tt) returns (λ c κs. tt) returns-2 (λ c κs. tt) (λ c κs. tt) returns-3 at-next-requires returns-4)

@@ -1,7 +1,6 @@
 -- `forms::line::at_expr_end`: the tests one after the other. Assumes nothing.
 use mathlib.Core.Path.{refl, sym, ap, _∙_}
 use native.Mathlib.Omega.{arith}
-use borrow.Author.Needs.{needs}
 use borrow.Author.Tests.{not-true, not-false}
 use Rattle.forms.specs.Line.{expr-ends}
 use Rattle.grammar.specs.Look.{skip, regular-trivia, space-before-top-level-item, is-top-level-starter}
@@ -11,15 +10,9 @@ use Rattle.parser.proofs.Ahead.{past-on, next-within}
 use Rattle.forms.proofs.line.at_expr_end.Statement.{statement}
 use Rattle.forms.proofs.line.at_expr_end.Tie as tie
 
-at-line-end-requires : tie.Need-at-line-end-requires
-at-line-end-requires c κs = search needs
-
 returns : tie.Need-returns
 unfolding expr-ends space-before-top-level-item
 returns c = rw (sym (c .before .at-line-end .ensures) ∙ c .if1 .taken)
-
-is-root-requires : tie.Need-is-root-requires
-is-root-requires c κs = search needs
 
 returns-2 : tie.Need-returns-2
 unfolding expr-ends space-before-top-level-item
@@ -37,9 +30,6 @@ returns-3 c =
     let n = sym (c .before .before .is-root .ensures) ∙ not-false _ (c .before .if2 .left) in
     rw (l, n, not-true (c₃ .args .saw) (c .if3 .taken))
 
-at-kind-requires : tie.Need-at-kind-requires
-at-kind-requires c κs = search needs
-
 returns-4 : tie.Need-returns-4
 unfolding expr-ends space-before-top-level-item
 returns-4 c =
@@ -56,14 +46,6 @@ add-next-relevant-top-level-token : tie.Need-add-next-relevant-top-level-token
 add-next-relevant-top-level-token c =
     let c₁ = c .before .before .before .before .before .before .before .before in
     let w = next-within (c₁ .args .kinds .now) (c₁ .args .p) (is Whitespace) (c .before .at-kind .ensures) (not-false _ (c .if4 .left)) in omega arith
-
-next-relevant-top-level-token-requires : tie.Need-next-relevant-top-level-token-requires
-next-relevant-top-level-token-requires c κs =
-    let c₁ = c .before .before .before .before .before .before .before .before in
-    next-within (c₁ .args .kinds .now) (c₁ .args .p) (is Whitespace) (c .before .at-kind .ensures) (not-false _ (c .if4 .left))
-
-is-top-level-starter-requires : tie.Need-is-top-level-starter-requires
-is-top-level-starter-requires c κs = c .next-relevant-top-level-token .ensures .within
 
 returns-5 : tie.Need-returns-5
 unfolding expr-ends space-before-top-level-item
@@ -85,5 +67,4 @@ returns-5 c =
 pub at-expr-end-spec : {M : Type 1} → statement M
 at-expr-end-spec =
     tie.close
-    (tie.spec at-line-end-requires returns is-root-requires returns-2 returns-3 at-kind-requires returns-4 add-next-relevant-top-level-token
-    next-relevant-top-level-token-requires is-top-level-starter-requires returns-5)
+    (tie.spec (λ c κs. tt) returns (λ c κs. tt) returns-2 returns-3 (λ c κs. tt) returns-4 add-next-relevant-top-level-token (λ c κs. tt) (λ c κs. tt) returns-5)

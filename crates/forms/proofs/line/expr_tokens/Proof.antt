@@ -4,7 +4,6 @@ use mathlib.Core.Path.{refl, sym, ap, subst, _∙_}
 use Prim.Native.Nat.{_+_, _-_}
 use native.Mathlib.Omega.{arith}
 use lib.ListN.{length}
-use borrow.Author.Needs.{needs}
 use borrow.Author.Tests.{not-true, not-false}
 use Rattle.grammar.specs.Line.{Expression, expr-round, no-token}
 use Rattle.grammar.specs.Nesting.{Below}
@@ -12,90 +11,41 @@ use Rattle.grammar.specs.Run.{scan}
 use Rattle.parser.specs.Rep.{world}
 use Rattle.forms.proofs.Rounds.{expr-locals, expr-next, expr-stops, expr-counts}
 use Rattle.parser.proofs.Counts.{scan-counted, below-le, below-default}
-use Rattle.parser.proofs.Kit.{begins-as, goes-on, scan-stop, scan-end, Held}
+use Rattle.parser.proofs.Kit.{begins-as, goes-on, scan-stop, scan-end, Leads}
 use Rattle.parser.proofs.Laws.{eof-within}
 use Rattle.forms.proofs.line.expr_tokens.Statement.{statement}
 use Rattle.forms.proofs.line.expr_tokens.Tie as tie
 
 abbrev Inv-loop : tie.InvT-loop
 Inv-loop kinds ev₀ dm₀ ds₀ c₀ nesting₀ saw₀ ev dm ds c nesting saw =
-    Held 2 0 0 kinds (scan expr-round no-token) (world ev₀ dm₀ ds₀ c₀)
+    Leads kinds (scan expr-round no-token) (world ev₀ dm₀ ds₀ c₀)
     (scan expr-round (record { nesting = nesting; saw-significant = saw })) (world ev dm ds c)
     × Below (c .pos + 1) nesting
 
 abbrev μ-loop : tie.MeasureT-loop
 μ-loop kinds ev₀ dm₀ ds₀ c₀ nesting₀ saw₀ ev dm ds c nesting saw = length kinds - c .pos
 
-new-requires : tie.Need-new-requires Inv-loop μ-loop
-new-requires c κs = search needs
-
 loop-holds : tie.Need-loop-holds Inv-loop μ-loop
 loop-holds c =
-    let c₁ = c .before .before .before .before .before in (
-      record {
-        paid = omega (arith, c₁ .pre);
-        ev = refl;
-        dm = refl;
-        ds = refl;
-        leads = begins-as (ap (λ n. scan expr-round (record { nesting = n; saw-significant = false })) (sym (c .new .ensures)));
-      },
+    (
+      begins-as (ap (λ n. scan expr-round (record { nesting = n; saw-significant = false })) (sym (c .new .ensures))),
       subst (Below _) (sym (c .new .ensures)) (below-default _ (omega arith)),
     )
-
-eof-requires : tie.Need-eof-requires Inv-loop μ-loop
-eof-requires c κs = search needs
-
-at-expr-end-requires : tie.Need-at-expr-end-requires Inv-loop μ-loop
-at-expr-end-requires c κs =
-    let c₁ = c .before .before .before .before .before .before .before .before in
-    omega (arith, c₁ .pre, c .before .before .loop .inv .0 .paid)
-
-same-length : tie.Need-same-length Inv-loop μ-loop
-same-length c =
-    let c₁ = c .before .before .before .before in
-    c₁ .loop .inv .0 .ev
-
-same-length-2 : tie.Need-same-length-2 Inv-loop μ-loop
-same-length-2 c =
-    let c₁ = c .before .before .before .before in
-    c₁ .loop .inv .0 .dm
-
-same-length-3 : tie.Need-same-length-3 Inv-loop μ-loop
-same-length-3 c =
-    let c₁ = c .before .before .before .before in
-    c₁ .loop .inv .0 .ds
 
 returns : tie.Need-returns Inv-loop μ-loop
 returns c =
     let c₁ = c .before .before .before .before in
-    let c₂ = c₁ .before .before .before .before .before .before in
     let l : Expression = record { nesting = c₁ .loop .nesting; saw-significant = c₁ .loop .saw-significant } in
-    record {
-      paid = omega (arith, c₂ .pre, c₁ .loop .inv .0 .paid);
-      went = c₁ .loop .inv .0 .leads .on _ _ (scan-stop expr-round l (expr-stops l _ (c .before .at-expr-end .ensures) (c .if2 .taken))) .went;
-    }
-
-current-requires : tie.Need-current-requires Inv-loop μ-loop
-current-requires c κs = search needs
-
-or-significant-requires : tie.Need-or-significant-requires Inv-loop μ-loop
-or-significant-requires c κs = search needs
+    c₁ .loop .inv .0 .on _ _ (scan-stop expr-round l (expr-stops l _ (c .before .at-expr-end .ensures) (c .if2 .taken))) .ran
 
 bump-nesting-requires : tie.Need-bump-nesting-requires Inv-loop μ-loop
 bump-nesting-requires c κs =
-    let c₁ = c .before .before .before .before .before .before .before .before in
-    let c₂ = c₁ .before .before .before .before .before .before in (
-      omega (arith, c₂ .pre, c₁ .loop .inv .0 .paid),
-      omega (arith, c₂ .pre, c₁ .loop .inv .0 .paid),
-      below-le (omega (arith, c₂ .pre, c₁ .loop .inv .0 .paid)) (c₁ .loop .inv .1),
-    )
-
-bump-requires : tie.Need-bump-requires Inv-loop μ-loop
-bump-requires c κs =
-    let c₁ = c .before .before .before .before .before .before .before .before .before in
-    let c₂ = c₁ .before .before .before .before .before .before .before .before .before in
-    let c₃ = c₂ .before .before .before .before .before .before in
-    omega (arith, c₃ .pre, c₂ .loop .inv .0 .paid, c₁ .bump-nesting .ensures .pos, c₁ .bump-nesting .ensures .events, c₁ .bump-nesting .ensures .diags)
+    let c₁ = c .before .before .before .before .before .before in
+    let c₂ = c₁ .before in
+    let c₃ = c₂ .before in
+    let c₄ = c₃ .before .before .before .before .before .before in
+    let h = eof-within (c₄ .args .kinds .now) (c₃ .loop .c .pos) (c₂ .eof .ensures) (not-true _ (c₁ .if1 .taken)) in
+    below-le (omega (arith, h, c₄ .good .0 .1)) (c₃ .loop .inv .1)
 
 loop-less : tie.Need-loop-less Inv-loop μ-loop
 loop-less c =
@@ -127,38 +77,17 @@ loop-again c =
     let z = sym (c₈ .eof .ensures) ∙ not-true _ (c₇ .if1 .taken) in
     let e = expr-counts l _ (c₆ .at-expr-end .ensures) (c₅ .if2 .left) in
     let i = c₉ .loop .inv .0 in (
-      record {
-        paid = omega (arith, m, c₁₀ .pre, c₉ .loop .inv .0 .paid, c₂ .bump-nesting .ensures .pos, c₂ .bump-nesting .ensures .events, c₂ .bump-nesting .ensures .diags, c₁ .bump .ensures .paid);
-        ev = c₁ .bump .kept .1 .0 ∙ i .ev;
-        dm = c₁ .bump .kept .1 .1 .0 ∙ c₂ .bump-nesting .kept .0 ∙ i .dm;
-        ds = c₁ .bump .kept .1 .1 .1 .0 ∙ c₂ .bump-nesting .kept .1 .0 ∙ i .ds;
-        leads = goes-on (i .leads) (λ w′ r k.
-            scan-counted expr-round (expr-locals l _) l (c₄ .current .ensures) z e (c₂ .bump-nesting .ensures) (c₁ .bump .ensures .went)
-            (expr-next l _ _ _ _ (c₄ .current .ensures) (c₃ .or-significant .ensures)) k);
-      },
+      goes-on i (λ w′ r k.
+            scan-counted expr-round (expr-locals l _) l (c₄ .current .ensures) z e (c₂ .bump-nesting .ensures) (c₁ .bump .ensures .ran)
+            (expr-next l _ _ _ _ (c₄ .current .ensures) (c₃ .or-significant .ensures)) k),
       below-le (omega (arith, m, c₂ .bump-nesting .ensures .pos)) (c₂ .bump-nesting .ensures .below _ (c₉ .loop .inv .1)),
     )
 
-same-length-4 : tie.Need-same-length-4 Inv-loop μ-loop
-same-length-4 c = c .before .before .loop .inv .0 .ev
-
-same-length-5 : tie.Need-same-length-5 Inv-loop μ-loop
-same-length-5 c = c .before .before .loop .inv .0 .dm
-
-same-length-6 : tie.Need-same-length-6 Inv-loop μ-loop
-same-length-6 c = c .before .before .loop .inv .0 .ds
-
 returns-2 : tie.Need-returns-2 Inv-loop μ-loop
 returns-2 c =
-    let c₁ = c .before .before .before .before .before .before .before .before in
-    record {
-      paid = omega (arith, c₁ .pre, c .before .before .loop .inv .0 .paid);
-      went = c .before .before .loop .inv .0 .leads .on _ _ (scan-end expr-round _ (sym (c .before .eof .ensures) ∙ not-false _ (c .if1 .left))) .went;
-    }
+    c .before .before .loop .inv .0 .on _ _ (scan-end expr-round _ (sym (c .before .eof .ensures) ∙ not-false _ (c .if1 .left))) .ran
 
 pub expr-tokens-spec : {M : Type 1} → statement M
 expr-tokens-spec =
     tie.close
-    (tie.spec Inv-loop μ-loop new-requires loop-holds eof-requires at-expr-end-requires same-length same-length-2 same-length-3 returns
-    current-requires or-significant-requires bump-nesting-requires bump-requires loop-less loop-again same-length-4 same-length-5
-    same-length-6 returns-2)
+    (tie.spec Inv-loop μ-loop (λ c κs. tt) loop-holds (λ c κs. tt) (λ c κs. tt) (λ c. returns c .onward .ev) (λ c. returns c .onward .dm) (λ c. returns c .onward .ds) returns (λ c κs. tt) (λ c κs. tt) bump-nesting-requires (λ c κs. tt) loop-less loop-again (λ c. returns-2 c .onward .ev) (λ c. returns-2 c .onward .dm) (λ c. returns-2 c .onward .ds) returns-2)

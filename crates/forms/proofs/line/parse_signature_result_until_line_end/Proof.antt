@@ -4,7 +4,6 @@ use mathlib.Core.Path.{refl, sym, ap, subst, _∙_}
 use Prim.Native.Nat.{_+_, _-_}
 use native.Mathlib.Omega.{arith}
 use lib.ListN.{length}
-use borrow.Author.Needs.{needs}
 use borrow.Author.Tests.{not-true, not-false}
 use Rattle.forms.specs.Line.{result-end}
 use Rattle.grammar.specs.Line.{ResultType, result-round, parse-signature-result-until-line-end}
@@ -13,7 +12,7 @@ use Rattle.grammar.specs.Run.{scan}
 use Rattle.parser.specs.Rep.{world}
 use Rattle.forms.proofs.Rounds.{result-locals, result-stops, result-counts}
 use Rattle.parser.proofs.Counts.{scan-counted, below-le, below-default}
-use Rattle.parser.proofs.Kit.{bind, begins-as, goes-on, scan-stop, scan-end, Held}
+use Rattle.parser.proofs.Kit.{bind, begins-as, goes-on, scan-stop, scan-end, Leads}
 use Rattle.parser.proofs.Laws.{eof-within}
 use Rattle.forms.proofs.line.parse_signature_result_until_line_end.Statement.{statement}
 use Rattle.forms.proofs.line.parse_signature_result_until_line_end.Tie as tie
@@ -23,57 +22,18 @@ first = record { nesting = default; taken = false }
 
 abbrev Inv-loop : tie.InvT-loop
 Inv-loop kinds ev₀ dm₀ ds₀ c₀ nesting₀ taken₀ ev dm ds c nesting taken =
-    Held 2 0 0 kinds (scan result-round first) (world ev₀ dm₀ ds₀ c₀) (scan result-round (record { nesting = nesting; taken = taken })) (world ev dm ds c)
+    Leads kinds (scan result-round first) (world ev₀ dm₀ ds₀ c₀) (scan result-round (record { nesting = nesting; taken = taken })) (world ev dm ds c)
     × Below (c .pos + 1) nesting
 
 abbrev μ-loop : tie.MeasureT-loop
 μ-loop kinds ev₀ dm₀ ds₀ c₀ nesting₀ taken₀ ev dm ds c nesting taken = length kinds - c .pos
 
-new-requires : tie.Need-new-requires Inv-loop μ-loop
-new-requires c κs = search needs
-
 loop-holds : tie.Need-loop-holds Inv-loop μ-loop
 loop-holds c =
-    let c₁ = c .before .before .before .before .before in (
-      record {
-        paid = omega (arith, c₁ .pre);
-        ev = refl;
-        dm = refl;
-        ds = refl;
-        leads = begins-as (ap (λ n. scan result-round (record { nesting = n; taken = false })) (sym (c .new .ensures)));
-      },
+    (
+      begins-as (ap (λ n. scan result-round (record { nesting = n; taken = false })) (sym (c .new .ensures))),
       subst (Below _) (sym (c .new .ensures)) (below-default _ (omega arith)),
     )
-
-eof-requires : tie.Need-eof-requires Inv-loop μ-loop
-eof-requires c κs = search needs
-
-at-line-end-requires : tie.Need-at-line-end-requires Inv-loop μ-loop
-at-line-end-requires c κs = search needs
-
-result-end-requires : tie.Need-result-end-requires Inv-loop μ-loop
-result-end-requires c κs =
-    let c₁ = c .before .before .before .before .before .before .before in
-    let c₂ = c₁ .before .before .before .before .before .before in
-    omega (arith, c₂ .pre, c₁ .loop .inv .0 .paid)
-
-same-length : tie.Need-same-length Inv-loop μ-loop
-same-length c =
-    let c₁ = c .before .before .before .before .before .before in
-    let c₂ = c₁ .before .before .before .before .before .before .before .before in
-    c₁ .result-end .kept .1 .0 ∙ c₂ .loop .inv .0 .ev
-
-same-length-2 : tie.Need-same-length-2 Inv-loop μ-loop
-same-length-2 c =
-    let c₁ = c .before .before .before .before .before .before in
-    let c₂ = c₁ .before .before .before .before .before .before .before .before in
-    c₁ .result-end .kept .1 .1 .0 ∙ c₂ .loop .inv .0 .dm
-
-same-length-3 : tie.Need-same-length-3 Inv-loop μ-loop
-same-length-3 c =
-    let c₁ = c .before .before .before .before .before .before in
-    let c₂ = c₁ .before .before .before .before .before .before .before .before in
-    c₁ .result-end .kept .1 .1 .1 .0 ∙ c₂ .loop .inv .0 .ds
 
 returns : tie.Need-returns Inv-loop μ-loop
 unfolding parse-signature-result-until-line-end result-end
@@ -82,31 +42,17 @@ returns c =
     let c₂ = c₁ .before .before .before .before in
     let c₃ = c₂ .before in
     let c₄ = c₃ .before .before .before in
-    let c₅ = c₄ .before .before .before .before .before .before in
     let l : ResultType = record { nesting = c₄ .loop .nesting; taken = c₄ .loop .taken } in
-    record {
-      paid = omega (arith, c₅ .pre, c₄ .loop .inv .0 .paid, c₁ .result-end .ensures .paid);
-      went = bind _ (c₄ .loop .inv .0 .leads .on _ _ (scan-stop result-round l (result-stops l _ (c₃ .at-line-end .ensures) (c₂ .if2 .taken)))) (c₁ .result-end .ensures .went);
-    }
-
-current-requires : tie.Need-current-requires Inv-loop μ-loop
-current-requires c κs = search needs
+    bind _ (c₄ .loop .inv .0 .on _ _ (scan-stop result-round l (result-stops l _ (c₃ .at-line-end .ensures) (c₂ .if2 .taken)))) (c₁ .result-end .ensures)
 
 bump-nesting-requires : tie.Need-bump-nesting-requires Inv-loop μ-loop
 bump-nesting-requires c κs =
-    let c₁ = c .before .before .before .before .before .before .before in
-    let c₂ = c₁ .before .before .before .before .before .before in (
-      omega (arith, c₂ .pre, c₁ .loop .inv .0 .paid),
-      omega (arith, c₂ .pre, c₁ .loop .inv .0 .paid),
-      below-le (omega (arith, c₂ .pre, c₁ .loop .inv .0 .paid)) (c₁ .loop .inv .1),
-    )
-
-bump-requires : tie.Need-bump-requires Inv-loop μ-loop
-bump-requires c κs =
-    let c₁ = c .before .before .before .before .before .before .before .before .before in
-    let c₂ = c₁ .before .before .before .before .before .before .before .before in
-    let c₃ = c₂ .before .before .before .before .before .before in
-    omega (arith, c₃ .pre, c₂ .loop .inv .0 .paid, c₁ .bump-nesting .ensures .pos, c₁ .bump-nesting .ensures .events, c₁ .bump-nesting .ensures .diags)
+    let c₁ = c .before .before .before .before .before in
+    let c₂ = c₁ .before in
+    let c₃ = c₂ .before in
+    let c₄ = c₃ .before .before .before .before .before .before in
+    let h = eof-within (c₄ .args .kinds .now) (c₃ .loop .c .pos) (c₂ .eof .ensures) (not-true _ (c₁ .if1 .taken)) in
+    below-le (omega (arith, h, c₄ .good .0 .1)) (c₃ .loop .inv .1)
 
 loop-less : tie.Need-loop-less Inv-loop μ-loop
 loop-less c =
@@ -137,40 +83,10 @@ loop-again c =
     let z = sym (c₇ .eof .ensures) ∙ not-true _ (c₆ .if1 .taken) in
     let e = result-counts l _ (c₅ .at-line-end .ensures) (c₄ .if2 .left) in
     let i = c₈ .loop .inv .0 in (
-      record {
-        paid = omega (arith, m, c₉ .pre, c₈ .loop .inv .0 .paid, c₂ .bump-nesting .ensures .pos, c₂ .bump-nesting .ensures .events, c₂ .bump-nesting .ensures .diags, c₁ .bump .ensures .paid);
-        ev = c₁ .bump .kept .1 .0 ∙ i .ev;
-        dm = c₁ .bump .kept .1 .1 .0 ∙ c₂ .bump-nesting .kept .0 ∙ i .dm;
-        ds = c₁ .bump .kept .1 .1 .1 .0 ∙ c₂ .bump-nesting .kept .1 .0 ∙ i .ds;
-        leads = goes-on (i .leads) (λ w′ r k.
-            scan-counted result-round result-locals l (c₃ .current .ensures) z e (c₂ .bump-nesting .ensures) (c₁ .bump .ensures .went) refl k);
-      },
+      goes-on i (λ w′ r k.
+            scan-counted result-round result-locals l (c₃ .current .ensures) z e (c₂ .bump-nesting .ensures) (c₁ .bump .ensures .ran) refl k),
       below-le (omega (arith, m, c₂ .bump-nesting .ensures .pos)) (c₂ .bump-nesting .ensures .below _ (c₈ .loop .inv .1)),
     )
-
-result-end-requires-2 : tie.Need-result-end-requires-2 Inv-loop μ-loop
-result-end-requires-2 c κs =
-    let c₁ = c .before .before .before .before .before in
-    let c₂ = c₁ .before .before .before .before .before .before in
-    omega (arith, c₂ .pre, c₁ .loop .inv .0 .paid)
-
-same-length-4 : tie.Need-same-length-4 Inv-loop μ-loop
-same-length-4 c =
-    let c₁ = c .before .before .before .before .before .before in
-    let c₂ = c₁ .before .before .before .before .before .before in
-    c₁ .result-end2 .kept .1 .0 ∙ c₂ .loop .inv .0 .ev
-
-same-length-5 : tie.Need-same-length-5 Inv-loop μ-loop
-same-length-5 c =
-    let c₁ = c .before .before .before .before .before .before in
-    let c₂ = c₁ .before .before .before .before .before .before in
-    c₁ .result-end2 .kept .1 .1 .0 ∙ c₂ .loop .inv .0 .dm
-
-same-length-6 : tie.Need-same-length-6 Inv-loop μ-loop
-same-length-6 c =
-    let c₁ = c .before .before .before .before .before .before in
-    let c₂ = c₁ .before .before .before .before .before .before in
-    c₁ .result-end2 .kept .1 .1 .1 .0 ∙ c₂ .loop .inv .0 .ds
 
 returns-2 : tie.Need-returns-2 Inv-loop μ-loop
 unfolding parse-signature-result-until-line-end result-end
@@ -179,15 +95,9 @@ returns-2 c =
     let c₂ = c₁ .before .before .before .before in
     let c₃ = c₂ .before in
     let c₄ = c₃ .before in
-    let c₅ = c₄ .before .before .before .before .before .before in
-    record {
-      paid = omega (arith, c₅ .pre, c₄ .loop .inv .0 .paid, c₁ .result-end2 .ensures .paid);
-      went = bind _ (c₄ .loop .inv .0 .leads .on _ _ (scan-end result-round _ (sym (c₃ .eof .ensures) ∙ not-false _ (c₂ .if1 .left)))) (c₁ .result-end2 .ensures .went);
-    }
+    bind _ (c₄ .loop .inv .0 .on _ _ (scan-end result-round _ (sym (c₃ .eof .ensures) ∙ not-false _ (c₂ .if1 .left)))) (c₁ .result-end2 .ensures)
 
 pub parse-signature-result-until-line-end-spec : {M : Type 1} → statement M
 parse-signature-result-until-line-end-spec =
     tie.close
-    (tie.spec Inv-loop μ-loop new-requires loop-holds eof-requires at-line-end-requires result-end-requires same-length same-length-2
-    same-length-3 returns current-requires bump-nesting-requires bump-requires loop-less loop-again result-end-requires-2 same-length-4
-    same-length-5 same-length-6 returns-2)
+    (tie.spec Inv-loop μ-loop (λ c κs. tt) loop-holds (λ c κs. tt) (λ c κs. tt) (λ c κs. tt) (λ c. returns c .onward .ev) (λ c. returns c .onward .dm) (λ c. returns c .onward .ds) returns (λ c κs. tt) bump-nesting-requires (λ c κs. tt) loop-less loop-again (λ c κs. tt) (λ c. returns-2 c .onward .ev) (λ c. returns-2 c .onward .dm) (λ c. returns-2 c .onward .ds) returns-2)

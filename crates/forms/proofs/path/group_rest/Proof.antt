@@ -6,7 +6,6 @@ use Prim.Native.Nat.{ℕ, suc, pred, _+_, _-_, _≤_}
 use native.Mathlib.Nat.{pred-le}
 use native.Mathlib.Omega.{arith}
 use lib.ListN.{length}
-use borrow.Author.Needs.{needs}
 use borrow.Author.Tests.{eq-eqb, ne-eqb, not-true, not-false}
 use Rattle.forms.specs.Path.{group-step, group-rest}
 use Rattle.grammar.specs.Bump.{error-here}
@@ -15,8 +14,8 @@ use Rattle.grammar.specs.Path.{group-round}
 use Rattle.grammar.specs.Run.{go, stop, scan}
 use Rattle.grammar.specs.Words.{File, Sym, is}
 use Rattle.grammar.specs.declared.message.Message.{Message}
-use Rattle.parser.specs.Rep.{World, world, Went, WentTo}
-use Rattle.parser.proofs.Kit.{on, off, done, bind, begins, goes-on, scan-stop, scan-end, scan-go, Held}
+use Rattle.parser.specs.Rep.{World, world, Ran, RanTo}
+use Rattle.parser.proofs.Kit.{on, off, done, bind, begins, goes-on, scan-stop, scan-end, scan-go, Leads}
 use Rattle.parser.proofs.Laws.{eof-within, at-token}
 use Rattle.forms.proofs.path.group_rest.Statement.{statement}
 use Rattle.forms.proofs.path.group_rest.Tie as tie
@@ -40,69 +39,40 @@ step-up opener closer depth k = by-tests (is opener k) (is closer k)
     by-tests false false = omega arith
 
 -- how the loop ends
-module _ (opener closer : Sym) (missing : Message) {F : File} {w₀ w : World} {depth : ℕ} (h : WentTo F (scan (group-round opener closer) 1) w₀ w depth) where
-  closes : 0 ≡ depth → Went F (group-rest opener closer missing) w₀ w
+module _ (opener closer : Sym) (missing : Message) {F : File} {w₀ w : World} {depth : ℕ} (h : RanTo F (scan (group-round opener closer) 1) w₀ w depth) where
+  closes : 0 ≡ depth → Ran F (group-rest opener closer missing) w₀ w
   unfolding group-rest
   closes e = bind _ h (on _ (eq-eqb 0 depth e) (done true))
 
-  lacks : {w′ : World} → (0 ≡ depth → ⊥) → Went F (error-here missing) w w′ → Went F (group-rest opener closer missing) w₀ w′
+  lacks : {w′ : World} → (0 ≡ depth → ⊥) → Ran F (error-here missing) w w′ → Ran F (group-rest opener closer missing) w₀ w′
   unfolding group-rest
   lacks n s = bind _ h (off _ (ne-eqb 0 depth n) s)
 
 abbrev Inv-loop : tie.InvT-loop
 Inv-loop kinds ev₀ dm₀ ds₀ opener closer missing c₀ depth₀ ev dm ds c depth =
-    Held 1 0 0 kinds (scan (group-round opener closer) 1) (world ev₀ dm₀ ds₀ c₀) (scan (group-round opener closer) depth) (world ev dm ds c)
+    Leads kinds (scan (group-round opener closer) 1) (world ev₀ dm₀ ds₀ c₀) (scan (group-round opener closer) depth) (world ev dm ds c)
     × (depth ≤ c .pos + 1)
 
 abbrev μ-loop : tie.MeasureT-loop
 μ-loop kinds ev₀ dm₀ ds₀ opener closer missing c₀ depth₀ ev dm ds c depth = length kinds - c .pos
 
 loop-holds : tie.Need-loop-holds Inv-loop μ-loop
-loop-holds c =
-    let c₁ = c .before .before .before .before in
-    (record { paid = omega (arith, c₁ .pre); ev = refl; dm = refl; ds = refl; leads = begins }, omega arith)
-
-eof-requires : tie.Need-eof-requires Inv-loop μ-loop
-eof-requires c κs = search needs
-
-same-length : tie.Need-same-length Inv-loop μ-loop
-same-length c =
-    let c₁ = c .before .before .before in
-    c₁ .loop .inv .0 .ev
-
-same-length-2 : tie.Need-same-length-2 Inv-loop μ-loop
-same-length-2 c =
-    let c₁ = c .before .before .before in
-    c₁ .loop .inv .0 .dm
-
-same-length-3 : tie.Need-same-length-3 Inv-loop μ-loop
-same-length-3 c =
-    let c₁ = c .before .before .before in
-    c₁ .loop .inv .0 .ds
+loop-holds c = (begins, omega arith)
 
 returns : tie.Need-returns Inv-loop μ-loop
 returns c =
     let c₁ = c .before .before .before in
     let c₂ = c₁ .before .before .before .before .before in
-    record {
-      paid = omega (arith, c₂ .pre, c₁ .loop .inv .0 .paid);
-      went = closes (c₂ .args .opener) (c₂ .args .closer) (c₂ .args .missing) (c₁ .loop .inv .0 .leads .on _ _ (scan-stop _ _ (round-ends _ _ _ _ (c .if2 .taken)))) (c .if2 .taken);
-    }
-
-current-requires : tie.Need-current-requires Inv-loop μ-loop
-current-requires c κs = search needs
+    closes (c₂ .args .opener) (c₂ .args .closer) (c₂ .args .missing) (c₁ .loop .inv .0 .on _ _ (scan-stop _ _ (round-ends _ _ _ _ (c .if2 .taken)))) (c .if2 .taken)
 
 group-depth-requires : tie.Need-group-depth-requires Inv-loop μ-loop
 group-depth-requires c κs =
-    let c₁ = c .before .before .before .before in
-    let c₂ = c₁ .before .before .before .before .before in
-    omega (arith, c .before .if2 .left, c₁ .loop .inv .1, c₂ .pre, c₁ .loop .inv .0 .paid)
-
-bump-requires : tie.Need-bump-requires Inv-loop μ-loop
-bump-requires c κs =
-    let c₁ = c .before .before .before .before .before .before .before .before in
-    let c₂ = c₁ .before .before .before .before .before in
-    omega (arith, c₂ .pre, c₁ .loop .inv .0 .paid)
+    let c₁ = c .before .before in
+    let c₂ = c₁ .before in
+    let c₃ = c₂ .before in
+    let c₄ = c₃ .before .before .before .before .before in
+    let h = eof-within (c₄ .args .kinds .now) (c₃ .loop .c .pos) (c₂ .eof .ensures) (not-true _ (c₁ .if1 .taken)) in
+    omega (arith, c .before .if2 .left, c₃ .loop .inv .1, h, c₄ .good .0 .1)
 
 loop-less : tie.Need-loop-less Inv-loop μ-loop
 loop-less c =
@@ -110,7 +80,8 @@ loop-less c =
     let c₂ = c₁ .before .before .before .before .before .before .before in
     let c₃ = c₂ .before in
     let c₄ = c₃ .before .before .before .before .before .before in
-    omega (arith, c₁ .bump .ensures .moved (eof-within (c₄ .args .kinds .now) _ (c₃ .eof .ensures) (not-true _ (c₂ .if1 .taken))))
+    let h = eof-within (c₄ .args .kinds .now) (c₃ .before .loop .c .pos) (c₃ .eof .ensures) (not-true _ (c₂ .if1 .taken)) in
+    omega (arith, h, c₁ .bump .ensures .moved h)
 
 loop-again : tie.Need-loop-again Inv-loop μ-loop
 loop-again c =
@@ -127,64 +98,17 @@ loop-again c =
     let z = sym (c₆ .eof .ensures) ∙ not-true _ (c₅ .if1 .taken) in
     let e = round-goes (c₈ .args .opener) (c₈ .args .closer) _ _ _ _ z (c₄ .if2 .left) (c₃ .current .ensures) (c₂ .group-depth .ensures) in
     let u = step-up (c₈ .args .opener) (c₈ .args .closer) (c₇ .loop .depth) (c₃ .current .result) in (
-      record {
-        paid = omega (arith, c₈ .pre, c₇ .loop .inv .0 .paid, c₁ .bump .ensures .paid);
-        ev = c₁ .bump .kept .1 .0 ∙ i .ev;
-        dm = c₁ .bump .kept .1 .1 .0 ∙ i .dm;
-        ds = c₁ .bump .kept .1 .1 .1 .0 ∙ i .ds;
-        leads = goes-on (i .leads) (λ w′ r k.
-            scan-go (group-round (c₈ .args .opener) (c₈ .args .closer)) _ _ z e (c₁ .bump .ensures .went) k);
-      },
+      goes-on i (λ w′ r k.
+            scan-go (group-round (c₈ .args .opener) (c₈ .args .closer)) _ _ z e (c₁ .bump .ensures .ran) k),
       omega (arith, m, u, c₂ .group-depth .ensures, c₇ .loop .inv .1),
     )
-
-same-length-4 : tie.Need-same-length-4 Inv-loop μ-loop
-same-length-4 c =
-    let c₁ = c .before .before .before in
-    c₁ .loop .inv .0 .ev
-
-same-length-5 : tie.Need-same-length-5 Inv-loop μ-loop
-same-length-5 c =
-    let c₁ = c .before .before .before in
-    c₁ .loop .inv .0 .dm
-
-same-length-6 : tie.Need-same-length-6 Inv-loop μ-loop
-same-length-6 c =
-    let c₁ = c .before .before .before in
-    c₁ .loop .inv .0 .ds
 
 returns-2 : tie.Need-returns-2 Inv-loop μ-loop
 returns-2 c =
     let c₁ = c .before .before .before in
     let c₂ = c₁ .before .before .before .before .before in
     let z = sym (c .before .before .eof .ensures) ∙ not-false _ (c .before .if1 .left) in
-    record {
-      paid = omega (arith, c₂ .pre, c₁ .loop .inv .0 .paid);
-      went = closes (c₂ .args .opener) (c₂ .args .closer) (c₂ .args .missing) (c₁ .loop .inv .0 .leads .on _ _ (scan-end _ _ z)) (c .if3 .taken);
-    }
-
-error-here-requires : tie.Need-error-here-requires Inv-loop μ-loop
-error-here-requires c κs =
-    let c₁ = c .before .before .before .before .before in
-    let c₂ = c₁ .before .before .before .before .before in
-    omega (arith, c₂ .pre, c₁ .loop .inv .0 .paid)
-
-same-length-7 : tie.Need-same-length-7 Inv-loop μ-loop
-same-length-7 c =
-    let c₁ = c .before .before .before .before .before .before .before .before .before .before in
-    c₁ .loop .inv .0 .ev
-
-same-length-8 : tie.Need-same-length-8 Inv-loop μ-loop
-same-length-8 c =
-    let c₁ = c .before .before .before .before in
-    let c₂ = c₁ .before .before .before .before .before .before in
-    c₁ .error-here .kept .0 ∙ c₂ .loop .inv .0 .dm
-
-same-length-9 : tie.Need-same-length-9 Inv-loop μ-loop
-same-length-9 c =
-    let c₁ = c .before .before .before .before in
-    let c₂ = c₁ .before .before .before .before .before .before in
-    c₁ .error-here .kept .1 .0 ∙ c₂ .loop .inv .0 .ds
+    closes (c₂ .args .opener) (c₂ .args .closer) (c₂ .args .missing) (c₁ .loop .inv .0 .on _ _ (scan-end _ _ z)) (c .if3 .taken)
 
 returns-3 : tie.Need-returns-3 Inv-loop μ-loop
 returns-3 c =
@@ -195,14 +119,9 @@ returns-3 c =
     let c₅ = c₄ .before in
     let c₆ = c₅ .before .before .before .before .before in
     let z = sym (c₄ .eof .ensures) ∙ not-false _ (c₃ .if1 .left) in
-    record {
-      paid = omega (arith, c₆ .pre, c₅ .loop .inv .0 .paid, c₁ .error-here .ensures);
-      went = lacks (c₆ .args .opener) (c₆ .args .closer) (c₆ .args .missing) (c₅ .loop .inv .0 .leads .on _ _ (scan-end _ _ z)) (c₂ .if3 .left) (c₁ .error-here .ensures .went (c₆ .args .kinds .now) _);
-    }
+    lacks (c₆ .args .opener) (c₆ .args .closer) (c₆ .args .missing) (c₅ .loop .inv .0 .on _ _ (scan-end _ _ z)) (c₂ .if3 .left) (c₁ .error-here .ensures .ran (c₆ .args .kinds .now) _)
 
 pub group-rest-spec : {M : Type 1} → statement M
 group-rest-spec =
     tie.close
-    (tie.spec Inv-loop μ-loop loop-holds eof-requires same-length same-length-2 same-length-3 returns current-requires group-depth-requires
-    bump-requires loop-less loop-again same-length-4 same-length-5 same-length-6 returns-2 error-here-requires same-length-7 same-length-8
-    same-length-9 returns-3)
+    (tie.spec Inv-loop μ-loop loop-holds (λ c κs. tt) (λ c. returns c .onward .ev) (λ c. returns c .onward .dm) (λ c. returns c .onward .ds) returns (λ c κs. tt) group-depth-requires (λ c κs. tt) loop-less loop-again (λ c. returns-2 c .onward .ev) (λ c. returns-2 c .onward .dm) (λ c. returns-2 c .onward .ds) returns-2 (λ c κs. tt) (λ c. returns-3 c .onward .ev) (λ c. returns-3 c .onward .dm) (λ c. returns-3 c .onward .ds) returns-3)

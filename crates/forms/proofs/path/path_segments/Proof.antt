@@ -4,7 +4,6 @@ use mathlib.Core.Path.{_≡_, refl, ap, _∙_}
 use Prim.Native.Nat.{ℕ, _-_, _<_}
 use native.Mathlib.Omega.{arith}
 use lib.ListN.{length}
-use borrow.Author.Needs.{needs}
 use borrow.Author.Tests.{not-true, not-false}
 use Rattle.grammar.specs.Laws.LiveLine.{truly-path-round}
 use Rattle.grammar.specs.Look.{at, skip, non-comment-trivia}
@@ -14,19 +13,19 @@ use Rattle.grammar.specs.Theorems.NoFuel.{path-eq}
 use Rattle.grammar.specs.Words.{File, from, is}
 use Rattle.lexer.specs.Syntax.{ColonColon}
 use Rattle.parser.specs.Ahead.{Found}
-use Rattle.parser.specs.Rep.{World, world, WentTo}
-use Rattle.parser.proofs.Kit.{like-to, yes-to, no-to, done-to, bind-to, begins, goes-on, Held, answers}
-use Rattle.parser.proofs.Laws.{past-here}
+use Rattle.parser.specs.Rep.{World, world, RanTo}
+use Rattle.parser.proofs.Kit.{like-to, yes-to, no-to, done-to, bind-to, begins, goes-on, Leads, answers}
+use Rattle.parser.proofs.Laws.{Past, past-here}
 use Rattle.forms.proofs.path.path_segments.Statement.{statement}
 use Rattle.forms.proofs.path.path_segments.Tie as tie
 
 -- a round, by what lookahead found
 module _ {F : File} {w : World} {p : ℕ} (f : Found F (w .c .pos) p (skip non-comment-trivia (from F (w .c .pos)))) {x : Bool} (a : x ≡ at (is ColonColon) (from F p)) where
-  round-stops : x ≡ false → WentTo F path-round w w false
+  round-stops : x ≡ false → RanTo F path-round w w false
   unfolding path-round
   round-stops h = no-to _ _ (a ∙ ap (at (is ColonColon)) (f .is)) h (done-to false)
 
-  round-goes : {v : World} {u : Bool} → x ≡ true → WentTo F path-segment w v u → WentTo F path-round w v u
+  round-goes : {v : World} {u : Bool} → x ≡ true → RanTo F path-segment w v u → RanTo F path-round w v u
   unfolding path-round
   round-goes h s = yes-to _ _ (a ∙ ap (at (is ColonColon)) (f .is)) h s
 
@@ -34,81 +33,28 @@ abbrev further : Bool → P Bool
 further u = pick u (loop path-round) (pure false)
 
 -- the last round, and one that goes on
-ends : {F : File} {w v : World} → WentTo F path-round w v false → WentTo F (loop path-round) w v false
+ends : {F : File} {w v : World} → RanTo F path-round w v false → RanTo F (loop path-round) w v false
 ends h = like-to (path-round >>= further) (path-eq _) (bind-to further h (done-to false))
 
-goes : {F : File} {w v w′ : World} {r : Bool} → WentTo F path-round w v true → WentTo F (loop path-round) v w′ r → WentTo F (loop path-round) w w′ r
+goes : {F : File} {w v w′ : World} {r : Bool} → RanTo F path-round w v true → RanTo F (loop path-round) v w′ r → RanTo F (loop path-round) w w′ r
 goes h k = like-to (path-round >>= further) (path-eq _) (bind-to further h k)
 
-moves : {F : File} {w v : World} → WentTo F path-round w v true → w .c .pos < v .c .pos
-moves h = past-here (h .went) (truly-path-round .truly _ (h .val))
+moves : {F : File} {w v : World} → RanTo F path-round w v true → Past F w v
+moves h = past-here (h .ran) (truly-path-round .truly _ (h .val))
 
 abbrev Inv-loop : tie.InvT-loop
-Inv-loop kinds ev₀ dm₀ ds₀ c₀ ev dm ds c = Held 2 0 0 kinds (loop path-round) (world ev₀ dm₀ ds₀ c₀) (loop path-round) (world ev dm ds c)
+Inv-loop kinds ev₀ dm₀ ds₀ c₀ ev dm ds c = Leads kinds (loop path-round) (world ev₀ dm₀ ds₀ c₀) (loop path-round) (world ev dm ds c)
 
 abbrev μ-loop : tie.MeasureT-loop
 μ-loop kinds ev₀ dm₀ ds₀ c₀ ev dm ds c = length kinds - c .pos
 
 loop-holds : tie.Need-loop-holds Inv-loop μ-loop
-loop-holds c =
-    let c₁ = c .before .before .before .before in
-    record { paid = omega (arith, c₁ .pre); ev = refl; dm = refl; ds = refl; leads = begins }
-
-peek-after-non-comment-trivia-requires : tie.Need-peek-after-non-comment-trivia-requires Inv-loop μ-loop
-peek-after-non-comment-trivia-requires c κs =
-    let c₁ = c .before .before .before .before .before in
-    omega (arith, c₁ .pre, c .loop .inv .paid)
-
-at-kind-requires : tie.Need-at-kind-requires Inv-loop μ-loop
-at-kind-requires c κs = search needs
-
-same-length : tie.Need-same-length Inv-loop μ-loop
-same-length c =
-    let c₁ = c .before .before .before in
-    c₁ .loop .inv .ev
-
-same-length-2 : tie.Need-same-length-2 Inv-loop μ-loop
-same-length-2 c =
-    let c₁ = c .before .before .before in
-    c₁ .loop .inv .dm
-
-same-length-3 : tie.Need-same-length-3 Inv-loop μ-loop
-same-length-3 c =
-    let c₁ = c .before .before .before in
-    c₁ .loop .inv .ds
+loop-holds c = begins
 
 returns : tie.Need-returns Inv-loop μ-loop
 returns c =
     let c₁ = c .before .before .before in
-    let c₂ = c₁ .before .before .before .before .before in
-    record {
-      paid = omega (arith, c₂ .pre, c₁ .loop .inv .paid);
-      went = c₁ .loop .inv .leads .on _ _ (ends (round-stops (c .before .before .peek-after-non-comment-trivia .ensures) (c .before .at-kind .ensures) (not-true _ (c .if1 .taken)))) .went;
-    }
-
-path-segment-requires : tie.Need-path-segment-requires Inv-loop μ-loop
-path-segment-requires c κs =
-    let c₁ = c .before .before .before .before .before .before in
-    let c₂ = c₁ .before .before .before .before .before in
-    omega (arith, c₂ .pre, c₁ .loop .inv .paid)
-
-same-length-4 : tie.Need-same-length-4 Inv-loop μ-loop
-same-length-4 c =
-    let c₁ = c .before .before .before .before .before .before .before .before .before in
-    let c₂ = c₁ .before .before .before .before .before .before .before in
-    c₁ .path-segment .kept .1 .0 ∙ c₂ .loop .inv .ev
-
-same-length-5 : tie.Need-same-length-5 Inv-loop μ-loop
-same-length-5 c =
-    let c₁ = c .before .before .before .before .before .before .before .before .before in
-    let c₂ = c₁ .before .before .before .before .before .before .before in
-    c₁ .path-segment .kept .1 .1 .0 ∙ c₂ .loop .inv .dm
-
-same-length-6 : tie.Need-same-length-6 Inv-loop μ-loop
-same-length-6 c =
-    let c₁ = c .before .before .before .before .before .before .before .before .before in
-    let c₂ = c₁ .before .before .before .before .before .before .before in
-    c₁ .path-segment .kept .1 .1 .1 .0 ∙ c₂ .loop .inv .ds
+    c₁ .loop .inv .on _ _ (ends (round-stops (c .before .before .peek-after-non-comment-trivia .ensures) (c .before .at-kind .ensures) (not-true _ (c .if1 .taken)))) .ran
 
 returns-2 : tie.Need-returns-2 Inv-loop μ-loop
 returns-2 c =
@@ -117,10 +63,9 @@ returns-2 c =
     let c₃ = c₂ .before in
     let c₄ = c₃ .before in
     let c₅ = c₄ .before in
-    let c₆ = c₅ .before .before .before .before .before in
     let h = round-goes (c₄ .peek-after-non-comment-trivia .ensures) (c₃ .at-kind .ensures) (not-false _ (c₂ .if1 .left))
-    (answers (c₁ .path-segment .ensures .went) (not-true _ (c .if2 .taken))) in
-    record { paid = omega (arith, c₆ .pre, c₅ .loop .inv .paid, c₁ .path-segment .ensures .paid); went = c₅ .loop .inv .leads .on _ _ (ends h) .went }
+    (answers (c₁ .path-segment .ensures) (not-true _ (c .if2 .taken))) in
+    c₅ .loop .inv .on _ _ (ends h) .ran
 
 loop-less : tie.Need-loop-less Inv-loop μ-loop
 loop-less c =
@@ -129,8 +74,8 @@ loop-less c =
     let c₃ = c₂ .before in
     let c₄ = c₃ .before in
     let h = round-goes (c₄ .peek-after-non-comment-trivia .ensures) (c₃ .at-kind .ensures) (not-false _ (c₂ .if1 .left))
-    (answers (c₁ .path-segment .ensures .went) (not-false _ (c .if2 .left))) in
-    omega (arith, moves h, c₁ .path-segment .ensures .paid)
+    (answers (c₁ .path-segment .ensures) (not-false _ (c .if2 .left))) in
+    omega (arith, moves h)
 
 loop-again : tie.Need-loop-again Inv-loop μ-loop
 loop-again c =
@@ -141,18 +86,11 @@ loop-again c =
     let c₅ = c₄ .before in
     let c₆ = c₅ .before .before .before .before .before in
     let h = round-goes (c₄ .peek-after-non-comment-trivia .ensures) (c₃ .at-kind .ensures) (not-false _ (c₂ .if1 .left))
-    (answers (c₁ .path-segment .ensures .went) (not-false _ (c .if2 .left))) in
+    (answers (c₁ .path-segment .ensures) (not-false _ (c .if2 .left))) in
     let i = c₅ .loop .inv in
-    record {
-      paid = omega (arith, moves h, c₆ .pre, c₅ .loop .inv .paid, c₁ .path-segment .ensures .paid);
-      ev = c₁ .path-segment .kept .1 .0 ∙ i .ev;
-      dm = c₁ .path-segment .kept .1 .1 .0 ∙ i .dm;
-      ds = c₁ .path-segment .kept .1 .1 .1 .0 ∙ i .ds;
-      leads = goes-on (i .leads) (λ w′ r k. goes h k);
-    }
+    goes-on i (λ w′ r k. goes h k)
 
 pub path-segments-spec : {M : Type 1} → statement M
 path-segments-spec =
     tie.close
-    (tie.spec Inv-loop μ-loop loop-holds peek-after-non-comment-trivia-requires at-kind-requires same-length same-length-2 same-length-3
-    returns path-segment-requires same-length-4 same-length-5 same-length-6 returns-2 loop-less loop-again)
+    (tie.spec Inv-loop μ-loop loop-holds (λ c κs. tt) (λ c κs. tt) (λ c. returns c .onward .ev) (λ c. returns c .onward .dm) (λ c. returns c .onward .ds) returns (λ c κs. tt) (λ c. returns-2 c .onward .ev) (λ c. returns-2 c .onward .dm) (λ c. returns-2 c .onward .ds) returns-2 loop-less loop-again)
