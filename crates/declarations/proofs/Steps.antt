@@ -8,9 +8,9 @@ use Rattle.grammar.specs.Words.{Sym, File}
 use Rattle.grammar.specs.Run.{Forest, _<>_, Res, P, pure, pick, _>>=_, _>>_, loop}
 use Rattle.grammar.specs.Laws.Good.{app-assoc}
 use Rattle.grammar.specs.Laws.Loops.{loop-eq}
-use Rattle.parser.specs.Rep.{World, Went, WentTo}
+use Rattle.parser.specs.Rep.{World, Ran, RanTo}
 use Rattle.parser.proofs.Kit.{like, like-to, done-to, bind-to}
-use Rattle.parser.proofs.Laws.{past-here}
+use Rattle.parser.proofs.Laws.{Past, past-here}
 
 -- ---- steps and then what comes behind them, as the definition puts them: one step and then the others
 two : {A B C : Type 0} (f : P A) (g : P B) (k : B → P C) (r : List Sym) → ((f >> g) >>= k) r ≡ (f >> (g >>= k)) r
@@ -34,7 +34,7 @@ pub five : {A B C D E G : Type 0} (f : P A) (g : P B) (h : P C) (i : P D) (j : P
 five f g h i j k r = three f g (h >> i >> j) k r ∙ later f (later g (three h i j k)) r
 
 -- the definition h is these steps f
-pub steps : {A : Type 0} {f h : P A} {F : File} {w w′ : World} → ((r : List Sym) → f r ≡ h r) → Went F f w w′ → Went F h w w′
+pub steps : {A : Type 0} {f h : P A} {F : File} {w w′ : World} → ((r : List Sym) → f r ≡ h r) → Ran F f w w′ → Ran F h w w′
 steps {f} e s = like f (sym (e _)) s
 
 -- ---- a loop of rounds, each of which takes a token where there is another
@@ -42,11 +42,11 @@ abbrev further : P Bool → Bool → P Bool
 further f u = pick u (loop f) (pure false)
 
 module _ (f : P Bool) (more : (r : List Sym) → f r .val ≡ true → length (f r .rest) < length r) {F : File} {w v : World} where
-  pub round-last : WentTo F f w v false → WentTo F (loop f) w v false
+  pub round-last : RanTo F f w v false → RanTo F (loop f) w v false
   round-last h = like-to (f >>= further f) (loop-eq f more _) (bind-to (further f) h (done-to false))
 
-  pub round-more : {w′ : World} {r : Bool} → WentTo F f w v true → WentTo F (loop f) v w′ r → WentTo F (loop f) w w′ r
+  pub round-more : {w′ : World} {r : Bool} → RanTo F f w v true → RanTo F (loop f) v w′ r → RanTo F (loop f) w w′ r
   round-more h k = like-to (f >>= further f) (loop-eq f more _) (bind-to (further f) h k)
 
-  pub round-moves : WentTo F f w v true → w .c .pos < v .c .pos
-  round-moves h = past-here (h .went) (more _ (h .val))
+  pub round-moves : RanTo F f w v true → Past F w v
+  round-moves h = past-here (h .ran) (more _ (h .val))

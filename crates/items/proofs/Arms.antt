@@ -8,7 +8,7 @@ use Rattle.grammar.specs.Look.{oneOf, current, regular-trivia, at}
 use Rattle.grammar.specs.Block.{Blocks}
 use Rattle.grammar.specs.Item.{at-declaration, at-procedure, parse-source-item}
 use Rattle.parser.specs.Ahead.{declared}
-use Rattle.parser.specs.Rep.{World, Went}
+use Rattle.parser.specs.Rep.{World, Ran}
 use Rattle.parser.proofs.Kit.{like}
 use Rattle.parser.proofs.Laws.{at-current}
 use Rattle.parser.proofs.Ahead.{declaration-is}
@@ -31,9 +31,9 @@ module _ (r : List Sym) where
       (rw (one MOD refl refl, one PROC refl refl, one CONST refl refl, declaration-is (TYPE ∷ ENUM ∷ []) r refl refl, or-false (is ENUM (declared r))))
 
 -- the function of an arm that is known
-pub armed : {F : File} {w w′ : World} {a a′ : Arm} (block : Blocks) → a ≡ a′ → Went F (by-arm a′ block) w w′ → Went F (by-arm a block) w w′
-armed {F} {w} {w′} block e h = subst (λ a. Went F (by-arm a block) w w′) (sym e) h
+pub armed : {F : File} {w w′ : World} {a a′ : Arm} (block : Blocks) → a ≡ a′ → Ran F (by-arm a′ block) w w′ → Ran F (by-arm a block) w w′
+armed {F} {w} {w′} block e h = subst (λ a. Ran F (by-arm a block) w w′) (sym e) h
 
 -- an item, by the arm that is found
-pub by-item : {F : File} {w w′ : World} (a : Arm) (block : Blocks) → a ≡ arm-of (from F (w .c .pos)) → Went F (by-arm a block) w w′ → Went F (parse-source-item block) w w′
+pub by-item : {F : File} {w w′ : World} (a : Arm) (block : Blocks) → a ≡ arm-of (from F (w .c .pos)) → Ran F (by-arm a block) w w′ → Ran F (parse-source-item block) w w′
 by-item {F} {w} a block e h = like (by-arm a block) (item-is block _ ∙ ap (λ (x : Arm). by-arm x block (from F (w .c .pos))) (sym e)) h

@@ -11,7 +11,7 @@ use Rattle.grammar.specs.Item.{items-in, parse}
 use Rattle.grammar.specs.Out.{Diag, ev, dg, events, diags}
 use Rattle.grammar.specs.State.{State, run}
 use Rattle.grammar.specs.Laws.LiveItem.{items-end}
-use Rattle.parser.specs.Rep.{onto, Base, World, world, room, Rep, Went}
+use Rattle.parser.specs.Rep.{onto, Base, World, world, room, Rep, Ran}
 use Rattle.parser.proofs.Laws.{left}
 use Rattle.grammar.specs.Block.{MAX-CONTROL-FLOW-NESTING as limit}
 use Rattle.items.specs.Entry.{base, Parsed}
@@ -45,7 +45,7 @@ root-rest : (F : File) → root F .rest ≡ []
 unfolding inNode items-in
 root-rest F = items-end (suc (length F)) limit F (omega arith)
 
-pub whole : (F : File) (b : Base) {w : World} → w .c .pos ≤ length F → Went F root (world (b .ev) (b .dm) (b .ds) (record { pos = 0; events = 0; diags = 0 })) w → Parsed F b w
+pub whole : (F : File) (b : Base) {w : World} → w .c .pos ≤ length F → Ran F root (world (b .ev) (b .dm) (b .ds) (record { pos = 0; events = 0; diags = 0 })) w → Parsed F b w
 unfolding run
 whole F b {w} p h =
     let r = h .sim b (begun F) (starts F b) in

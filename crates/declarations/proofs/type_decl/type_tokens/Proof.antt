@@ -3,7 +3,6 @@ use mathlib.Core.Path.{refl, sym, ap, subst, _∙_}
 use Prim.Native.Nat.{_+_, _-_}
 use native.Mathlib.Omega.{arith}
 use lib.ListN.{length}
-use borrow.Author.Needs.{needs}
 use borrow.Author.Tests.{not-true, not-false}
 use Rattle.grammar.specs.Line.{type-round}
 use Rattle.grammar.specs.Nesting.{default, Below}
@@ -13,70 +12,37 @@ use Rattle.parser.specs.Rep.{world}
 use Rattle.declarations.proofs.Rounds.{type-stops, type-counts}
 use Rattle.parser.proofs.Ahead.{remembers-none, remembers-later}
 use Rattle.parser.proofs.Counts.{scan-counted, below-le, below-default}
-use Rattle.parser.proofs.Kit.{goes-on, scan-stop, scan-end, Held, begins-as}
+use Rattle.parser.proofs.Kit.{goes-on, scan-stop, scan-end, Leads, begins-as}
 use Rattle.parser.proofs.Laws.{eof-within}
 use Rattle.declarations.proofs.type_decl.type_tokens.Statement.{statement}
 use Rattle.declarations.proofs.type_decl.type_tokens.Tie as tie
 
 abbrev Inv-loop : tie.InvT-loop
-Inv-loop kinds ev₀ dm₀ ds₀ c₀ nesting₀ known₀ ev dm ds c nesting known = Held 2 0 0 kinds (scan type-round default) (world ev₀ dm₀ ds₀ c₀) (scan type-round nesting) (world ev dm ds c) × Below (c .pos + 1) nesting × BreakKnown kinds (c .pos) known
+Inv-loop kinds ev₀ dm₀ ds₀ c₀ nesting₀ known₀ ev dm ds c nesting known = Leads kinds (scan type-round default) (world ev₀ dm₀ ds₀ c₀) (scan type-round nesting) (world ev dm ds c) × Below (c .pos + 1) nesting × BreakKnown kinds (c .pos) known
 
 abbrev μ-loop : tie.MeasureT-loop
 μ-loop kinds ev₀ dm₀ ds₀ c₀ nesting₀ known₀ ev dm ds c nesting known = length kinds - c .pos
 
-new-requires : tie.Need-new-requires Inv-loop μ-loop
-new-requires c κs = search needs
-
 loop-holds : tie.Need-loop-holds Inv-loop μ-loop
 loop-holds c =
-    let c₁ = c .before .before .before .before .before in
-    (record { paid = omega (arith, c₁ .pre); ev = refl; dm = refl; ds = refl; leads = begins-as (ap (scan type-round) (sym (c .new .ensures))) }, subst (Below _) (sym (c .new .ensures)) (below-default _ (omega arith)), remembers-none (omega arith))
-
-eof-requires : tie.Need-eof-requires Inv-loop μ-loop
-eof-requires c κs = search needs
+    (begins-as (ap (scan type-round) (sym (c .new .ensures))), subst (Below _) (sym (c .new .ensures)) (below-default _ (omega arith)), remembers-none (omega arith))
 
 at-type-end-requires : tie.Need-at-type-end-requires Inv-loop μ-loop
 at-type-end-requires c κs = c .before .before .loop .inv .2
 
-same-length : tie.Need-same-length Inv-loop μ-loop
-same-length c =
-    let c₁ = c .before .before .before .before in
-    c₁ .loop .inv .0 .ev
-
-same-length-2 : tie.Need-same-length-2 Inv-loop μ-loop
-same-length-2 c =
-    let c₁ = c .before .before .before .before in
-    c₁ .loop .inv .0 .dm
-
-same-length-3 : tie.Need-same-length-3 Inv-loop μ-loop
-same-length-3 c =
-    let c₁ = c .before .before .before .before in
-    c₁ .loop .inv .0 .ds
-
 returns : tie.Need-returns Inv-loop μ-loop
 returns c =
     let c₁ = c .before .before .before .before in
-    let c₂ = c₁ .before .before .before .before .before .before in
-    record {
-      paid = omega (arith, c₂ .pre, c₁ .loop .inv .0 .paid);
-      went = c₁ .loop .inv .0 .leads .on _ _ (scan-stop type-round _ (type-stops _ _ (c .before .at-type-end .ensures .0) (c .if2 .taken))) .went;
-    }
-
-current-requires : tie.Need-current-requires Inv-loop μ-loop
-current-requires c κs = search needs
+    c₁ .loop .inv .0 .on _ _ (scan-stop type-round _ (type-stops _ _ (c .before .at-type-end .ensures .0) (c .if2 .taken))) .ran
 
 bump-nesting-requires : tie.Need-bump-nesting-requires Inv-loop μ-loop
 bump-nesting-requires c κs =
-    let c₁ = c .before .before .before .before .before .before .before .before in
-    let c₂ = c₁ .before .before .before .before .before .before in
-    (omega (arith, c₂ .pre, c₁ .loop .inv .0 .paid), omega (arith, c₂ .pre, c₁ .loop .inv .0 .paid), below-le (omega (arith, c₂ .pre, c₁ .loop .inv .0 .paid)) (c₁ .loop .inv .1))
-
-bump-requires : tie.Need-bump-requires Inv-loop μ-loop
-bump-requires c κs =
-    let c₁ = c .before .before .before .before .before .before .before .before .before in
-    let c₂ = c₁ .before .before .before .before .before .before .before .before .before in
-    let c₃ = c₂ .before .before .before .before .before .before in
-    omega (arith, c₃ .pre, c₂ .loop .inv .0 .paid, c₁ .bump-nesting .ensures .pos, c₁ .bump-nesting .ensures .events, c₁ .bump-nesting .ensures .diags)
+    let c₁ = c .before .before .before .before .before .before in
+    let c₂ = c₁ .before in
+    let c₃ = c₂ .before in
+    let c₄ = c₃ .before .before .before .before .before .before in
+    let h = eof-within (c₄ .args .kinds .now) (c₃ .loop .c .pos) (c₂ .eof .ensures) (not-true _ (c₁ .if1 .taken)) in
+    below-le (omega (arith, h, c₄ .good .0 .1)) (c₃ .loop .inv .1)
 
 loop-less : tie.Need-loop-less Inv-loop μ-loop
 loop-less c =
@@ -105,36 +71,16 @@ loop-again c =
     let m = c₁ .bump .ensures .moved (omega (arith, h, c₂ .bump-nesting .ensures .pos)) in
     let z = sym (c₇ .eof .ensures) ∙ not-true _ (c₆ .if1 .taken) in
     let i = c₈ .loop .inv .0 in (
-      record {
-        paid = omega (arith, m, c₉ .pre, c₈ .loop .inv .0 .paid, c₂ .bump-nesting .ensures .pos, c₂ .bump-nesting .ensures .events, c₂ .bump-nesting .ensures .diags, c₁ .bump .ensures .paid);
-        ev = c₁ .bump .kept .1 .0 ∙ i .ev;
-        dm = c₁ .bump .kept .1 .1 .0 ∙ c₂ .bump-nesting .kept .0 ∙ i .dm;
-        ds = c₁ .bump .kept .1 .1 .1 .0 ∙ c₂ .bump-nesting .kept .1 .0 ∙ i .ds;
-        leads = goes-on (i .leads) (λ w′ r k. scan-counted type-round (λ n. n) _ (c₃ .current .ensures) z (type-counts _ _ (c₅ .at-type-end .ensures .0) (c₄ .if2 .left)) (c₂ .bump-nesting .ensures) (c₁ .bump .ensures .went) refl k);
-      },
+      goes-on i (λ w′ r k. scan-counted type-round (λ n. n) _ (c₃ .current .ensures) z (type-counts _ _ (c₅ .at-type-end .ensures .0) (c₄ .if2 .left)) (c₂ .bump-nesting .ensures) (c₁ .bump .ensures .ran) refl k),
       below-le (omega (arith, m, c₂ .bump-nesting .ensures .pos)) (c₂ .bump-nesting .ensures .below _ (c₈ .loop .inv .1)),
       remembers-later _ (omega (arith, m, c₂ .bump-nesting .ensures .pos)) (c₅ .at-type-end .ensures .1),
     )
 
-same-length-4 : tie.Need-same-length-4 Inv-loop μ-loop
-same-length-4 c = c .before .before .loop .inv .0 .ev
-
-same-length-5 : tie.Need-same-length-5 Inv-loop μ-loop
-same-length-5 c = c .before .before .loop .inv .0 .dm
-
-same-length-6 : tie.Need-same-length-6 Inv-loop μ-loop
-same-length-6 c = c .before .before .loop .inv .0 .ds
-
 returns-2 : tie.Need-returns-2 Inv-loop μ-loop
 returns-2 c =
-    let c₁ = c .before .before .before .before .before .before .before .before in
-    record {
-      paid = omega (arith, c₁ .pre, c .before .before .loop .inv .0 .paid);
-      went = c .before .before .loop .inv .0 .leads .on _ _ (scan-end type-round _ (sym (c .before .eof .ensures) ∙ not-false _ (c .if1 .left))) .went;
-    }
+    c .before .before .loop .inv .0 .on _ _ (scan-end type-round _ (sym (c .before .eof .ensures) ∙ not-false _ (c .if1 .left))) .ran
 
 pub type-tokens-spec : {M : Type 1} → statement M
 type-tokens-spec =
     tie.close
-    (tie.spec Inv-loop μ-loop new-requires loop-holds eof-requires at-type-end-requires same-length same-length-2 same-length-3 returns
-    current-requires bump-nesting-requires bump-requires loop-less loop-again same-length-4 same-length-5 same-length-6 returns-2)
+    (tie.spec Inv-loop μ-loop (λ c κs. tt) loop-holds (λ c κs. tt) at-type-end-requires (λ c. returns c .onward .ev) (λ c. returns c .onward .dm) (λ c. returns c .onward .ds) returns (λ c κs. tt) bump-nesting-requires (λ c κs. tt) loop-less loop-again (λ c. returns-2 c .onward .ev) (λ c. returns-2 c .onward .dm) (λ c. returns-2 c .onward .ds) returns-2)

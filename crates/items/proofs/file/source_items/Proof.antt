@@ -17,8 +17,8 @@ use Rattle.grammar.specs.Run.{leaf, pure, peek, take, scan, _>>=_, _>>_, if_the
 use Rattle.grammar.specs.Theorems.NoFuel.{items-eq}
 use Rattle.grammar.specs.Theorems.Rounds.{round-takes}
 use Rattle.grammar.specs.Words.{File, from, Sym, is}
-use Rattle.parser.specs.Rep.{World, world, Went, WentTo}
-use Rattle.parser.proofs.Kit.{like-to, yes-to, no-to, done-to, _then_, _then-to_, begins, goes-on, Held}
+use Rattle.parser.specs.Rep.{World, world, Ran, RanTo}
+use Rattle.parser.proofs.Kit.{like-to, yes-to, no-to, done-to, _then_, _then-to_, begins, goes-on, Leads}
 use Rattle.parser.proofs.Laws.{past-here}
 use Rattle.items.proofs.file.source_items.Statement.{statement}
 use Rattle.items.proofs.file.source_items.Tie as tie
@@ -29,10 +29,10 @@ one = parse-source-item (parse-block limit)
 abbrev round : P Bool
 round = if eof then pure true else (one >> items-in limit)
 
-last : {F : File} {w : World} → eof (from F (w .c .pos)) ≡ true → WentTo F (items-in limit) w w true
+last : {F : File} {w : World} → eof (from F (w .c .pos)) ≡ true → RanTo F (items-in limit) w w true
 last e = like-to round (items-eq limit _) (yes-to eof _ refl e (done-to true))
 
-next : {F : File} {w v w′ : World} {r : Bool} → eof (from F (w .c .pos)) ≡ false → Went F one w v → WentTo F (items-in limit) v w′ r → WentTo F (items-in limit) w w′ r
+next : {F : File} {w v w′ : World} {r : Bool} → eof (from F (w .c .pos)) ≡ false → Ran F one w v → RanTo F (items-in limit) v w′ r → RanTo F (items-in limit) w w′ r
 next e h k = like-to round (items-eq limit _) (no-to eof _ refl e (h then-to k))
 
 takes : (r : List Sym) → eof r ≡ false → length (one r .rest) < length r
@@ -60,11 +60,11 @@ trivia-first (s ∷ r) = by-test (regular-trivia s) refl (trivia-first r)
         rw e (items-eq limit (s ∷ r) ∙ trivia-round s r e ∙ ap (λ x. record { rest = x .rest; out = leaf s (x .out); val = x .val }) h)
     by-test false e h = rw e refl
 
-absorbs : {F : File} {w v w′ : World} {r : Bool} → Went F (bump-while regular-trivia) w v → WentTo F (items-in limit) v w′ r → WentTo F (items-in limit) w w′ r
+absorbs : {F : File} {w v w′ : World} {r : Bool} → Ran F (bump-while regular-trivia) w v → RanTo F (items-in limit) v w′ r → RanTo F (items-in limit) w w′ r
 absorbs h k = like-to (bump-while regular-trivia >> items-in limit) (trivia-first _) (h then-to k)
 
 abbrev Inv-loop : tie.InvT-loop
-Inv-loop kinds ev₀ dm₀ ds₀ c₀ ev dm ds c = Held 22 0 0 kinds (items-in limit) (world ev₀ dm₀ ds₀ c₀) (items-in limit) (world ev dm ds c)
+Inv-loop kinds ev₀ dm₀ ds₀ c₀ ev dm ds c = Leads kinds (items-in limit) (world ev₀ dm₀ ds₀ c₀) (items-in limit) (world ev dm ds c)
 
 abbrev μ-loop : tie.MeasureT-loop
 μ-loop kinds ev₀ dm₀ ds₀ c₀ ev dm ds c = length kinds - c .pos
@@ -72,7 +72,7 @@ abbrev μ-loop : tie.MeasureT-loop
 loop-holds : tie.Need-loop-holds Inv-loop μ-loop
 loop-holds c =
     let c₁ = c .before .before .before .before in
-    record { paid = omega (arith, c₁ .pre); ev = refl; dm = refl; ds = refl; leads = begins }
+    begins
 
 eof-requires : tie.Need-eof-requires Inv-loop μ-loop
 eof-requires c κs = search needs
@@ -115,13 +115,7 @@ loop-again c =
     let t = c₁ .parse-source-item in
     let v = b .bump-regular-trivia in
     let i = c₄ .loop .inv in
-    record {
-      paid = omega (arith, m, c₅ .pre, i .paid, t .ensures .paid, v .ensures .paid);
-      ev = v .kept .1 .0 ∙ t .kept .1 .0 ∙ i .ev;
-      dm = v .kept .1 .1 .0 ∙ t .kept .1 .1 .0 ∙ i .dm;
-      ds = v .kept .1 .1 .1 .0 ∙ t .kept .1 .1 .1 .0 ∙ i .ds;
-      leads = goes-on (i .leads) (λ w′ r k. next z (t .ensures .went) (absorbs (v .ensures .went) k));
-    }
+    goes-on i (λ w′ r k. next z (t .ensures .went) (absorbs (v .ensures .went) k))
 
 same-length : tie.Need-same-length Inv-loop μ-loop
 same-length c = c .before .before .loop .inv .ev
@@ -137,7 +131,7 @@ returns c =
     let c₁ = c .before .before .before .before .before .before .before in
     record {
       paid = omega (arith, c₁ .pre, c .before .before .loop .inv .paid);
-      went = c .before .before .loop .inv .leads .on _ _ (last (sym (c .before .eof .ensures) ∙ not-false _ (c .if1 .left))) .went;
+      went = c .before .before .loop .inv .on _ _ (last (sym (c .before .eof .ensures) ∙ not-false _ (c .if1 .left))) .went;
     }
 
 pub source-items-spec : {M : Type 1} → statement M

@@ -136,7 +136,7 @@ returns-2 c =
     let c₃ = c₂ .before .before .before .before .before .before in
     record {
       paid = omega (arith, c₃ .pre, c₁ .bump .ensures .paid);
-      went = armed (parse-block limit) (c₂ .enum-told2 .given .1) (c₁ .bump .ensures .went);
+      went = armed (parse-block limit) (c₂ .enum-told2 .given .1) (c₁ .bump .ensures .ran);
     }
 
 same-length-7 : tie.Need-same-length-7

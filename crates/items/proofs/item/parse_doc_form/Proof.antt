@@ -46,7 +46,7 @@ returns c =
     let c₃ = c₂ .before .before .before .before .before .before in
     record {
       paid = omega (arith, c₃ .pre, c₂ .put .ensures, c₁ .bump .ensures .paid, c .before .before .put2 .ensures);
-      went = node _ (c₂ .put .ensures .wrote (c₃ .args .kinds .now) _ _) (c₁ .bump .ensures .went) (c .before .before .put2 .ensures .wrote (c₃ .args .kinds .now) _ _);
+      went = node _ (c₂ .put .ensures .wrote (c₃ .args .kinds .now) _ _) (c₁ .bump .ensures .ran) (c .before .before .put2 .ensures .wrote (c₃ .args .kinds .now) _ _);
     }
 
 pub parse-doc-form-spec : {M : Type 1} → statement M
