@@ -20,15 +20,15 @@ use Rattle.grammar.specs.Laws.Live.{some, eats-take}
 use Rattle.grammar.specs.Laws.LiveLine.{eats-error-token, eats-instruction}
 use Rattle.grammar.specs.Laws.LiveBlock.{bare-while, repeat-left}
 use Rattle.grammar.specs.Laws.Stops.{stops-block}
-use Rattle.parser.specs.Rep.{World, world, Wrote, Went, WentTo, Paid}
-use Rattle.parser.proofs.Kit.{Leads, answers, like-to, yes-to, no-to, done-to, bind-to, _then-to_}
+use Rattle.parser.specs.Rep.{World, world, Onward, Past, Wrote, Ran, RanTo}
+use Rattle.parser.proofs.Kit.{Leads, _farther_, answers, like-to, yes-to, no-to, done-to, bind-to, _then-to_}
 use Rattle.parser.proofs.Laws.{at-current, at-some}
 use Rattle.blocks.specs.declared.arm.Taken.{Taken}
 use Rattle.blocks.specs.declared.arm.Closing.{Closing}
 use Rattle.blocks.specs.declared.arm.Arm.{Arm}
 use Rattle.blocks.specs.declared.rounds.Stopped.{Stopped}
 use Rattle.blocks.specs.Arms.{arm-of, inner-arm, by-arm, block-by, silent, taking, ending}
-use Rattle.blocks.specs.Shapes.{keyword-line, else-line, else-part, behind, Opened, ItemAt, Ended, Finished, AtForm, Rounded}
+use Rattle.blocks.specs.Shapes.{keyword-line, else-line, else-part, Opened, ItemAt, Ended, Finished, Rounded}
 
 -- ---- tests of the token here
 -- a test of its number
@@ -156,46 +156,57 @@ module _ (limit : ℕ) (owner : BlockOwner) (t : Terminators) (depth : ℕ) wher
           ∙ ap (λ x. record { rest = x .rest; out = leaf s (x .out); val = x .val }) h)
       by-test false e h = rw e refl
 
-  pub absorbs : {F : File} {w v w′ : World} {r : BlockParseOutcome} → Went F (bump-while regular-trivia) w v → WentTo F (block-in limit owner t depth) v w′ r → WentTo F (block-in limit owner t depth) w w′ r
+  pub absorbs : {F : File} {w v w′ : World} {r : BlockParseOutcome} → Ran F (bump-while regular-trivia) w v → RanTo F (block-in limit owner t depth) v w′ r → RanTo F (block-in limit owner t depth) w w′ r
   absorbs h k = like-to (bump-while regular-trivia >> block-in limit owner t depth) (trivia-first _) (h then-to k)
 
 -- ---- simulation
 module _ {F : File} {w w′ : World} where
-  pub silently : {A : Type 0} {f : P A} → Went F f w w′ → Went F (silent f) w w′
+  pub silently : {A : Type 0} {f : P A} → Ran F f w w′ → Ran F (silent f) w w′
   unfolding run silent
-  silently h = record { sim = h .sim; rest = h .rest }
+  silently h = record { sim = h .sim; rest = h .rest; onward = h .onward }
 
-  pub took : {k k′ : Taken} → k ≡ k′ → Went F (taking k′) w w′ → Went F (taking k) w w′
-  took e h = subst (λ k. Went F (taking k) w w′) (sym e) h
+  pub took : {k k′ : Taken} → k ≡ k′ → Ran F (taking k′) w w′ → Ran F (taking k) w w′
+  took e h = subst (λ k. Ran F (taking k) w w′) (sym e) h
 
   -- a form of a block below the limit
-  pub deeper : {r : Bool} (d : ℕ) → WentTo F (parse-control-flow (parse-block limit) (d + 1)) w w′ r → WentTo F (parse-control-flow (λ o t e. inNode Block (block-in limit o t e)) (suc d)) w w′ r
+  pub deeper : {r : Bool} (d : ℕ) → RanTo F (parse-control-flow (parse-block limit) (d + 1)) w w′ r → RanTo F (parse-control-flow (λ o t e. inNode Block (block-in limit o t e)) (suc d)) w w′ r
   unfolding parse-block
-  deeper {r} d h = let z : d + 1 ≡ suc d = omega arith in subst (λ (n : ℕ). WentTo F (parse-control-flow (parse-block limit) n) w w′ r) z h
+  deeper {r} d h = let z : d + 1 ≡ suc d = omega arith in subst (λ (n : ℕ). RanTo F (parse-control-flow (parse-block limit) n) w w′ r) z h
 
   -- a round of parse_block's loop, by its arm
   pub round : (owner : BlockOwner) (terminators : Terminators) (depth : ℕ) {o : BlockParseOutcome} {a : Arm} (b : Arm) → a ≡ arm-of terminators (from F (w .c .pos)) → a ≡ b
-      → WentTo F (by-arm b (block-in limit) limit owner terminators depth) w w′ o → WentTo F (block-in limit owner terminators depth) w w′ o
+      → RanTo F (by-arm b (block-in limit) limit owner terminators depth) w w′ o → RanTo F (block-in limit owner terminators depth) w w′ o
   round owner terminators depth b e f h = like-to (by-arm b (block-in limit) limit owner terminators depth) (block-by limit owner terminators depth _ b (sym f ∙ e)) h
 
   -- ---- the parts of a form
-  pub opened : {v : ℕ} {lead : P Bool → P Bool} {u : World} → Wrote F v w u → ((next : P Bool) (z : World) (r : Bool) → WentTo F next w′ z r → WentTo F (lead next) u z r)
-      → Paid 7 2 2 F (behind (w .c)) (w′ .c) → Opened F v lead w w′
-  opened {u} p h n = record { mid = u; wrote = p; on = h; paid = n }
+  pub opened : {v : ℕ} {lead : P Bool → P Bool} {u : World} → Wrote F v w u → ((next : P Bool) (z : World) (r : Bool) → RanTo F next w′ z r → RanTo F (lead next) u z r)
+      → Onward u w′ → Past F u w′ → Opened F v lead w w′
+  opened {u} p h n q = record {
+    mid = u;
+    wrote = p;
+    on = h;
+    onward = p .onward farther n;
+    past = record { on = omega (arith, q, p .pos); within = omega (arith, q, p .pos) };
+  }
 
-  pub finished : {owner : BlockOwner} {o o′ : BlockParseOutcome} {u : World} {e i : Bool} → o ≡ o′ → WentTo F (ended owner o′) w u e → Wrote F 0 u w′
-      → Paid 1 1 1 F (w .c) (w′ .c) → ItemAt F (w′ .c .pos) i → Finished F owner o w w′ e i
-  finished {owner} {u} {e} q h p n i = record { mid = u; went = subst (λ o. WentTo F (ended owner o) w u e) (sym q) h; wrote = p; paid = n; here = i }
+  pub finished : {owner : BlockOwner} {o o′ : BlockParseOutcome} {u : World} {e i : Bool} → o ≡ o′ → RanTo F (ended owner o′) w u e → Wrote F 0 u w′
+      → ItemAt F (w′ .c .pos) i → Finished F owner o w w′ e i
+  finished {owner} {u} {e} q h p i = record {
+    mid = u;
+    ran = subst (λ o. RanTo F (ended owner o) w u e) (sym q) h;
+    wrote = p;
+    onward = h .ran .onward farther p .onward;
+    here = i;
+  }
 
-pub closed : {k k′ : Closing} {owner : BlockOwner} {w w′ u : World} {o : BlockParseOutcome} {i : Bool} → k ≡ k′ → ((F : File) → WentTo F (ending k′ owner) w u o)
-    → ((F : File) → Wrote F 0 u w′) → w′ .c .pos ≡ w .c .pos → w′ .c .events ≤ w .c .events + 3 → w′ .c .diags ≤ w .c .diags + 1 → (i ≡ true → k′ ≡ Closing.Item) → Ended k owner w w′ o i
-closed {owner} {w} {u} {o} q h p n e d j = record {
+pub closed : {k k′ : Closing} {owner : BlockOwner} {w w′ u : World} {o : BlockParseOutcome} {i : Bool} → k ≡ k′ → ((F : File) → RanTo F (ending k′ owner) w u o)
+    → ((F : File) → Wrote F 0 u w′) → w′ .c .pos ≡ w .c .pos → (i ≡ true → k′ ≡ Closing.Item) → Ended k owner w w′ o i
+closed {owner} {w} {u} {o} q h p n j = record {
   mid = u;
-  went = λ F. subst (λ k. WentTo F (ending k owner) w u o) (sym q) (h F);
+  ran = λ F. subst (λ k. RanTo F (ending k owner) w u o) (sym q) (h F);
   wrote = p;
+  onward = h [] .ran .onward farther p [] .onward;
   pos = n;
-  events = e;
-  diags = d;
   at-item = λ z. q ∙ j z;
 }
 
@@ -207,32 +218,32 @@ pub said-no-item : {F : File} {p : ℕ} {i : Bool} → i ≡ false → ItemAt F 
 said-no-item e = record { starts = λ h. absurd (false≢true (sym e ∙ h)) }
 
 -- an outcome that the code has made
-pub gives : {F : File} {w : World} {a b : BlockParseOutcome} → b ≡ a → WentTo F (pure a) w w b
+pub gives : {F : File} {w : World} {a b : BlockParseOutcome} → b ≡ a → RanTo F (pure a) w w b
 gives {a} e = answers (done-to a) (sym e)
 
 -- ---- parse_if behind its first block, and parse_do_while behind its body
 module _ {F : File} {w u : World} (d : ℕ) {x b : Bool} where
   pub no-else : (o : BlockParseOutcome) → x ≡ (not (reached-eof o) && at (is ELSE) (from F (w .c .pos))) → x ≡ false
-      → WentTo F (ended BlockOwner.If o) w u b → WentTo F (else-part (parse-block limit) d o) w u b
+      → RanTo F (ended BlockOwner.If o) w u b → RanTo F (else-part (parse-block limit) d o) w u b
   unfolding ended
   no-else BlockParseOutcome.ReachedEof e k h = h
   no-else BlockParseOutcome.FoundTerminator e k h = bind-to (λ last. ended BlockOwner.If last) (no-to _ _ e k (done-to BlockParseOutcome.FoundTerminator)) h
   no-else BlockParseOutcome.RecoveredImplicitEnd e k h = bind-to (λ last. ended BlockOwner.If last) (no-to _ _ e k (done-to BlockParseOutcome.RecoveredImplicitEnd)) h
 
   pub with-else : {v : World} {p : BlockParseOutcome} (o : BlockParseOutcome) → x ≡ (not (reached-eof o) && at (is ELSE) (from F (w .c .pos))) → x ≡ true
-      → WentTo F (else-line (parse-block limit BlockOwner.If Terminators.End d)) w v p → WentTo F (ended BlockOwner.If p) v u b → WentTo F (else-part (parse-block limit) d o) w u b
+      → RanTo F (else-line (parse-block limit BlockOwner.If Terminators.End d)) w v p → RanTo F (ended BlockOwner.If p) v u b → RanTo F (else-part (parse-block limit) d o) w u b
   with-else BlockParseOutcome.ReachedEof e k g h = absurd (false≢true (sym e ∙ k))
   with-else BlockParseOutcome.FoundTerminator e k g h = bind-to (λ last. ended BlockOwner.If last) (yes-to _ _ e k g) h
   with-else BlockParseOutcome.RecoveredImplicitEnd e k g h = bind-to (λ last. ended BlockOwner.If last) (yes-to _ _ e k g) h
 
-  pub no-condition : (o : BlockParseOutcome) → x ≡ found-terminator o → x ≡ false → WentTo F (ended BlockOwner.DoWhile o) w u b → WentTo F (do-condition (parse-block limit) d o) w u b
+  pub no-condition : (o : BlockParseOutcome) → x ≡ found-terminator o → x ≡ false → RanTo F (ended BlockOwner.DoWhile o) w u b → RanTo F (do-condition (parse-block limit) d o) w u b
   unfolding ended closing do-condition pure _>>=_
   no-condition BlockParseOutcome.ReachedEof e k h = h
   no-condition BlockParseOutcome.FoundTerminator e k h = absurd (false≢true (sym k ∙ e))
   no-condition BlockParseOutcome.RecoveredImplicitEnd e k h = like-to (nop >> pure false) refl h
 
   pub condition : (o : BlockParseOutcome) → x ≡ found-terminator o → x ≡ true
-      → WentTo F (keyword-line WHILE (parse-block limit BlockOwner.DoWhile Terminators.End d >>= λ last. ended BlockOwner.DoWhile last)) w u b → WentTo F (do-condition (parse-block limit) d o) w u b
+      → RanTo F (keyword-line WHILE (parse-block limit BlockOwner.DoWhile Terminators.End d >>= λ last. ended BlockOwner.DoWhile last)) w u b → RanTo F (do-condition (parse-block limit) d o) w u b
   unfolding do-condition
   condition BlockParseOutcome.ReachedEof e k h = absurd (false≢true (sym e ∙ k))
   condition BlockParseOutcome.FoundTerminator e k h = h
@@ -244,46 +255,39 @@ found-is BlockParseOutcome.RecoveredImplicitEnd e = absurd (false≢true e)
 found-is BlockParseOutcome.ReachedEof e = absurd (false≢true e)
 
 -- the body of a `do` that was closed stands before a `while`
-pub at-while : {F : File} {w w′ : World} {o : BlockParseOutcome} (d : ℕ) → WentTo F (parse-block limit BlockOwner.DoWhileBody Terminators.While d) w w′ o → found-terminator o ≡ true → at (is WHILE) (from F (w′ .c .pos)) ≡ true
+pub at-while : {F : File} {w w′ : World} {o : BlockParseOutcome} (d : ℕ) → RanTo F (parse-block limit BlockOwner.DoWhileBody Terminators.While d) w w′ o → found-terminator o ≡ true → at (is WHILE) (from F (w′ .c .pos)) ≡ true
 at-while {F} {w} {w′} {o} d h e =
-    bare-while _ (ap (at-terminator Terminators.While) (sym (h .went .rest)) ∙ stops-block limit BlockOwner.DoWhileBody Terminators.While d .stops _ (h .val ∙ found-is o e))
+    bare-while _ (ap (at-terminator Terminators.While) (sym (h .ran .rest)) ∙ stops-block limit BlockOwner.DoWhileBody Terminators.While d .stops _ (h .val ∙ found-is o e))
 
 -- the last of the four forms
 pub repeat-here : (r : List Sym) → at control-flow r ≡ true → at (is IF) r ≡ false → at (is DO) r ≡ false → at (is WHILE) r ≡ false → at (is REPEAT) r ≡ true
 repeat-here r a b c d = repeat-left r (rw (a, b, c, d))
 
 -- ---- the rounds of a block
-module _ {F : File} {owner : BlockOwner} {terminators : Terminators} {depth : ℕ} {m w v w′ : World} {word word′ : Sym} {outcome : BlockParseOutcome} {item control : Bool} where
+module _ {F : File} {owner : BlockOwner} {terminators : Terminators} {depth : ℕ} {m w v w′ : World} {word word′ : Sym} {outcome₀ outcome : BlockParseOutcome} {item₀ control₀ item control : Bool} where
   -- the rounds behind a form, which goes from w to v, are rounds from before it on
-  pub from-form : AtForm F owner terminators depth m w word → ((u : World) (r : BlockParseOutcome) → WentTo F (block-in limit owner terminators depth) v u r → WentTo F (block-in limit owner terminators depth) w u r)
-      → Paid 7 0 0 F (w .c) (v .c) → Rounded F owner terminators depth v w′ outcome item control word′ → Rounded F owner terminators depth m w′ outcome item control word′
-  from-form a f p r = record {
-    form = λ e. let b = r .form e in record { on = λ u x h. a .on u x (f u x (b .on u x h)); arm = b .arm; first = b .first; below = b .below; paid = omega (arith, a .paid, p, b .paid) };
-    over = λ e. let b = r .over e in record { mid = b .mid; went = a .on _ _ (f _ _ (b .went)); wrote = b .wrote; paid = omega (arith, a .paid, p, b .paid); here = b .here };
-  }
+  pub from-form : control₀ ≡ true → Rounded F owner terminators depth m w outcome₀ item₀ control₀ word
+      → ((u : World) (r : BlockParseOutcome) → RanTo F (block-in limit owner terminators depth) v u r → RanTo F (block-in limit owner terminators depth) w u r)
+      → Onward w v → Rounded F owner terminators depth v w′ outcome item control word′ → Rounded F owner terminators depth m w′ outcome item control word′
+  from-form e₀ r₀ f o r =
+      let a = r₀ .form e₀ in
+      record {
+        onward = r₀ .onward farther o farther r .onward;
+        form = λ e. let b = r .form e in record { on = λ u x h. a .on u x (f u x (b .on u x h)); arm = b .arm; first = b .first; below = b .below };
+        over = λ e. let b = r .over e in record { mid = b .mid; ran = a .on _ _ (f _ _ (b .ran)); wrote = b .wrote; here = b .here };
+      }
 
 -- the same behind rounds that took tokens
 pub from-here : {F : File} {owner : BlockOwner} {terminators : Terminators} {depth : ℕ} {m w w′ : World} {word : Sym} {outcome : BlockParseOutcome} {item control : Bool}
-    → Leads F (block-in limit owner terminators depth) m (block-in limit owner terminators depth) w → Paid 7 0 0 F (m .c) (w .c)
+    → Leads F (block-in limit owner terminators depth) m (block-in limit owner terminators depth) w → Onward m w
     → Rounded F owner terminators depth w w′ outcome item control word → Rounded F owner terminators depth m w′ outcome item control word
-from-here l p r = record {
-  form = λ e. let b = r .form e in record { on = λ u x h. l .on u x (b .on u x h); arm = b .arm; first = b .first; below = b .below; paid = omega (arith, p, b .paid) };
-  over = λ e. let b = r .over e in record { mid = b .mid; went = l .on _ _ (b .went); wrote = b .wrote; paid = omega (arith, p, b .paid); here = b .here };
+from-here l o r = record {
+  onward = o farther r .onward;
+  form = λ e. let b = r .form e in record { on = λ u x h. l .on u x (b .on u x h); arm = b .arm; first = b .first; below = b .below };
+  over = λ e. let b = r .over e in record { mid = b .mid; ran = l .on _ _ (b .ran); wrote = b .wrote; here = b .here };
 }
 
--- rounds go ahead
-pub ahead : {F : File} {owner : BlockOwner} {terminators : Terminators} {depth : ℕ} {w w′ : World} {outcome : BlockParseOutcome} {item control : Bool} {word : Sym}
-    → Rounded F owner terminators depth w w′ outcome item control word → (w .c .pos ≤ w′ .c .pos) × (w′ .c .pos ≤ length F)
-ahead {F} {w} {w′} {control} r = go control refl
-  where
-    go : (b : Bool) → control ≡ b → (w .c .pos ≤ w′ .c .pos) × (w′ .c .pos ≤ length F)
-    go true e = (r .form e .paid .ahead, r .form e .paid .within)
-    go false e = (r .over e .paid .ahead, r .over e .paid .within)
-
--- what block_from's loop holds: rounds up to where it began are rounds up to where it is, and the slices keep their lengths
+-- what block_from's loop holds: rounds up to where it began are rounds up to where it is
 pub record Going (F : File) (owner : BlockOwner) (terminators : Terminators) (depth : ℕ) (e₀ m₀ p₀ : List ℕ) (s₀ : Stopped) (e m p : List ℕ) (s : Stopped) : Type 0 where
   pub on : (w : World) → Rounded F owner terminators depth w (world e₀ m₀ p₀ (s₀ .c)) (s₀ .outcome) (s₀ .item) (s₀ .control) (s₀ .word)
       → Rounded F owner terminators depth w (world e m p (s .c)) (s .outcome) (s .item) (s .control) (s .word)
-  pub ev : length e ≡ length e₀
-  pub dm : length m ≡ length m₀
-  pub ds : length p ≡ length p₀

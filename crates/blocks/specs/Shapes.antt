@@ -1,7 +1,8 @@
 -- What the functions around a block do, as parts of a form: an opening, what leads up to a block, an end. Assumes nothing: these are definitions.
 use mathlib.Core.Path.{_≡_}
 use mathlib.Core.Bool.{Bool, true, false, not, _&&_}
-use Prim.Native.Nat.{ℕ, _+_, _≤_, _<_}
+use mathlib.Core.List.{List}
+use Prim.Native.Nat.{ℕ, _<_}
 use Rattle.grammar.specs.Words.{Sym, File, from, is, ELSE, WHILE}
 use Rattle.grammar.specs.Look.{at, at-keyword, current, at-top-level-form-starter-in-block}
 use Rattle.grammar.specs.Run.{Error, P, pure, inNode, pick, _>>_, _>>=_, if_then_else_}
@@ -13,8 +14,7 @@ use Rattle.grammar.specs.declared.block.BlockParseOutcome.{BlockParseOutcome}
 use Rattle.grammar.specs.Bump.{bump, error-here, expect-keyword}
 use Rattle.grammar.specs.Line.{parse-line-tail}
 use Rattle.grammar.specs.Block.{MAX-CONTROL-FLOW-NESTING as limit, Blocks, parse-structured-header-suffixes, found-terminator, reached-eof, ended, block-in, parse-block}
-use Rattle.parser.specs.declared.cursor.Cursor.{Cursor}
-use Rattle.parser.specs.Rep.{World, Wrote, Went, WentTo, Paid, RanTo}
+use Rattle.parser.specs.Rep.{World, Onward, Past, Wrote, Ran, RanTo}
 use Rattle.blocks.specs.declared.arm.Closing.{Closing}
 use Rattle.blocks.specs.declared.arm.Arm.{Arm}
 use Rattle.blocks.specs.Arms.{arm-of, ending}
@@ -35,28 +35,27 @@ else-part block depth outcome =
     pick (reached-eof outcome) (pure true)
     ((if at-keyword ELSE then else-line (block BlockOwner.If Terminators.End depth) else pure outcome) >>= λ last. ended BlockOwner.If last)
 
--- one token on, with nothing written
-abbrev pub behind : Cursor → Cursor
-behind c = record { pos = c .pos + 1; events = c .events; diags = c .diags }
-
--- the code goes from w to w′ as `lead` does before what comes next, and takes a token: its n events and m diagnostics beyond what the later ones pay
-pub record Led {A : Type 0} (n m : ℕ) (F : File) (lead : P A → P A) (w w′ : World) : Type 0 where
-  pub on : (next : P A) (v : World) (r : A) → WentTo F next w′ v r → WentTo F (lead next) w v r
-  pub paid : Paid 7 n m F (behind (w .c)) (w′ .c)
+-- the code goes from w to w′ as `lead` does before what comes next, and takes a token
+pub record Led {A : Type 0} (F : File) (lead : P A → P A) (w w′ : World) : Type 0 where
+  pub on : (next : P A) (v : World) (r : A) → RanTo F next w′ v r → RanTo F (lead next) w v r
+  pub onward : Onward w w′
+  pub past : Past F w w′
 
 -- a keyword, and the rest of its line
 pub record Lined (F : File) (keyword : Sym) (w w′ : World) : Type 0 where
   pub mid : World
-  pub key : Went F (expect-keyword keyword Message.Unreached) w mid
-  pub tail : Went F parse-line-tail mid w′
-  pub paid : Paid 7 1 2 F (behind (w .c)) (w′ .c)
+  pub key : Ran F (expect-keyword keyword Message.Unreached) w mid
+  pub tail : Ran F parse-line-tail mid w′
+  pub onward : Onward w w′
+  pub past : Past F w w′
 
 -- the same behind a node's opening event, v
 pub record Opened (F : File) (v : ℕ) (lead : P Bool → P Bool) (w w′ : World) : Type 0 where
   pub mid : World
   pub wrote : Wrote F v w mid
-  pub on : (next : P Bool) (u : World) (r : Bool) → WentTo F next w′ u r → WentTo F (lead next) mid u r
-  pub paid : Paid 7 2 2 F (behind (w .c)) (w′ .c)
+  pub on : (next : P Bool) (u : World) (r : Bool) → RanTo F next w′ u r → RanTo F (lead next) mid u r
+  pub onward : Onward w w′
+  pub past : Past F w w′
 
 -- an item starts here where this is said
 pub record ItemAt (F : File) (p : ℕ) (item : Bool) : Type 0 where
@@ -64,84 +63,92 @@ pub record ItemAt (F : File) (p : ℕ) (item : Bool) : Type 0 where
 
 -- the empty Error node of a recovery
 pub record Recovered (owner : BlockOwner) (boundary : BlockRecoveryBoundary) (w w′ : World) : Type 0 where
-  pub went : (F : File) → Went F (inNode Error (error-here (Message.Recovery owner boundary))) w w′
+  pub ran : (F : File) → Ran F (inNode Error (error-here (Message.Recovery owner boundary))) w w′
   pub pos : w′ .c .pos ≡ w .c .pos
-  pub events : w′ .c .events ≡ w .c .events + 2
-  pub diags : w′ .c .diags ≡ w .c .diags + 1
 
 -- a block's end, and its closing event
 pub record Ended (k : Closing) (owner : BlockOwner) (w w′ : World) (outcome : BlockParseOutcome) (item : Bool) : Type 0 where
   pub mid : World
-  pub went : (F : File) → WentTo F (ending k owner) w mid outcome
+  pub ran : (F : File) → RanTo F (ending k owner) w mid outcome
   pub wrote : (F : File) → Wrote F 0 mid w′
+  pub onward : Onward w w′
   pub pos : w′ .c .pos ≡ w .c .pos
-  pub events : w′ .c .events ≤ w .c .events + 3
-  pub diags : w′ .c .diags ≤ w .c .diags + 1
   pub at-item : item ≡ true → k ≡ Closing.Item
 
 -- a form's end, and its closing event
 pub record Finished (F : File) (owner : BlockOwner) (outcome : BlockParseOutcome) (w w′ : World) (eof item : Bool) : Type 0 where
   pub mid : World
-  pub went : WentTo F (ended owner outcome) w mid eof
+  pub ran : RanTo F (ended owner outcome) w mid eof
   pub wrote : Wrote F 0 mid w′
-  pub paid : Paid 1 1 1 F (w .c) (w′ .c)
+  pub onward : Onward w w′
   pub here : ItemAt F (w′ .c .pos) item
 
 -- ---- the rounds of a block
 -- They come to a form below the limit: what is left of the block from there is what was left of it before.
 pub record AtForm (F : File) (owner : BlockOwner) (terminators : Terminators) (depth : ℕ) (w w′ : World) (word : Sym) : Type 0 where
-  pub on : (v : World) (r : BlockParseOutcome) → WentTo F (block-in limit owner terminators depth) w′ v r → WentTo F (block-in limit owner terminators depth) w v r
+  pub on : (v : World) (r : BlockParseOutcome) → RanTo F (block-in limit owner terminators depth) w′ v r → RanTo F (block-in limit owner terminators depth) w v r
   pub arm : arm-of terminators (from F (w′ .c .pos)) ≡ Arm.Control
   pub first : word ≡ current (from F (w′ .c .pos))
   pub below : depth < limit
-  pub paid : Paid 7 0 0 F (w .c) (w′ .c)
 
 -- Or they end the block, and its closing event is written.
 pub record Over (F : File) (owner : BlockOwner) (terminators : Terminators) (depth : ℕ) (w w′ : World) (outcome : BlockParseOutcome) (item : Bool) : Type 0 where
   pub mid : World
-  pub went : WentTo F (block-in limit owner terminators depth) w mid outcome
+  pub ran : RanTo F (block-in limit owner terminators depth) w mid outcome
   pub wrote : Wrote F 0 mid w′
-  pub paid : Paid 7 3 1 F (w .c) (w′ .c)
   pub here : ItemAt F (w′ .c .pos) item
 
 pub record Rounded (F : File) (owner : BlockOwner) (terminators : Terminators) (depth : ℕ) (w w′ : World) (outcome : BlockParseOutcome) (item control : Bool) (word : Sym) : Type 0 where
+  pub onward : Onward w w′
   pub form : control ≡ true → AtForm F owner terminators depth w w′ word
   pub over : control ≡ false → Over F owner terminators depth w w′ outcome item
 
 -- at a form, in whatever block
 pub record FormHere (F : File) (depth : ℕ) (w w′ : World) (outcome : BlockParseOutcome) (item control : Bool) (word : Sym) : Type 0 where
+  pub onward : Onward w w′
   pub of : (owner : BlockOwner) (terminators : Terminators) → arm-of terminators (from F (w .c .pos)) ≡ Arm.Control → Rounded F owner terminators depth w w′ outcome item control word
 
 -- the same behind the block's opening event
 pub record Begun (F : File) (owner : BlockOwner) (terminators : Terminators) (depth : ℕ) (w w′ : World) (outcome : BlockParseOutcome) (item control : Bool) (word : Sym) : Type 0 where
   pub mid : World
   pub wrote : Wrote F 18 w mid
-  pub events : mid .c .events ≡ w .c .events + 1
-  pub diags : mid .c .diags ≡ w .c .diags
+  pub onward : Onward w w′
   pub rounds : Rounded F owner terminators depth mid w′ outcome item control word
+
+-- ---- a block, and a form
+pub record Blocked (F : File) (owner : BlockOwner) (terminators : Terminators) (depth : ℕ) (w w′ : World) (outcome : BlockParseOutcome) (item : Bool) : Type 0 where
+  pub ran : RanTo F (parse-block limit owner terminators depth) w w′ outcome
+  pub here : ItemAt F (w′ .c .pos) item
+
+pub record Formed (F : File) (form : P Bool) (w w′ : World) (eof item : Bool) : Type 0 where
+  pub ran : RanTo F form w w′ eof
+  pub past : Past F w w′
+  pub here : ItemAt F (w′ .c .pos) item
 
 -- ---- the blocks of a form
 -- The last: the block, and the form's end.
 pub record Last (F : File) (owner : BlockOwner) (depth : ℕ) (w w′ : World) (eof item : Bool) : Type 0 where
   pub mid : World
   pub outcome : BlockParseOutcome
-  pub block : RanTo 7 4 1 F (parse-block limit owner Terminators.End depth) w mid outcome
+  pub block : RanTo F (parse-block limit owner Terminators.End depth) w mid outcome
   pub done : Finished F owner outcome mid w′ eof item
+  pub onward : Onward w w′
 
--- The first of an `if`: the block, and the line of its `else` or the form's end.
-pub record Then (F : File) (depth : ℕ) (w w′ : World) (more eof item : Bool) : Type 0 where
+-- The first: the block, and the line that leads to the other, where `goes` says so, or the form's end.
+pub record First {A : Type 0} (F : File) (block-owner : BlockOwner) (terminators : Terminators) (goes : BlockParseOutcome → List Sym → Bool)
+    (lead : P A → P A) (owner : BlockOwner) (depth : ℕ) (w w′ : World) (more eof item : Bool) : Type 0 where
   pub mid : World
   pub outcome : BlockParseOutcome
-  pub block : RanTo 7 4 1 F (parse-block limit BlockOwner.If Terminators.ElseEnd depth) w mid outcome
-  pub test : more ≡ (not (reached-eof outcome) && at (is ELSE) (from F (mid .c .pos)))
-  pub led : more ≡ true → Led 1 2 F else-line mid w′
-  pub done : more ≡ false → Finished F BlockOwner.If outcome mid w′ eof item
+  pub block : RanTo F (parse-block limit block-owner terminators depth) w mid outcome
+  pub test : more ≡ goes outcome (from F (mid .c .pos))
+  pub led : more ≡ true → Led F lead mid w′
+  pub done : more ≡ false → Finished F owner outcome mid w′ eof item
+  pub onward : Onward w w′
 
--- The body of a `do`: the block, and the line of its `while` or the form's end.
-pub record Body (F : File) (depth : ℕ) (w w′ : World) (more eof item : Bool) : Type 0 where
-  pub mid : World
-  pub outcome : BlockParseOutcome
-  pub block : RanTo 7 4 1 F (parse-block limit BlockOwner.DoWhileBody Terminators.While depth) w mid outcome
-  pub test : more ≡ found-terminator outcome
-  pub led : more ≡ true → Led 1 2 F (keyword-line WHILE) mid w′
-  pub done : more ≡ false → Finished F BlockOwner.DoWhile outcome mid w′ eof item
+-- of an `if`, up to the line of its `else`
+abbrev pub Then : File → ℕ → World → World → Bool → Bool → Bool → Type 0
+Then F = First F BlockOwner.If Terminators.ElseEnd (λ outcome r. not (reached-eof outcome) && at (is ELSE) r) else-line BlockOwner.If
+
+-- the body of a `do`, up to the line of its `while`
+abbrev pub Body : File → ℕ → World → World → Bool → Bool → Bool → Type 0
+Body F = First F BlockOwner.DoWhileBody Terminators.While (λ outcome r. found-terminator outcome) (keyword-line WHILE) BlockOwner.DoWhile

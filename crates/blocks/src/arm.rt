@@ -11,7 +11,6 @@ use parser::look::eof;
 use parser::look::is_top_level_starter;
 use parser::look::starts_behind_doc;
 ghost use mathlib.Core.Path.{_≡_};
-ghost use Prim.Native.Nat.{_≤_};
 ghost use lib.ListN.{length, drop};
 ghost use Rattle.grammar.specs.Look.{control-flow};
 ghost use Rattle.parser.specs.Ahead.{DocKnown};
@@ -59,7 +58,7 @@ fn is_control_flow(k: u16) -> bool
 
 // The tests behind those of `arm_here`. Where `item` holds, a block inside ended at an item that starts here.
 fn inner_arm(kinds: &[u16], p: usize, known: Remembered, item: bool) -> Seen
-    requires { ⌜ (p ≤ length (now kinds)) × (DocKnown (now kinds) p known) × (ItemAt (now kinds) p item) ⌝ }
+    requires { ⌜ (DocKnown (now kinds) p known) × (ItemAt (now kinds) p item) ⌝ }
     ensures { λ r. ⌜ (r .arm ≡ inner-arm (drop p (now (kinds .entry)))) × (DocKnown (now (kinds .entry)) p (r .known)) ⌝ }
 {
     if item {
@@ -115,7 +114,7 @@ pub fn arm_here(
     known: Remembered,
     item: bool,
 ) -> Seen
-    requires { ⌜ (p ≤ length (now kinds)) × (DocKnown (now kinds) p known) × (ItemAt (now kinds) p item) ⌝ }
+    requires { ⌜ (DocKnown (now kinds) p known) × (ItemAt (now kinds) p item) ⌝ }
     ensures { λ r. ⌜ (r .arm ≡ arm-of terminators (drop p (now (kinds .entry)))) × (DocKnown (now (kinds .entry)) p (r .known)) ⌝ }
 {
     let k = current(kinds, p);

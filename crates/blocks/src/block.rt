@@ -23,13 +23,13 @@ use parser::kinds::IF;
 use parser::kinds::WHILE;
 ghost use mathlib.Core.Path.{_≡_};
 ghost use mathlib.Core.Bool.{true};
-ghost use Prim.Native.Nat.{_≤_, _<_};
+ghost use Prim.Native.Nat.{_≤_};
 ghost use lib.ListN.{drop};
 ghost use Rattle.grammar.specs.Words.{is, DO as doWord, IF as ifWord, REPEAT as repeatWord, WHILE as whileWord};
 ghost use Rattle.grammar.specs.Look.{at, current, control-flow};
 ghost use Rattle.grammar.specs.Block.{MAX-CONTROL-FLOW-NESTING as limit, parse-block, parse-if, parse-while, parse-do-while, parse-repeat, parse-control-flow};
-ghost use Rattle.parser.specs.Rep.{entry, exit, RanTo};
-ghost use Rattle.blocks.specs.Shapes.{ItemAt, Then, Body, Last};
+ghost use Rattle.parser.specs.Rep.{entry, exit};
+ghost use Rattle.blocks.specs.Shapes.{Blocked, Formed, Then, Body, Last};
 
 // A form's first block: whether another follows, and if not, the form's end.
 struct Half {
@@ -55,8 +55,8 @@ pub fn parse_block(
     terminators: Terminators,
     depth: usize,
 ) -> BlockEnd
-    requires { ⌜ (depth ≤ limit) ⌝ }
-    ensures { λ r. ⌜ (RanTo (now (kinds .entry)) (parse-block limit owner terminators depth) (entry ev dm ds c0) (exit ev dm ds (r .c)) (r .outcome)) × ItemAt (now (kinds .entry)) (r .c .pos) (r .item) ⌝ }
+    requires { ⌜ depth ≤ limit ⌝ }
+    ensures { λ r. ⌜ Blocked (now (kinds .entry)) owner terminators depth (entry ev dm ds c0) (exit ev dm ds (r .c)) (r .outcome) (r .item) ⌝ }
 {
     let place = Place {
         depth: depth as u16,
@@ -78,8 +78,9 @@ fn block_from(
     ds: &mut [u32],
     start: Start,
 ) -> BlockEnd
-    requires { ⌜ (start .place .depth ≤ limit) ⌝ }
-    ensures { λ r. ⌜ (RanTo (now (kinds .entry)) (parse-block limit (start .place .owner) (start .place .terminators) (start .place .depth)) (entry ev dm ds (start .c)) (exit ev dm ds (r .c)) (r .outcome)) × ItemAt (now (kinds .entry)) (r .c .pos) (r .item) ⌝ }
+    requires { ⌜ start .place .depth ≤ limit ⌝ }
+    ensures { λ r. ⌜ Blocked (now (kinds .entry)) (start .place .owner) (start .place .terminators) (start .place .depth)
+        (entry ev dm ds (start .c)) (exit ev dm ds (r .c)) (r .outcome) (r .item) ⌝ }
 {
     let c0 = start.c;
     let place = start.place;
@@ -114,7 +115,8 @@ fn parse_control_flow(
     depth: usize,
 ) -> Form
     requires { ⌜ (k ≡ current (drop (c0 .pos) (now kinds))) × (at control-flow (drop (c0 .pos) (now kinds)) ≡ true) × (depth ≤ limit) ⌝ }
-    ensures { λ r. ⌜ (RanTo (now (kinds .entry)) (parse-control-flow (parse-block limit) depth) (entry ev dm ds c0) (exit ev dm ds (r .c)) (r .eof)) × (ItemAt (now (kinds .entry)) (r .c .pos) (r .item)) × (c0 .pos < r .c .pos) ⌝ }
+    ensures { λ r. ⌜ Formed (now (kinds .entry)) (parse-control-flow (parse-block limit) depth)
+        (entry ev dm ds c0) (exit ev dm ds (r .c)) (r .eof) (r .item) ⌝ }
 {
     if k == IF {
         return parse_if(kinds, ev, dm, ds, c0, depth);
@@ -139,8 +141,8 @@ fn inner_block(
     terminators: Terminators,
     depth: usize,
 ) -> BlockEnd
-    requires { ⌜ (depth ≤ limit) ⌝ }
-    ensures { λ r. ⌜ (RanTo (now (kinds .entry)) (parse-block limit owner terminators depth) (entry ev dm ds c0) (exit ev dm ds (r .c)) (r .outcome)) × ItemAt (now (kinds .entry)) (r .c .pos) (r .item) ⌝ }
+    requires { ⌜ depth ≤ limit ⌝ }
+    ensures { λ r. ⌜ Blocked (now (kinds .entry)) owner terminators depth (entry ev dm ds c0) (exit ev dm ds (r .c)) (r .outcome) (r .item) ⌝ }
 {
     let place = Place {
         depth: depth as u16,
@@ -164,7 +166,7 @@ fn last_block(
     owner: BlockOwner,
     depth: usize,
 ) -> Form
-    requires { ⌜ (depth ≤ limit) ⌝ }
+    requires { ⌜ depth ≤ limit ⌝ }
     ensures { λ r. ⌜ Last (now (kinds .entry)) owner depth (entry ev dm ds c0) (exit ev dm ds (r .c)) (r .eof) (r .item) ⌝ }
 {
     let b = inner_block(kinds, ev, dm, ds, c0, owner, Terminators::End, depth);
@@ -180,7 +182,7 @@ fn then_block(
     c0: Cursor,
     depth: usize,
 ) -> Half
-    requires { ⌜ (depth ≤ limit) ⌝ }
+    requires { ⌜ depth ≤ limit ⌝ }
     ensures { λ r. ⌜ Then (now (kinds .entry)) depth (entry ev dm ds c0) (exit ev dm ds (r .c)) (r .more) (r .eof) (r .item) ⌝ }
 {
     let b = inner_block(
@@ -223,7 +225,7 @@ fn body_block(
     c0: Cursor,
     depth: usize,
 ) -> Half
-    requires { ⌜ (depth ≤ limit) ⌝ }
+    requires { ⌜ depth ≤ limit ⌝ }
     ensures { λ r. ⌜ Body (now (kinds .entry)) depth (entry ev dm ds c0) (exit ev dm ds (r .c)) (r .more) (r .eof) (r .item) ⌝ }
 {
     let b = inner_block(
@@ -266,7 +268,8 @@ fn parse_if(
     depth: usize,
 ) -> Form
     requires { ⌜ (at (is ifWord) (drop (c0 .pos) (now kinds)) ≡ true) × (depth ≤ limit) ⌝ }
-    ensures { λ r. ⌜ (RanTo (now (kinds .entry)) (parse-if (parse-block limit) depth) (entry ev dm ds c0) (exit ev dm ds (r .c)) (r .eof)) × (ItemAt (now (kinds .entry)) (r .c .pos) (r .item)) × (c0 .pos < r .c .pos) ⌝ }
+    ensures { λ r. ⌜ Formed (now (kinds .entry)) (parse-if (parse-block limit) depth)
+        (entry ev dm ds c0) (exit ev dm ds (r .c)) (r .eof) (r .item) ⌝ }
 {
     let h = if_header(kinds, ev, dm, ds, c0);
     let b = then_block(kinds, ev, dm, ds, h, depth);
@@ -290,7 +293,8 @@ fn parse_while(
     depth: usize,
 ) -> Form
     requires { ⌜ (at (is whileWord) (drop (c0 .pos) (now kinds)) ≡ true) × (depth ≤ limit) ⌝ }
-    ensures { λ r. ⌜ (RanTo (now (kinds .entry)) (parse-while (parse-block limit) depth) (entry ev dm ds c0) (exit ev dm ds (r .c)) (r .eof)) × (ItemAt (now (kinds .entry)) (r .c .pos) (r .item)) × (c0 .pos < r .c .pos) ⌝ }
+    ensures { λ r. ⌜ Formed (now (kinds .entry)) (parse-while (parse-block limit) depth)
+        (entry ev dm ds c0) (exit ev dm ds (r .c)) (r .eof) (r .item) ⌝ }
 {
     let h = while_header(kinds, ev, dm, ds, c0);
     last_block(kinds, ev, dm, ds, h, BlockOwner::While, depth)
@@ -305,7 +309,8 @@ fn parse_do_while(
     depth: usize,
 ) -> Form
     requires { ⌜ (at (is doWord) (drop (c0 .pos) (now kinds)) ≡ true) × (depth ≤ limit) ⌝ }
-    ensures { λ r. ⌜ (RanTo (now (kinds .entry)) (parse-do-while (parse-block limit) depth) (entry ev dm ds c0) (exit ev dm ds (r .c)) (r .eof)) × (ItemAt (now (kinds .entry)) (r .c .pos) (r .item)) × (c0 .pos < r .c .pos) ⌝ }
+    ensures { λ r. ⌜ Formed (now (kinds .entry)) (parse-do-while (parse-block limit) depth)
+        (entry ev dm ds c0) (exit ev dm ds (r .c)) (r .eof) (r .item) ⌝ }
 {
     let h = do_header(kinds, ev, dm, ds, c0);
     let b = body_block(kinds, ev, dm, ds, h, depth);
@@ -329,7 +334,8 @@ fn parse_repeat(
     depth: usize,
 ) -> Form
     requires { ⌜ (at (is repeatWord) (drop (c0 .pos) (now kinds)) ≡ true) × (depth ≤ limit) ⌝ }
-    ensures { λ r. ⌜ (RanTo (now (kinds .entry)) (parse-repeat (parse-block limit) depth) (entry ev dm ds c0) (exit ev dm ds (r .c)) (r .eof)) × (ItemAt (now (kinds .entry)) (r .c .pos) (r .item)) × (c0 .pos < r .c .pos) ⌝ }
+    ensures { λ r. ⌜ Formed (now (kinds .entry)) (parse-repeat (parse-block limit) depth)
+        (entry ev dm ds c0) (exit ev dm ds (r .c)) (r .eof) (r .item) ⌝ }
 {
     let h = repeat_header(kinds, ev, dm, ds, c0);
     last_block(kinds, ev, dm, ds, h, BlockOwner::Repeat, depth)

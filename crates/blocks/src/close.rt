@@ -13,7 +13,6 @@ use parser::kinds::END;
 use parser::look::at_kind;
 ghost use mathlib.Core.Path.{_≡_};
 ghost use mathlib.Core.Bool.{false, not, _&&_};
-ghost use Prim.Native.Nat.{_<_, _^_};
 ghost use lib.ListN.{drop};
 ghost use Rattle.grammar.specs.Words.{is, ELSE as elseWord};
 ghost use Rattle.grammar.specs.Look.{at};
@@ -45,7 +44,6 @@ fn recover(
     owner: BlockOwner,
     boundary: BlockRecoveryBoundary,
 ) -> Cursor
-    requires { ⌜ (c0 .events < 2 ^ 39) × (c0 .diags < 2 ^ 40) × (c0 .pos < 2 ^ 32) ⌝ }
     ensures { λ r. ⌜ Recovered owner boundary (entry ev dm ds c0) (exit ev dm ds r) ⌝ }
 {
     let a = put(ev, c0, 1);
@@ -62,7 +60,6 @@ pub fn close(
     owner: BlockOwner,
     k: Closing,
 ) -> BlockEnd
-    requires { ⌜ (c0 .events < 2 ^ 38) × (c0 .diags < 2 ^ 40) × (c0 .pos < 2 ^ 32) ⌝ }
     ensures { λ r. ⌜ Ended k owner (entry ev dm ds c0) (exit ev dm ds (r .c)) (r .outcome) (r .item) ⌝ }
 {
     match k {
@@ -106,7 +103,6 @@ pub fn close(
 
 // The closing event of a block in which the file ended.
 pub fn ended_file(ev: &mut [u16], c0: Cursor) -> BlockEnd
-    requires { ⌜ c0 .events < 2 ^ 40 ⌝ }
     ensures { λ r. ⌜ (Put 0 (now (ev .entry)) c0 (now (ev .exit)) (r .c)) × (r .outcome ≡ ReachedEof) × (r .item ≡ false) ⌝ }
 {
     let c = put(ev, c0, 0);

@@ -20,7 +20,7 @@ pub fn expect(
     k: u16,
     m: Message,
 ) -> Flow
-    requires { ⌜ (regular-trivia k ≡ false) ⌝ }
+    requires { ⌜ regular-trivia k ≡ false ⌝ }
     ensures { λ r. ⌜ RanTo (now (kinds .entry)) (expect-kind k m) (entry ev dm ds c0) (exit ev dm ds (r .c)) (r .ok) ⌝ }
 {
     if at_kind(kinds, c0.pos, k) {

@@ -63,7 +63,7 @@ pub fn do_header(
     ds: &mut [u32],
     c0: Cursor,
 ) -> Cursor
-    requires { ⌜ (at (is doWord) (drop (c0 .pos) (now kinds)) ≡ true) ⌝ }
+    requires { ⌜ at (is doWord) (drop (c0 .pos) (now kinds)) ≡ true ⌝ }
     ensures { λ r. ⌜ Opened (now (kinds .entry)) 21 (keyword-line doWord) (entry ev dm ds c0) (exit ev dm ds r) ⌝ }
 {
     let a = put(ev, c0, 21);
@@ -78,8 +78,8 @@ pub fn else_line(
     ds: &mut [u32],
     c0: Cursor,
 ) -> Cursor
-    requires { ⌜ (at (is elseWord) (drop (c0 .pos) (now kinds)) ≡ true) ⌝ }
-    ensures { λ r. ⌜ Led 1 2 (now (kinds .entry)) else-line (entry ev dm ds c0) (exit ev dm ds r) ⌝ }
+    requires { ⌜ at (is elseWord) (drop (c0 .pos) (now kinds)) ≡ true ⌝ }
+    ensures { λ r. ⌜ Led (now (kinds .entry)) else-line (entry ev dm ds c0) (exit ev dm ds r) ⌝ }
 {
     keyword_line(kinds, ev, dm, ds, c0, ELSE)
 }
@@ -92,8 +92,8 @@ pub fn while_line(
     ds: &mut [u32],
     c0: Cursor,
 ) -> Cursor
-    requires { ⌜ (at (is whileWord) (drop (c0 .pos) (now kinds)) ≡ true) ⌝ }
-    ensures { λ r. ⌜ Led 1 2 (now (kinds .entry)) (keyword-line whileWord) (entry ev dm ds c0) (exit ev dm ds r) ⌝ }
+    requires { ⌜ at (is whileWord) (drop (c0 .pos) (now kinds)) ≡ true ⌝ }
+    ensures { λ r. ⌜ Led (now (kinds .entry)) (keyword-line whileWord) (entry ev dm ds c0) (exit ev dm ds r) ⌝ }
 {
     keyword_line(kinds, ev, dm, ds, c0, WHILE)
 }
@@ -106,7 +106,7 @@ pub fn if_header(
     ds: &mut [u32],
     c0: Cursor,
 ) -> Cursor
-    requires { ⌜ (at (is ifWord) (drop (c0 .pos) (now kinds)) ≡ true) ⌝ }
+    requires { ⌜ at (is ifWord) (drop (c0 .pos) (now kinds)) ≡ true ⌝ }
     ensures { λ r. ⌜ Opened (now (kinds .entry)) 19 (headerOf ifWord) (entry ev dm ds c0) (exit ev dm ds r) ⌝ }
 {
     header(kinds, ev, dm, ds, c0, 19, IF)
@@ -120,7 +120,7 @@ pub fn while_header(
     ds: &mut [u32],
     c0: Cursor,
 ) -> Cursor
-    requires { ⌜ (at (is whileWord) (drop (c0 .pos) (now kinds)) ≡ true) ⌝ }
+    requires { ⌜ at (is whileWord) (drop (c0 .pos) (now kinds)) ≡ true ⌝ }
     ensures { λ r. ⌜ Opened (now (kinds .entry)) 20 (headerOf whileWord) (entry ev dm ds c0) (exit ev dm ds r) ⌝ }
 {
     header(kinds, ev, dm, ds, c0, 20, WHILE)
@@ -134,7 +134,7 @@ pub fn repeat_header(
     ds: &mut [u32],
     c0: Cursor,
 ) -> Cursor
-    requires { ⌜ (at (is repeatWord) (drop (c0 .pos) (now kinds)) ≡ true) ⌝ }
+    requires { ⌜ at (is repeatWord) (drop (c0 .pos) (now kinds)) ≡ true ⌝ }
     ensures { λ r. ⌜ Opened (now (kinds .entry)) 22 (headerOf repeatWord) (entry ev dm ds c0) (exit ev dm ds r) ⌝ }
 {
     header(kinds, ev, dm, ds, c0, 22, REPEAT)

@@ -43,7 +43,8 @@ fn form_here(
     c0: Cursor,
     depth: usize,
 ) -> Stopped
-    ensures { λ r. ⌜ FormHere (now (kinds .entry)) depth (entry ev dm ds c0) (exit ev dm ds (r .c)) (r .outcome) (r .item) (r .control) (r .word) ⌝ }
+    ensures { λ r. ⌜ FormHere (now (kinds .entry)) depth
+        (entry ev dm ds c0) (exit ev dm ds (r .c)) (r .outcome) (r .item) (r .control) (r .word) ⌝ }
 {
     if MAX_CONTROL_FLOW_NESTING <= depth {
         let d = reject_excessive_control_flow_nesting(kinds, ev, dm, ds, c0);
@@ -79,7 +80,8 @@ fn rounds(
     item0: bool,
 ) -> Stopped
     requires { ⌜ ItemAt (now kinds) (c0 .pos) item0 ⌝ }
-    ensures { λ r. ⌜ Rounded (now (kinds .entry)) (place .owner) (place .terminators) (place .depth) (entry ev dm ds c0) (exit ev dm ds (r .c)) (r .outcome) (r .item) (r .control) (r .word) ⌝ }
+    ensures { λ r. ⌜ Rounded (now (kinds .entry)) (place .owner) (place .terminators) (place .depth)
+        (entry ev dm ds c0) (exit ev dm ds (r .c)) (r .outcome) (r .item) (r .control) (r .word) ⌝ }
 {
     let owner = place.owner;
     let terminators = place.terminators;
@@ -129,7 +131,8 @@ pub fn first_rounds(
     c0: Cursor,
     place: Place,
 ) -> Stopped
-    ensures { λ r. ⌜ Begun (now (kinds .entry)) (place .owner) (place .terminators) (place .depth) (entry ev dm ds c0) (exit ev dm ds (r .c)) (r .outcome) (r .item) (r .control) (r .word) ⌝ }
+    ensures { λ r. ⌜ Begun (now (kinds .entry)) (place .owner) (place .terminators) (place .depth)
+        (entry ev dm ds c0) (exit ev dm ds (r .c)) (r .outcome) (r .item) (r .control) (r .word) ⌝ }
 {
     let c = put(ev, c0, 18);
     rounds(kinds, ev, dm, ds, c, place, false)
@@ -146,7 +149,8 @@ pub fn next_rounds(
     item0: bool,
 ) -> Stopped
     requires { ⌜ ItemAt (now kinds) (c0 .pos) item0 ⌝ }
-    ensures { λ r. ⌜ Rounded (now (kinds .entry)) (place .owner) (place .terminators) (place .depth) (entry ev dm ds c0) (exit ev dm ds (r .c)) (r .outcome) (r .item) (r .control) (r .word) ⌝ }
+    ensures { λ r. ⌜ Rounded (now (kinds .entry)) (place .owner) (place .terminators) (place .depth)
+        (entry ev dm ds c0) (exit ev dm ds (r .c)) (r .outcome) (r .item) (r .control) (r .word) ⌝ }
 {
     rounds(kinds, ev, dm, ds, c0, place, item0)
 }

@@ -1,7 +1,7 @@
 // From the tokens to events and diagnostics.
 use answer::Answer;
-use room::least;
 use marks::Refusal;
+use room::least;
 ghost use mathlib.Core.Path.{_≡_};
 ghost use Prim.Native.Nat.{_≤_};
 ghost use mathlib.Core.Bool.{cond, _||_};

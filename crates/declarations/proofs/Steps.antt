@@ -8,9 +8,9 @@ use Rattle.grammar.specs.Words.{Sym, File}
 use Rattle.grammar.specs.Run.{Forest, _<>_, Res, P, pure, pick, _>>=_, _>>_, loop}
 use Rattle.grammar.specs.Laws.Good.{app-assoc}
 use Rattle.grammar.specs.Laws.Loops.{loop-eq}
-use Rattle.parser.specs.Rep.{World, Ran, RanTo}
+use Rattle.parser.specs.Rep.{Past, World, Ran, RanTo}
 use Rattle.parser.proofs.Kit.{like, like-to, done-to, bind-to}
-use Rattle.parser.proofs.Laws.{Past, past-here}
+use Rattle.parser.proofs.Laws.{past-here}
 
 -- ---- steps and then what comes behind them, as the definition puts them: one step and then the others
 two : {A B C : Type 0} (f : P A) (g : P B) (k : B → P C) (r : List Sym) → ((f >> g) >>= k) r ≡ (f >> (g >>= k)) r

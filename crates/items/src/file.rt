@@ -29,7 +29,8 @@ fn source_items(kinds: &[u16], ev: &mut [u16], dm: &mut [u16], ds: &mut [u32], c
 // The whole file, in its root node.
 pub fn parse(kinds: &[u16], ev: &mut [u16], dm: &mut [u16], ds: &mut [u32]) -> Cursor
     requires { ⌜ length (now kinds) ≤ 2 ^ 20 ⌝ }
-    ensures { λ r. ⌜ Parsed (now (kinds .entry)) (base (now (ev .entry)) (now (dm .entry)) (now (ds .entry))) (world (now (ev .exit)) (now (dm .exit)) (now (ds .exit)) r) ⌝ }
+    ensures { λ r. ⌜ Parsed (now (kinds .entry)) (base (now (ev .entry)) (now (dm .entry)) (now (ds .entry))) (world (now (ev .exit)) (now (dm .exit)) (now (ds .exit)) r)
+        λ r. ⌜ Parsed (now (kinds .entry)) (base (now (ev .entry)) (now (dm .entry)) (now (ds .entry))) (world (now (ev .exit)) (now (dm .exit)) (now (ds .exit)) r) ⌝ }
 {
     let start = Cursor {
         pos: 0,

@@ -25,7 +25,7 @@ use Rattle.grammar.specs.Message.{number}
 use Rattle.grammar.specs.Out.{kind, Diag}
 use Rattle.grammar.specs.State.{State, run, write, report}
 use Rattle.grammar.specs.Laws.Code.{run-err}
-use Rattle.parser.specs.Rep.{World, world, Rep, Small, Onward, Wrote, Ran}
+use Rattle.parser.specs.Rep.{World, world, Rep, Small, Onward, Past, Wrote, Ran}
 use Rattle.parser.proofs.Kit.{stays, _farther_, small-written}
 
 abbrev unrecognized : ℕ
@@ -211,11 +211,6 @@ module _ {F : File} {w w′ : World} where
 module _ (F : File) where
   pub left : (p : ℕ) → length (from F p) ≡ length F - p
   left p = length-drop p F
-
--- at least one token was there and is taken
-pub record Past (F : File) (w w′ : World) : Type 0 where
-  pub on : w .c .pos < w′ .c .pos
-  pub within : w .c .pos < length F
 
 pub past-here : {A : Type 0} {F : File} {f : P A} {w w′ : World} → Ran F f w w′ → length (f (from F (w .c .pos)) .rest) < length (from F (w .c .pos)) → Past F w w′
 past-here {F} {w} {w′} h e = record {

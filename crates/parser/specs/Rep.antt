@@ -58,6 +58,11 @@ pub record Onward (w w′ : World) : Type 0 where
   pub dm : length (w′ .dm) ≡ length (w .dm)
   pub ds : length (w′ .ds) ≡ length (w .ds)
 
+-- there is a token at w, and it is taken before w′
+pub record Past (F : File) (w w′ : World) : Type 0 where
+  pub on : w .c .pos < w′ .c .pos
+  pub within : w .c .pos < length F
+
 -- the code goes from w to w′ as an event is written
 pub record Wrote (F : File) (v : ℕ) (w w′ : World) : Type 0 where
   pub sim : (b : World) (s : State) → Rep F b w s → Small (write v s) → Rep F b w′ (write v s)
@@ -78,6 +83,7 @@ pub record RanTo {A : Type 0} (F : File) (f : P A) (w w′ : World) (r : A) : Ty
 -- ---- the contracts of functions that are lent fewer slices, or say more
 pub record Put (v : ℕ) (ev : List ℕ) (c : Cursor) (ev′ : List ℕ) (c′ : Cursor) : Type 0 where
   pub wrote : (F : File) (dm ds : List ℕ) → Wrote F v (world ev dm ds c) (world ev′ dm ds c′)
+  pub pos : c′ .pos ≡ c .pos
 
 pub record Said (m : ℕ) (dm ds : List ℕ) (c : Cursor) (dm′ ds′ : List ℕ) (c′ : Cursor) : Type 0 where
   pub ran : (F : File) (ev : List ℕ) → Ran F (Run.err m) (world ev dm ds c) (world ev dm′ ds′ c′)

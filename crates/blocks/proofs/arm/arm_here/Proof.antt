@@ -19,13 +19,13 @@ unfolding arm-of oneOf
 returns c =
     let c₁ = c .before .before .before .before in
     let e = at-number regular-trivia _ refl (c .before .before .current .ensures) (c .before .is-regular-trivia .ensures) (c .if1 .taken) in
-    (rw (at-some regular-trivia _ e, trivia-no-end (c₁ .args .terminators) _ e, e), c₁ .pre .1)
+    (rw (at-some regular-trivia _ e, trivia-no-end (c₁ .args .terminators) _ e, e), c₁ .pre .0)
 
 returns-2 : tie.Need-returns-2
 returns-2 c =
     let c₁ = c .before .before .before in
     let c₂ = c₁ .before .before in
-    (ident-arm (c₂ .args .terminators) _ (c₁ .current .ensures) (c .if2 .taken), c₂ .pre .1)
+    (ident-arm (c₂ .args .terminators) _ (c₁ .current .ensures) (c .if2 .taken), c₂ .pre .0)
 
 eof-requires : tie.Need-eof-requires
 eof-requires c κs = search needs
@@ -34,19 +34,19 @@ returns-3 : tie.Need-returns-3
 unfolding arm-of oneOf
 returns-3 c =
     let c₁ = c .before .before .before .before .before .before .before in
-    (rw (sym (c .before .eof .ensures) ∙ c .if3 .taken), c₁ .pre .1)
+    (rw (sym (c .before .eof .ensures) ∙ c .if3 .taken), c₁ .pre .0)
 
 at-terminator-requires : tie.Need-at-terminator-requires
 at-terminator-requires c κs =
     let c₁ = c .before .before .before .before .before .before .before in
-    c₁ .pre .0
+    tt
 
 returns-4 : tie.Need-returns-4
 unfolding arm-of oneOf
 returns-4 c =
     let c₁ = c .before .before .before in
     let c₂ = c₁ .before .before .before .before .before .before in
-    (rw (sym (c₁ .eof .ensures) ∙ c .before .before .if3 .left, sym (c .before .at-terminator .ensures) ∙ c .if4 .taken), c₂ .pre .1)
+    (rw (sym (c₁ .eof .ensures) ∙ c .before .before .if3 .left, sym (c .before .at-terminator .ensures) ∙ c .if4 .taken), c₂ .pre .0)
 
 at-stray-else-requires : tie.Need-at-stray-else-requires
 at-stray-else-requires c κs = search needs
@@ -61,12 +61,12 @@ returns-5 c =
     let c₅ = c₄ .before in
     let c₆ = c₅ .before in
     let c₇ = c₆ .before .before in
-    (rw (sym (c₃ .eof .ensures) ∙ c₂ .if3 .left, sym (c₁ .at-terminator .ensures) ∙ c .before .before .if4 .left, at-number regular-trivia _ refl (c₆ .current .ensures) (c₅ .is-regular-trivia .ensures) (c₄ .if1 .left), sym (c .before .at-stray-else .ensures) ∙ c .if5 .taken), c₇ .pre .1)
+    (rw (sym (c₃ .eof .ensures) ∙ c₂ .if3 .left, sym (c₁ .at-terminator .ensures) ∙ c .before .before .if4 .left, at-number regular-trivia _ refl (c₆ .current .ensures) (c₅ .is-regular-trivia .ensures) (c₄ .if1 .left), sym (c .before .at-stray-else .ensures) ∙ c .if5 .taken), c₇ .pre .0)
 
 inner-arm-requires : tie.Need-inner-arm-requires
 inner-arm-requires c κs =
     let c₁ = c .before .before .before .before .before .before .before .before .before .before .before in
-    (c₁ .pre .0, c₁ .pre .1, c₁ .pre .2)
+    (c₁ .pre .0, c₁ .pre .1)
 
 returns-6 : tie.Need-returns-6
 unfolding arm-of oneOf

@@ -11,7 +11,7 @@ use Rattle.blocks.proofs.arm.inner_arm.Tie as tie
 
 returns : tie.Need-returns
 unfolding inner-arm
-returns c = (rw (c .before .before .pre .2 .starts (c .if1 .taken)), c .before .before .pre .1)
+returns c = (rw (c .before .before .pre .1 .starts (c .if1 .taken)), c .before .before .pre .0)
 
 current-requires : tie.Need-current-requires
 current-requires c κs = search needs
@@ -19,7 +19,7 @@ current-requires c κs = search needs
 starts-behind-doc-requires : tie.Need-starts-behind-doc-requires
 starts-behind-doc-requires c κs =
     let c₁ = c .before .before .before .before in
-    (at-here DocComment _ refl (c .before .current .ensures) (c .if2 .taken), c₁ .pre .1)
+    (at-here DocComment _ refl (c .before .current .ensures) (c .if2 .taken), c₁ .pre .0)
 
 returns-2 : tie.Need-returns-2
 unfolding inner-arm
@@ -34,14 +34,14 @@ returns-3 c =
 is-top-level-starter-requires : tie.Need-is-top-level-starter-requires
 is-top-level-starter-requires c κs =
     let c₁ = c .before .before .before .before in
-    c₁ .pre .0
+    tt
 
 returns-4 : tie.Need-returns-4
 unfolding inner-arm
 returns-4 c =
     let c₁ = c .before .before .before in
     let c₂ = c₁ .before .before .before in
-    (rw (plain-starter _ (at-not DocComment _ refl (c₁ .current .ensures) (c .before .before .if2 .left)) ∙ sym (c .before .is-top-level-starter .ensures) ∙ c .if4 .taken), c₂ .pre .1)
+    (rw (plain-starter _ (at-not DocComment _ refl (c₁ .current .ensures) (c .before .before .if2 .left)) ∙ sym (c .before .is-top-level-starter .ensures) ∙ c .if4 .taken), c₂ .pre .0)
 
 is-control-flow-requires : tie.Need-is-control-flow-requires
 is-control-flow-requires c κs = search needs
@@ -54,7 +54,7 @@ returns-5 c =
     let c₃ = c₂ .before in
     let c₄ = c₃ .before .before .before in
     let d = at-not DocComment _ refl (c₃ .current .ensures) (c₂ .if2 .left) in
-    (rw (plain-starter _ d ∙ sym (c₁ .is-top-level-starter .ensures) ∙ c .before .before .if4 .left, d, at-number control-flow _ refl (c₃ .current .ensures) (c .before .is-control-flow .ensures) (c .if5 .taken)), c₄ .pre .1)
+    (rw (plain-starter _ d ∙ sym (c₁ .is-top-level-starter .ensures) ∙ c .before .before .if4 .left, d, at-number control-flow _ refl (c₃ .current .ensures) (c .before .is-control-flow .ensures) (c .if5 .taken)), c₄ .pre .0)
 
 starts-instruction-requires : tie.Need-starts-instruction-requires
 starts-instruction-requires c κs = search needs
@@ -69,7 +69,7 @@ returns-6 c =
     let c₅ = c₄ .before in
     let c₆ = c₅ .before .before .before in
     let d = at-not DocComment _ refl (c₅ .current .ensures) (c₄ .if2 .left) in
-    (rw (plain-starter _ d ∙ sym (c₃ .is-top-level-starter .ensures) ∙ c₂ .if4 .left, d, at-number control-flow _ refl (c₅ .current .ensures) (c₁ .is-control-flow .ensures) (c .before .before .if5 .left), at-number starts-instruction _ refl (c₅ .current .ensures) (c .before .starts-instruction .ensures) (c .if6 .taken)), c₆ .pre .1)
+    (rw (plain-starter _ d ∙ sym (c₃ .is-top-level-starter .ensures) ∙ c₂ .if4 .left, d, at-number control-flow _ refl (c₅ .current .ensures) (c₁ .is-control-flow .ensures) (c .before .before .if5 .left), at-number starts-instruction _ refl (c₅ .current .ensures) (c .before .starts-instruction .ensures) (c .if6 .taken)), c₆ .pre .0)
 
 returns-7 : tie.Need-returns-7
 unfolding inner-arm oneOf starts-instruction name-like
@@ -81,7 +81,7 @@ returns-7 c =
     let c₅ = c₄ .before in
     let c₆ = c₅ .before .before .before in
     let d = at-not DocComment _ refl (c₅ .current .ensures) (c₄ .if2 .left) in
-    (rw (plain-starter _ d ∙ sym (c₃ .is-top-level-starter .ensures) ∙ c₂ .if4 .left, d, at-number control-flow _ refl (c₅ .current .ensures) (c₁ .is-control-flow .ensures) (c .before .before .if5 .left), at-number starts-instruction _ refl (c₅ .current .ensures) (c .before .starts-instruction .ensures) (c .if6 .left)), c₆ .pre .1)
+    (rw (plain-starter _ d ∙ sym (c₃ .is-top-level-starter .ensures) ∙ c₂ .if4 .left, d, at-number control-flow _ refl (c₅ .current .ensures) (c₁ .is-control-flow .ensures) (c .before .before .if5 .left), at-number starts-instruction _ refl (c₅ .current .ensures) (c .before .starts-instruction .ensures) (c .if6 .left)), c₆ .pre .0)
 
 pub inner-arm-spec : {M : Type 1} → statement M
 inner-arm-spec =

@@ -37,13 +37,13 @@ use Rattle.blocks.proofs.block.+block_from+body_block+inner_block+last_
 pub +block-from+body-block+inner-block+last-block+parse-control-flow+parse-do-while+parse-if+parse-repeat+parse-while+then-block-spec : {M : Type 1} → statement M
 +block-from+body-block+inner-block+last-block+parse-control-flow+parse-do-while+parse-if+parse-repeat+parse-while+then-block-spec =
     close μ-block-from μ-body-block μ-inner-block μ-last-block μ-parse-control-flow μ-parse-do-while μ-parse-if μ-parse-repeat μ-parse-while μ-then-block
-    (λ t. block-from-lts.spec (block-from-calls t) (block-from-at t) block-from.Post block-from-Inv-loop block-from-μ-loop (BlockFrom.cast-depth t) (BlockFrom.first-rounds-requires t) (BlockFrom.loop-holds t) (BlockFrom.add-parse-control-flow t) (BlockFrom.parse-control-flow-requires t) (BlockFrom.ended-file-requires t) (BlockFrom.same-length t) (BlockFrom.same-length-2 t) (BlockFrom.same-length-3 t) (BlockFrom.returns t) (BlockFrom.next-rounds-requires t) (BlockFrom.loop-less t) (BlockFrom.loop-again t) (BlockFrom.same-length-4 t) (BlockFrom.same-length-5 t) (BlockFrom.same-length-6 t) (BlockFrom.returns-2 t))
-    (λ t. body-block-lts.spec (body-block-calls t) (body-block-at t) body-block.Post (BodyBlock.inner-block-requires t) (BodyBlock.found-terminator-requires t) (BodyBlock.while-line-requires t) (BodyBlock.same-length t) (BodyBlock.same-length-2 t) (BodyBlock.same-length-3 t) (BodyBlock.returns t) (BodyBlock.finish-requires t) (BodyBlock.same-length-4 t) (BodyBlock.same-length-5 t) (BodyBlock.same-length-6 t) (BodyBlock.returns-2 t))
-    (λ t. inner-block-lts.spec (inner-block-calls t) (inner-block-at t) inner-block.Post (InnerBlock.cast-t11 t) (InnerBlock.block-from-requires t) (InnerBlock.same-length t) (InnerBlock.same-length-2 t) (InnerBlock.same-length-3 t) (InnerBlock.returns t))
-    (λ t. last-block-lts.spec (last-block-calls t) (last-block-at t) last-block.Post (LastBlock.inner-block-requires t) (LastBlock.finish-requires t) (LastBlock.same-length t) (LastBlock.same-length-2 t) (LastBlock.same-length-3 t) (LastBlock.returns t))
-    (λ t. parse-control-flow-lts.spec (parse-control-flow-calls t) (parse-control-flow-at t) parse-control-flow.Post (ParseControlFlow.parse-if-requires t) (ParseControlFlow.same-length t) (ParseControlFlow.same-length-2 t) (ParseControlFlow.same-length-3 t) (ParseControlFlow.returns t) (ParseControlFlow.parse-do-while-requires t) (ParseControlFlow.same-length-4 t) (ParseControlFlow.same-length-5 t) (ParseControlFlow.same-length-6 t) (ParseControlFlow.returns-2 t) (ParseControlFlow.parse-while-requires t) (ParseControlFlow.same-length-7 t) (ParseControlFlow.same-length-8 t) (ParseControlFlow.same-length-9 t) (ParseControlFlow.returns-3 t) (ParseControlFlow.parse-repeat-requires t) (ParseControlFlow.same-length-10 t) (ParseControlFlow.same-length-11 t) (ParseControlFlow.same-length-12 t) (ParseControlFlow.returns-4 t))
-    (λ t. parse-do-while-lts.spec (parse-do-while-calls t) (parse-do-while-at t) parse-do-while.Post (ParseDoWhile.do-header-requires t) (ParseDoWhile.body-block-requires t) (ParseDoWhile.same-length t) (ParseDoWhile.same-length-2 t) (ParseDoWhile.same-length-3 t) (ParseDoWhile.returns t) (ParseDoWhile.last-block-requires t) (ParseDoWhile.same-length-4 t) (ParseDoWhile.same-length-5 t) (ParseDoWhile.same-length-6 t) (ParseDoWhile.returns-2 t))
-    (λ t. parse-if-lts.spec (parse-if-calls t) (parse-if-at t) parse-if.Post (ParseIf.if-header-requires t) (ParseIf.then-block-requires t) (ParseIf.same-length t) (ParseIf.same-length-2 t) (ParseIf.same-length-3 t) (ParseIf.returns t) (ParseIf.last-block-requires t) (ParseIf.same-length-4 t) (ParseIf.same-length-5 t) (ParseIf.same-length-6 t) (ParseIf.returns-2 t))
-    (λ t. parse-repeat-lts.spec (parse-repeat-calls t) (parse-repeat-at t) parse-repeat.Post (ParseRepeat.repeat-header-requires t) (ParseRepeat.last-block-requires t) (ParseRepeat.same-length t) (ParseRepeat.same-length-2 t) (ParseRepeat.same-length-3 t) (ParseRepeat.returns t))
-    (λ t. parse-while-lts.spec (parse-while-calls t) (parse-while-at t) parse-while.Post (ParseWhile.while-header-requires t) (ParseWhile.last-block-requires t) (ParseWhile.same-length t) (ParseWhile.same-length-2 t) (ParseWhile.same-length-3 t) (ParseWhile.returns t))
-    (λ t. then-block-lts.spec (then-block-calls t) (then-block-at t) then-block.Post (ThenBlock.inner-block-requires t) (ThenBlock.goes-to-else-requires t) (ThenBlock.else-line-requires t) (ThenBlock.same-length t) (ThenBlock.same-length-2 t) (ThenBlock.same-length-3 t) (ThenBlock.returns t) (ThenBlock.finish-requires t) (ThenBlock.same-length-4 t) (ThenBlock.same-length-5 t) (ThenBlock.same-length-6 t) (ThenBlock.returns-2 t))
+    (λ t. block-from-lts.spec (block-from-calls t) (block-from-at t) block-from.Post block-from-Inv-loop block-from-μ-loop (BlockFrom.cast-depth t) (λ c κs. tt) (BlockFrom.loop-holds t) (BlockFrom.add-parse-control-flow t) (BlockFrom.parse-control-flow-requires t) (λ c κs. tt) (λ c. BlockFrom.returns t c .ran .ran .onward .ev) (λ c. BlockFrom.returns t c .ran .ran .onward .dm) (λ c. BlockFrom.returns t c .ran .ran .onward .ds) (BlockFrom.returns t) (BlockFrom.next-rounds-requires t) (BlockFrom.loop-less t) (BlockFrom.loop-again t) (λ c. BlockFrom.returns-2 t c .ran .ran .onward .ev) (λ c. BlockFrom.returns-2 t c .ran .ran .onward .dm) (λ c. BlockFrom.returns-2 t c .ran .ran .onward .ds) (BlockFrom.returns-2 t))
+    (λ t. body-block-lts.spec (body-block-calls t) (body-block-at t) body-block.Post (BodyBlock.inner-block-requires t) (λ c κs. tt) (BodyBlock.while-line-requires t) (λ c. BodyBlock.returns t c .onward .ev) (λ c. BodyBlock.returns t c .onward .dm) (λ c. BodyBlock.returns t c .onward .ds) (BodyBlock.returns t) (BodyBlock.finish-requires t) (λ c. BodyBlock.returns-2 t c .onward .ev) (λ c. BodyBlock.returns-2 t c .onward .dm) (λ c. BodyBlock.returns-2 t c .onward .ds) (BodyBlock.returns-2 t))
+    (λ t. inner-block-lts.spec (inner-block-calls t) (inner-block-at t) inner-block.Post (InnerBlock.cast-t11 t) (InnerBlock.block-from-requires t) (λ c. InnerBlock.returns t c .ran .ran .onward .ev) (λ c. InnerBlock.returns t c .ran .ran .onward .dm) (λ c. InnerBlock.returns t c .ran .ran .onward .ds) (InnerBlock.returns t))
+    (λ t. last-block-lts.spec (last-block-calls t) (last-block-at t) last-block.Post (LastBlock.inner-block-requires t) (LastBlock.finish-requires t) (λ c. LastBlock.returns t c .onward .ev) (λ c. LastBlock.returns t c .onward .dm) (λ c. LastBlock.returns t c .onward .ds) (LastBlock.returns t))
+    (λ t. parse-control-flow-lts.spec (parse-control-flow-calls t) (parse-control-flow-at t) parse-control-flow.Post (ParseControlFlow.parse-if-requires t) (λ c. ParseControlFlow.returns t c .ran .ran .onward .ev) (λ c. ParseControlFlow.returns t c .ran .ran .onward .dm) (λ c. ParseControlFlow.returns t c .ran .ran .onward .ds) (ParseControlFlow.returns t) (ParseControlFlow.parse-do-while-requires t) (λ c. ParseControlFlow.returns-2 t c .ran .ran .onward .ev) (λ c. ParseControlFlow.returns-2 t c .ran .ran .onward .dm) (λ c. ParseControlFlow.returns-2 t c .ran .ran .onward .ds) (ParseControlFlow.returns-2 t) (ParseControlFlow.parse-while-requires t) (λ c. ParseControlFlow.returns-3 t c .ran .ran .onward .ev) (λ c. ParseControlFlow.returns-3 t c .ran .ran .onward .dm) (λ c. ParseControlFlow.returns-3 t c .ran .ran .onward .ds) (ParseControlFlow.returns-3 t) (ParseControlFlow.parse-repeat-requires t) (λ c. ParseControlFlow.returns-4 t c .ran .ran .onward .ev) (λ c. ParseControlFlow.returns-4 t c .ran .ran .onward .dm) (λ c. ParseControlFlow.returns-4 t c .ran .ran .onward .ds) (ParseControlFlow.returns-4 t))
+    (λ t. parse-do-while-lts.spec (parse-do-while-calls t) (parse-do-while-at t) parse-do-while.Post (ParseDoWhile.do-header-requires t) (ParseDoWhile.body-block-requires t) (λ c. ParseDoWhile.returns t c .ran .ran .onward .ev) (λ c. ParseDoWhile.returns t c .ran .ran .onward .dm) (λ c. ParseDoWhile.returns t c .ran .ran .onward .ds) (ParseDoWhile.returns t) (ParseDoWhile.last-block-requires t) (λ c. ParseDoWhile.returns-2 t c .ran .ran .onward .ev) (λ c. ParseDoWhile.returns-2 t c .ran .ran .onward .dm) (λ c. ParseDoWhile.returns-2 t c .ran .ran .onward .ds) (ParseDoWhile.returns-2 t))
+    (λ t. parse-if-lts.spec (parse-if-calls t) (parse-if-at t) parse-if.Post (ParseIf.if-header-requires t) (ParseIf.then-block-requires t) (λ c. ParseIf.returns t c .ran .ran .onward .ev) (λ c. ParseIf.returns t c .ran .ran .onward .dm) (λ c. ParseIf.returns t c .ran .ran .onward .ds) (ParseIf.returns t) (ParseIf.last-block-requires t) (λ c. ParseIf.returns-2 t c .ran .ran .onward .ev) (λ c. ParseIf.returns-2 t c .ran .ran .onward .dm) (λ c. ParseIf.returns-2 t c .ran .ran .onward .ds) (ParseIf.returns-2 t))
+    (λ t. parse-repeat-lts.spec (parse-repeat-calls t) (parse-repeat-at t) parse-repeat.Post (ParseRepeat.repeat-header-requires t) (ParseRepeat.last-block-requires t) (λ c. ParseRepeat.returns t c .ran .ran .onward .ev) (λ c. ParseRepeat.returns t c .ran .ran .onward .dm) (λ c. ParseRepeat.returns t c .ran .ran .onward .ds) (ParseRepeat.returns t))
+    (λ t. parse-while-lts.spec (parse-while-calls t) (parse-while-at t) parse-while.Post (ParseWhile.while-header-requires t) (ParseWhile.last-block-requires t) (λ c. ParseWhile.returns t c .ran .ran .onward .ev) (λ c. ParseWhile.returns t c .ran .ran .onward .dm) (λ c. ParseWhile.returns t c .ran .ran .onward .ds) (ParseWhile.returns t))
+    (λ t. then-block-lts.spec (then-block-calls t) (then-block-at t) then-block.Post (ThenBlock.inner-block-requires t) (λ c κs. tt) (ThenBlock.else-line-requires t) (λ c. ThenBlock.returns t c .onward .ev) (λ c. ThenBlock.returns t c .onward .dm) (λ c. ThenBlock.returns t c .onward .ds) (ThenBlock.returns t) (ThenBlock.finish-requires t) (λ c. ThenBlock.returns-2 t c .onward .ev) (λ c. ThenBlock.returns-2 t c .onward .dm) (λ c. ThenBlock.returns-2 t c .onward .ds) (ThenBlock.returns-2 t))

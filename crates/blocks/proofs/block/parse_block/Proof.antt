@@ -13,25 +13,10 @@ block-from-requires c κs =
     let c₁ = c .before .before .before .before .before .before .before in
     omega (arith, c₁ .pre)
 
-same-length : tie.Need-same-length
-same-length c =
-    let c₁ = c .before .before .before .before .before .before in
-    c₁ .block-from .kept .1 .0
-
-same-length-2 : tie.Need-same-length-2
-same-length-2 c =
-    let c₁ = c .before .before .before .before .before .before in
-    c₁ .block-from .kept .1 .1 .0
-
-same-length-3 : tie.Need-same-length-3
-same-length-3 c =
-    let c₁ = c .before .before .before .before .before .before in
-    c₁ .block-from .kept .1 .1 .1 .0
-
 returns : tie.Need-returns
 returns c =
     let c₁ = c .before .before .before .before .before .before in
     c₁ .block-from .ensures
 
 pub parse-block-spec : {M : Type 1} → statement M
-parse-block-spec = tie.close (tie.spec cast-t11 block-from-requires same-length same-length-2 same-length-3 returns)
+parse-block-spec = tie.close (tie.spec cast-t11 block-from-requires (λ c. returns c .ran .ran .onward .ev) (λ c. returns c .ran .ran .onward .dm) (λ c. returns c .ran .ran .onward .ds) returns)

@@ -11,61 +11,16 @@ use Rattle.parser.proofs.Kit.{done, done-to, _then-to_}
 use Rattle.blocks.proofs.close.finish.Statement.{statement}
 use Rattle.blocks.proofs.close.finish.Tie as tie
 
-enum-told : tie.Need-enum-told
-enum-told c = search needs
-
-put-requires : tie.Need-put-requires
-put-requires c κs =
-    let c₁ = c .before .before .before .before .before .before .before .before in
-    omega (arith, c₁ .pre)
-
-enum-told-2 : tie.Need-enum-told-2
-enum-told-2 c = search needs
-
 expect-requires : tie.Need-expect-requires
 unfolding oneOf
-expect-requires c κs =
-    let c₁ = c .before .before .before .before .before .before .before .before .before .before in
-    (omega (arith, c₁ .pre), refl)
-
-put-requires-2 : tie.Need-put-requires-2
-put-requires-2 c κs =
-    let c₁ = c .before .before .before .before .before .before .before .before in
-    let c₂ = c₁ .before .before .before .before .before .before .before .before .before .before .before in
-    omega (arith, c₂ .pre, c₁ .expect .ensures .paid)
-
-enum-told-3 : tie.Need-enum-told-3
-enum-told-3 c = search needs
-
-put-requires-3 : tie.Need-put-requires-3
-put-requires-3 c κs =
-    let c₁ = c .before .before .before .before .before .before .before .before in
-    omega (arith, c₁ .pre)
-
-same-length : tie.Need-same-length
-same-length c = c .before .before .put .kept .0
+expect-requires c κs = refl
 
 returns : tie.Need-returns
 unfolding ended closing
 returns c =
     let c₁ = c .before .before .before .before in
     let c₂ = c₁ .before .before .before .before .before .before .before in
-    finished (c₁ .enum-told .given .1) (done-to true) (c .before .before .put .ensures .wrote (c₂ .args .kinds .now) _ _) omega (arith, c₂ .pre, c .before .before .put .ensures) no-item
-
-same-length-2 : tie.Need-same-length-2
-same-length-2 c =
-    let c₁ = c .before .before .before .before .before .before .before .before .before .before .before in
-    c .before .before .put2 .kept .0 ∙ c₁ .expect .kept .1 .0
-
-same-length-3 : tie.Need-same-length-3
-same-length-3 c =
-    let c₁ = c .before .before .before .before .before .before .before .before .before .before .before in
-    c₁ .expect .kept .1 .1 .0
-
-same-length-4 : tie.Need-same-length-4
-same-length-4 c =
-    let c₁ = c .before .before .before .before .before .before .before .before .before .before .before in
-    c₁ .expect .kept .1 .1 .1 .0
+    finished (c₁ .enum-told .given .1) (done-to true) (c .before .before .put .ensures .wrote (c₂ .args .kinds .now) _ _) no-item
 
 returns-2 : tie.Need-returns-2
 unfolding ended closing
@@ -74,13 +29,9 @@ returns-2 c =
     let c₂ = c₁ .before .before .before .before in
     let c₃ = c₂ .before .before .before .before .before .before .before in
     finished (c₂ .enum-told2 .given .1)
-    (c₁ .expect .ensures .went .went then-to done-to false)
+    (c₁ .expect .ensures .ran then-to done-to false)
     (c .before .before .put2 .ensures .wrote (c₃ .args .kinds .now) _ _)
-    omega (arith, c₃ .pre, c₁ .expect .ensures .paid, c .before .before .put2 .ensures)
     no-item
-
-same-length-5 : tie.Need-same-length-5
-same-length-5 c = c .before .before .put3 .kept .0
 
 returns-3 : tie.Need-returns-3
 unfolding ended closing
@@ -91,11 +42,9 @@ returns-3 c =
     finished (c₁ .enum-told3 .given .1)
     (done true then-to done-to false)
     (c .before .before .put3 .ensures .wrote (c₂ .args .kinds .now) _ _)
-    omega (arith, c₂ .pre, c .before .before .put3 .ensures)
-    (record { starts = λ h. same ∙ c₂ .pre .1 .starts h })
+    (record { starts = λ h. same ∙ c₂ .pre .starts h })
 
 pub finish-spec : {M : Type 1} → statement M
 finish-spec =
     tie.close
-    (tie.spec enum-told put-requires enum-told-2 expect-requires put-requires-2 enum-told-3 put-requires-3 same-length returns
-    same-length-2 same-length-3 same-length-4 returns-2 same-length-5 returns-3)
+    (tie.spec (λ c. search needs) (λ c κs. tt) (λ c. search needs) expect-requires (λ c κs. tt) (λ c. search needs) (λ c κs. tt) (λ c. returns c .onward .ev) returns (λ c. returns-2 c .onward .ev) (λ c. returns-2 c .onward .dm) (λ c. returns-2 c .onward .ds) returns-2 (λ c. returns-3 c .onward .ev) returns-3)

@@ -9,33 +9,12 @@ use Rattle.parser.proofs.Kit.{_then-to_}
 use Rattle.blocks.proofs.header.do_header.Statement.{statement}
 use Rattle.blocks.proofs.header.do_header.Tie as tie
 
-put-requires : tie.Need-put-requires
-put-requires c κs =
-    let c₁ = c .before .before .before .before .before in
-    omega (arith, c₁ .pre)
-
 keyword-line-requires : tie.Need-keyword-line-requires
 unfolding oneOf
 keyword-line-requires c κs =
     let c₁ = c .before .before .before .before .before in
     let c₂ = c₁ .before .before .before .before .before .before in
-    (omega (arith, c₂ .pre, c₁ .put .ensures), ap (λ i. at (is DO) (drop i (c₂ .args .kinds .now))) (c₁ .put .ensures .pos) ∙ c₂ .pre .1, refl)
-
-same-length : tie.Need-same-length
-same-length c =
-    let c₁ = c .before .before .before .before .before .before in
-    let c₂ = c₁ .before .before .before .before .before .before in
-    c₁ .keyword-line .kept .1 .0 ∙ c₂ .put .kept .0
-
-same-length-2 : tie.Need-same-length-2
-same-length-2 c =
-    let c₁ = c .before .before .before .before .before .before in
-    c₁ .keyword-line .kept .1 .1 .0
-
-same-length-3 : tie.Need-same-length-3
-same-length-3 c =
-    let c₁ = c .before .before .before .before .before .before in
-    c₁ .keyword-line .kept .1 .1 .1 .0
+    (ap (λ i. at (is DO) (drop i (c₂ .args .kinds .now))) (c₁ .put .ensures .pos) ∙ c₂ .pre, refl)
 
 returns : tie.Need-returns
 returns c =
@@ -44,7 +23,8 @@ returns c =
     let c₃ = c₂ .before .before .before .before .before .before in
     opened (c₂ .put .ensures .wrote (c₃ .args .kinds .now) _ _)
     (λ next u r h. c₁ .keyword-line .ensures .key then-to c₁ .keyword-line .ensures .tail then-to h)
-    (omega (arith, c₃ .pre, c₂ .put .ensures, c₁ .keyword-line .ensures .paid, c₂ .put .ensures .pos))
+    (c₁ .keyword-line .ensures .onward)
+    (c₁ .keyword-line .ensures .past)
 
 pub do-header-spec : {M : Type 1} → statement M
-do-header-spec = tie.close (tie.spec put-requires keyword-line-requires same-length same-length-2 same-length-3 returns)
+do-header-spec = tie.close (tie.spec (λ c κs. tt) keyword-line-requires (λ c. returns c .onward .ev) (λ c. returns c .onward .dm) (λ c. returns c .onward .ds) returns)

@@ -13,30 +13,15 @@ keyword-line-requires : tie.Need-keyword-line-requires
 unfolding oneOf
 keyword-line-requires c κs =
     let c₁ = c .before .before .before .before .before .before .before in
-    (omega (arith, c₁ .pre), c₁ .pre .1, refl)
-
-same-length : tie.Need-same-length
-same-length c =
-    let c₁ = c .before .before .before .before .before .before in
-    c₁ .keyword-line .kept .1 .0
-
-same-length-2 : tie.Need-same-length-2
-same-length-2 c =
-    let c₁ = c .before .before .before .before .before .before in
-    c₁ .keyword-line .kept .1 .1 .0
-
-same-length-3 : tie.Need-same-length-3
-same-length-3 c =
-    let c₁ = c .before .before .before .before .before .before in
-    c₁ .keyword-line .kept .1 .1 .1 .0
+    (c₁ .pre, refl)
 
 returns : tie.Need-returns
 unfolding oneOf
 returns c =
     let c₁ = c .before .before .before .before .before .before in
     let c₂ = c₁ .before .before .before .before .before .before .before .before in
-    let taken = take-expected ELSE Message.Unreached refl (c₂ .pre .1) (c₁ .keyword-line .ensures .key) in
-    record { on = λ next v r h. taken then-to c₁ .keyword-line .ensures .tail then-to h; paid = c₁ .keyword-line .ensures .paid }
+    let taken = take-expected ELSE Message.Unreached refl (c₂ .pre) (c₁ .keyword-line .ensures .key) in
+    record { on = λ next v r h. taken then-to c₁ .keyword-line .ensures .tail then-to h; onward = c₁ .keyword-line .ensures .onward; past = c₁ .keyword-line .ensures .past }
 
 pub else-line-spec : {M : Type 1} → statement M
-else-line-spec = tie.close (tie.spec keyword-line-requires same-length same-length-2 same-length-3 returns)
+else-line-spec = tie.close (tie.spec keyword-line-requires (λ c. returns c .onward .ev) (λ c. returns c .onward .dm) (λ c. returns c .onward .ds) returns)

@@ -9,22 +9,7 @@ header-requires : tie.Need-header-requires
 unfolding oneOf
 header-requires c κs =
     let c₁ = c .before .before .before .before .before .before .before in
-    (omega (arith, c₁ .pre), c₁ .pre .1, refl)
-
-same-length : tie.Need-same-length
-same-length c =
-    let c₁ = c .before .before .before .before .before .before in
-    c₁ .header .kept .1 .0
-
-same-length-2 : tie.Need-same-length-2
-same-length-2 c =
-    let c₁ = c .before .before .before .before .before .before in
-    c₁ .header .kept .1 .1 .0
-
-same-length-3 : tie.Need-same-length-3
-same-length-3 c =
-    let c₁ = c .before .before .before .before .before .before in
-    c₁ .header .kept .1 .1 .1 .0
+    (c₁ .pre, refl)
 
 returns : tie.Need-returns
 returns c =
@@ -32,4 +17,4 @@ returns c =
     c₁ .header .ensures
 
 pub while-header-spec : {M : Type 1} → statement M
-while-header-spec = tie.close (tie.spec header-requires same-length same-length-2 same-length-3 returns)
+while-header-spec = tie.close (tie.spec header-requires (λ c. returns c .onward .ev) (λ c. returns c .onward .dm) (λ c. returns c .onward .ds) returns)

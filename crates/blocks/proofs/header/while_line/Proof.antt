@@ -10,27 +10,12 @@ keyword-line-requires : tie.Need-keyword-line-requires
 unfolding oneOf
 keyword-line-requires c κs =
     let c₁ = c .before .before .before .before .before .before .before in
-    (omega (arith, c₁ .pre), c₁ .pre .1, refl)
-
-same-length : tie.Need-same-length
-same-length c =
-    let c₁ = c .before .before .before .before .before .before in
-    c₁ .keyword-line .kept .1 .0
-
-same-length-2 : tie.Need-same-length-2
-same-length-2 c =
-    let c₁ = c .before .before .before .before .before .before in
-    c₁ .keyword-line .kept .1 .1 .0
-
-same-length-3 : tie.Need-same-length-3
-same-length-3 c =
-    let c₁ = c .before .before .before .before .before .before in
-    c₁ .keyword-line .kept .1 .1 .1 .0
+    (c₁ .pre, refl)
 
 returns : tie.Need-returns
 returns c =
     let c₁ = c .before .before .before .before .before .before in
-    record { on = λ next v r h. c₁ .keyword-line .ensures .key then-to c₁ .keyword-line .ensures .tail then-to h; paid = c₁ .keyword-line .ensures .paid }
+    record { on = λ next v r h. c₁ .keyword-line .ensures .key then-to c₁ .keyword-line .ensures .tail then-to h; onward = c₁ .keyword-line .ensures .onward; past = c₁ .keyword-line .ensures .past }
 
 pub while-line-spec : {M : Type 1} → statement M
-while-line-spec = tie.close (tie.spec keyword-line-requires same-length same-length-2 same-length-3 returns)
+while-line-spec = tie.close (tie.spec keyword-line-requires (λ c. returns c .onward .ev) (λ c. returns c .onward .dm) (λ c. returns c .onward .ds) returns)

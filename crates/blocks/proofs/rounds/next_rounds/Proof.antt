@@ -8,25 +8,10 @@ rounds-requires c κs =
     let c₁ = c .before .before .before .before .before .before .before in
     c₁ .pre
 
-same-length : tie.Need-same-length
-same-length c =
-    let c₁ = c .before .before .before .before .before .before in
-    c₁ .rounds .kept .1 .0
-
-same-length-2 : tie.Need-same-length-2
-same-length-2 c =
-    let c₁ = c .before .before .before .before .before .before in
-    c₁ .rounds .kept .1 .1 .0
-
-same-length-3 : tie.Need-same-length-3
-same-length-3 c =
-    let c₁ = c .before .before .before .before .before .before in
-    c₁ .rounds .kept .1 .1 .1 .0
-
 returns : tie.Need-returns
 returns c =
     let c₁ = c .before .before .before .before .before .before in
     c₁ .rounds .ensures
 
 pub next-rounds-spec : {M : Type 1} → statement M
-next-rounds-spec = tie.close (tie.spec rounds-requires same-length same-length-2 same-length-3 returns)
+next-rounds-spec = tie.close (tie.spec rounds-requires (λ c. returns c .onward .ev) (λ c. returns c .onward .dm) (λ c. returns c .onward .ds) returns)

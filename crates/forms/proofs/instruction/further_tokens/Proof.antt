@@ -69,7 +69,7 @@ loop-again c =
     let e = instruction-takes l _ (c₆ .at-instruction-end .ensures) (c₅ .if2 .left) (sym t ∙ c₂ .if3 .taken) in
     let i = c₉ .loop .inv .0 in (
       goes-on i (λ w′ r k.
-            scan-go instruction-round l l z e (c₁ .bump .ensures .ran) k),
+          scan-go instruction-round l l z e (c₁ .bump .ensures .ran) k),
       below-le (omega (arith, m)) (c₉ .loop .inv .1),
     )
 
@@ -116,8 +116,8 @@ loop-again-2 c =
     let e = instruction-counts l _ (c₇ .at-instruction-end .ensures) (c₆ .if2 .left) (sym t ∙ c₃ .if3 .left) in
     let i = c₁₀ .loop .inv .0 in (
       goes-on i (λ w′ r k.
-            scan-counted instruction-round (instruction-locals l _) l (c₅ .current .ensures) z e (c₂ .bump-nesting .ensures) (c₁ .bump2 .ensures .ran)
-            (instruction-next l _ _ _ (c₅ .current .ensures)) k),
+          scan-counted instruction-round (instruction-locals l _) l (c₅ .current .ensures) z e (c₂ .bump-nesting .ensures) (c₁ .bump2 .ensures .ran)
+          (instruction-next l _ _ _ (c₅ .current .ensures)) k),
       below-le (omega (arith, m, c₂ .bump-nesting .ensures .pos)) (c₂ .bump-nesting .ensures .below _ (c₁₀ .loop .inv .1)),
     )
 

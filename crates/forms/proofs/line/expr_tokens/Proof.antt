@@ -26,11 +26,10 @@ abbrev μ-loop : tie.MeasureT-loop
 μ-loop kinds ev₀ dm₀ ds₀ c₀ nesting₀ saw₀ ev dm ds c nesting saw = length kinds - c .pos
 
 loop-holds : tie.Need-loop-holds Inv-loop μ-loop
-loop-holds c =
-    (
-      begins-as (ap (λ n. scan expr-round (record { nesting = n; saw-significant = false })) (sym (c .new .ensures))),
-      subst (Below _) (sym (c .new .ensures)) (below-default _ (omega arith)),
-    )
+loop-holds c = (
+  begins-as (ap (λ n. scan expr-round (record { nesting = n; saw-significant = false })) (sym (c .new .ensures))),
+  subst (Below _) (sym (c .new .ensures)) (below-default _ (omega arith)),
+)
 
 returns : tie.Need-returns Inv-loop μ-loop
 returns c =
@@ -78,8 +77,8 @@ loop-again c =
     let e = expr-counts l _ (c₆ .at-expr-end .ensures) (c₅ .if2 .left) in
     let i = c₉ .loop .inv .0 in (
       goes-on i (λ w′ r k.
-            scan-counted expr-round (expr-locals l _) l (c₄ .current .ensures) z e (c₂ .bump-nesting .ensures) (c₁ .bump .ensures .ran)
-            (expr-next l _ _ _ _ (c₄ .current .ensures) (c₃ .or-significant .ensures)) k),
+          scan-counted expr-round (expr-locals l _) l (c₄ .current .ensures) z e (c₂ .bump-nesting .ensures) (c₁ .bump .ensures .ran)
+          (expr-next l _ _ _ _ (c₄ .current .ensures) (c₃ .or-significant .ensures)) k),
       below-le (omega (arith, m, c₂ .bump-nesting .ensures .pos)) (c₂ .bump-nesting .ensures .below _ (c₉ .loop .inv .1)),
     )
 

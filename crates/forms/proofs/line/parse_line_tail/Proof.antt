@@ -60,7 +60,7 @@ loop-again c =
     let i = c₄ .loop .inv in
     let e = sym (c₃ .at-kind .ensures) ∙ c₂ .if1 .taken in
     goes-on i (λ w′ r k.
-          scan-go tail-round true true (at-some (is Whitespace) _ e) (tail-space _ e) (c₁ .bump .ensures .ran) k)
+    scan-go tail-round true true (at-some (is Whitespace) _ e) (tail-space _ e) (c₁ .bump .ensures .ran) k)
 
 returns : tie.Need-returns Inv-loop μ-loop
 unfolding parse-line-tail
@@ -74,7 +74,7 @@ returns c =
     let n = sym (c₅ .at-kind .ensures) ∙ c₄ .if1 .left in
     let e = sym (c₃ .at-kind2 .ensures) ∙ c₂ .if2 .taken in
     c₆ .loop .inv .on _ _
-          (scan-go tail-round true false (at-some (is Comment) _ e) (tail-comment _ n e) (c₁ .bump2 .ensures .ran) (scan-stop tail-round false (tail-done _))) .ran
+    (scan-go tail-round true false (at-some (is Comment) _ e) (tail-comment _ n e) (c₁ .bump2 .ensures .ran) (scan-stop tail-round false (tail-done _))) .ran
 
 returns-2 : tie.Need-returns-2 Inv-loop μ-loop
 unfolding parse-line-tail

@@ -29,11 +29,10 @@ abbrev μ-loop : tie.MeasureT-loop
 μ-loop kinds ev₀ dm₀ ds₀ c₀ nesting₀ taken₀ ev dm ds c nesting taken = length kinds - c .pos
 
 loop-holds : tie.Need-loop-holds Inv-loop μ-loop
-loop-holds c =
-    (
-      begins-as (ap (λ n. scan result-round (record { nesting = n; taken = false })) (sym (c .new .ensures))),
-      subst (Below _) (sym (c .new .ensures)) (below-default _ (omega arith)),
-    )
+loop-holds c = (
+  begins-as (ap (λ n. scan result-round (record { nesting = n; taken = false })) (sym (c .new .ensures))),
+  subst (Below _) (sym (c .new .ensures)) (below-default _ (omega arith)),
+)
 
 returns : tie.Need-returns Inv-loop μ-loop
 unfolding parse-signature-result-until-line-end result-end
@@ -84,7 +83,7 @@ loop-again c =
     let e = result-counts l _ (c₅ .at-line-end .ensures) (c₄ .if2 .left) in
     let i = c₈ .loop .inv .0 in (
       goes-on i (λ w′ r k.
-            scan-counted result-round result-locals l (c₃ .current .ensures) z e (c₂ .bump-nesting .ensures) (c₁ .bump .ensures .ran) refl k),
+          scan-counted result-round result-locals l (c₃ .current .ensures) z e (c₂ .bump-nesting .ensures) (c₁ .bump .ensures .ran) refl k),
       below-le (omega (arith, m, c₂ .bump-nesting .ensures .pos)) (c₂ .bump-nesting .ensures .below _ (c₈ .loop .inv .1)),
     )
 

@@ -99,7 +99,7 @@ loop-again c =
     let e = round-goes (c₈ .args .opener) (c₈ .args .closer) _ _ _ _ z (c₄ .if2 .left) (c₃ .current .ensures) (c₂ .group-depth .ensures) in
     let u = step-up (c₈ .args .opener) (c₈ .args .closer) (c₇ .loop .depth) (c₃ .current .result) in (
       goes-on i (λ w′ r k.
-            scan-go (group-round (c₈ .args .opener) (c₈ .args .closer)) _ _ z e (c₁ .bump .ensures .ran) k),
+          scan-go (group-round (c₈ .args .opener) (c₈ .args .closer)) _ _ z e (c₁ .bump .ensures .ran) k),
       omega (arith, m, u, c₂ .group-depth .ensures, c₇ .loop .inv .1),
     )
 

@@ -14,7 +14,7 @@ returns c =
     let c₄ = c₃ .before .before .before .before .before .before in
     let c₅ = c₄ .before .before .before .before .before .before in
     node _ (c₄ .put .ensures .wrote (c₅ .args .kinds .now) _ _) (c₃ .bump-at .ensures then c₂ .bump-non-comment-trivia .ensures then c₁ .path-names .ensures)
-          (c .before .before .put2 .ensures .wrote (c₅ .args .kinds .now) _ _)
+    (c .before .before .put2 .ensures .wrote (c₅ .args .kinds .now) _ _)
 
 pub parse-path-with-message-spec : {M : Type 1} → statement M
 parse-path-with-message-spec =

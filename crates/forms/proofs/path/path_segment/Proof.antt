@@ -20,7 +20,7 @@ returns c =
     let c₇ = c₆ .before .before .before .before .before .before .before .before .before .before in
     let e = at-by name-like _ refl (c₃ .is-name-like .ensures) (c₄ .current .ensures) in
     c₇ .bump-non-comment-trivia .ensures then-to c₆ .bump .ensures .ran then-to c₅ .bump-non-comment-trivia2 .ensures then-to
-          yes-to _ _ e (c₂ .if1 .taken) (c₁ .bump2 .ensures .ran then-to done-to true)
+    yes-to _ _ e (c₂ .if1 .taken) (c₁ .bump2 .ensures .ran then-to done-to true)
 
 returns-2 : tie.Need-returns-2
 unfolding path-segment name-like oneOf
@@ -35,7 +35,7 @@ returns-2 c =
     let c₈ = c₇ .before .before .before .before .before .before .before .before in
     let e = at-by name-like _ refl (c₃ .is-name-like .ensures) (c₄ .current .ensures) in
     c₇ .bump-non-comment-trivia .ensures then-to c₆ .bump .ensures .ran then-to c₅ .bump-non-comment-trivia2 .ensures then-to
-          no-to _ _ e (c₂ .if1 .left) (c₁ .error-here .ensures .ran (c₈ .args .kinds .now) _ then-to done-to false)
+    no-to _ _ e (c₂ .if1 .left) (c₁ .error-here .ensures .ran (c₈ .args .kinds .now) _ then-to done-to false)
 
 pub path-segment-spec : {M : Type 1} → statement M
 path-segment-spec =

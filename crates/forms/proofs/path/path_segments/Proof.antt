@@ -13,9 +13,9 @@ use Rattle.grammar.specs.Theorems.NoFuel.{path-eq}
 use Rattle.grammar.specs.Words.{File, from, is}
 use Rattle.lexer.specs.Syntax.{ColonColon}
 use Rattle.parser.specs.Ahead.{Found}
-use Rattle.parser.specs.Rep.{World, world, RanTo}
+use Rattle.parser.specs.Rep.{Past, World, world, RanTo}
 use Rattle.parser.proofs.Kit.{like-to, yes-to, no-to, done-to, bind-to, begins, goes-on, Leads, answers}
-use Rattle.parser.proofs.Laws.{Past, past-here}
+use Rattle.parser.proofs.Laws.{past-here}
 use Rattle.forms.proofs.path.path_segments.Statement.{statement}
 use Rattle.forms.proofs.path.path_segments.Tie as tie
 

@@ -64,7 +64,7 @@ loop-again c dm ds =
     let b = c .before .before .bump-plain in
     let e = sym (at-by (trivia-to l) _ refl (c₂ .is-trivia-to .ensures) (c₃ .current .ensures)) ∙ c₁ .if1 .taken in
     goes-on (i dm ds) (λ w′ r k.
-        scan-go (while-round (trivia-to l)) true true (at-some (trivia-to l) _ e) (ap (λ u. cond u (go true) stop) e) (b .ensures .bumped dm ds .ran) k)
+    scan-go (while-round (trivia-to l)) true true (at-some (trivia-to l) _ e) (ap (λ u. cond u (go true) stop) e) (b .ensures .bumped dm ds .ran) k)
 
 returns : tie.Need-returns Inv-loop μ-loop
 unfolding bump-while while-round trivia-to

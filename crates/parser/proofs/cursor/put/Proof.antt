@@ -6,7 +6,7 @@ use Rattle.parser.proofs.cursor.put.Statement.{statement}
 use Rattle.parser.proofs.cursor.put.Tie as tie
 
 returns : tie.Need-returns
-returns c = record { wrote = λ F dm ds. put-event _ (c .before .before .before .set-u16 .ensures) refl (c .one-more .ensures) refl }
+returns c = record { wrote = λ F dm ds. put-event _ (c .before .before .before .set-u16 .ensures) refl (c .one-more .ensures) refl; pos = refl }
 
 pub put-spec : {M : Type 1} → statement M
 put-spec = tie.close (tie.spec (λ c κs. tt) (λ c κs. tt) (λ c. search needs) returns)

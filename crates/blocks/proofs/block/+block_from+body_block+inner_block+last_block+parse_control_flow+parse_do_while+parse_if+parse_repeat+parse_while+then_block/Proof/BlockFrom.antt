@@ -5,7 +5,7 @@ use native.Mathlib.Omega.{arith}
 use borrow.Author.Tests.{lt-leb}
 use Rattle.blocks.specs.declared.arm.Arm.{Arm}
 use Rattle.blocks.specs.Arms.{by-arm}
-use Rattle.blocks.proofs.Laws.{meant, deeper, round, said-no-item, gives, from-form, ahead}
+use Rattle.blocks.proofs.Laws.{meant, deeper, round, said-no-item, gives, from-form}
 use Rattle.parser.proofs.Kit.{on-to, off-to, node-to, bind-to}
 use Rattle.grammar.specs.Block.{MAX-CONTROL-FLOW-NESTING as limit, parse-block}
 use Rattle.blocks.proofs.block.+block_from+body_block+inner_block+last_block+parse_control_flow+parse_do_while+parse_if+parse_repeat+parse_while+then_block.Lts-block_from as lts
@@ -17,13 +17,8 @@ cast-depth t c =
     let c₁ = c .before .before .before .before .before .before .before in
     omega (arith, c₁ .pre)
 
-pub first-rounds-requires : (t : ℕ) → lts.Need-first-rounds-requires (block-from-calls t) (block-from-at t) block-from.Post block-from-Inv-loop block-from-μ-loop
-first-rounds-requires t c κs =
-    let c₁ = c .before .before .before .before .before .before .before .before .before .before in
-    omega (arith, c₁ .pre)
-
 pub loop-holds : (t : ℕ) → lts.Need-loop-holds (block-from-calls t) (block-from-at t) block-from.Post block-from-Inv-loop block-from-μ-loop
-loop-holds t c = record { on = λ w r. r; ev = refl; dm = refl; ds = refl }
+loop-holds t c = record { on = λ w r. r }
 
 pub add-parse-control-flow : (t : ℕ) → lts.Need-add-parse-control-flow (block-from-calls t) (block-from-at t) block-from.Post block-from-Inv-loop block-from-μ-loop
 add-parse-control-flow t c =
@@ -37,40 +32,10 @@ parse-control-flow-requires t c κs =
     let c₃ = c₂ .before .before .before .before .before .before .before in
     let c₄ = c₃ .before .before .before .before .before .before .before .before .before .before .before in
     let begun = c₃ .first-rounds .ensures in
-    let here = c₂ .loop .inv .on _ (begun .rounds) .form (c₁ .loop-test .taken) in
-    (omega (arith, c₄ .pre, begun .wrote .pos, begun .events, begun .diags, here .paid), (omega (arith, c₄ .pre, begun .wrote .pos, begun .events, begun .diags, here .paid), here .first, meant (c₄ .args .start .place .terminators) _ Arm.Control refl (here .arm), omega (arith, here .below)))
-
-pub ended-file-requires : (t : ℕ) → lts.Need-ended-file-requires (block-from-calls t) (block-from-at t) block-from.Post block-from-Inv-loop block-from-μ-loop
-ended-file-requires t c κs =
-    let c₁ = c .before .before .before .before .before .before .before .before .before in
-    let c₂ = c₁ .before .before .before .before .before in
-    let c₃ = c₂ .before in
-    let c₄ = c₃ .before .before .before .before .before .before .before in
-    let c₅ = c₄ .before .before .before .before .before .before .before .before .before .before .before in
-    let begun = c₄ .first-rounds .ensures in
-    let here = c₃ .loop .inv .on _ (begun .rounds) .form (c₂ .loop-test .taken) in
-    omega (arith, c₅ .pre, begun .wrote .pos, begun .events, begun .diags, here .paid, c₁ .parse-control-flow .ensures .0 .paid)
-
-pub same-length : (t : ℕ) → lts.Need-same-length (block-from-calls t) (block-from-at t) block-from.Post block-from-Inv-loop block-from-μ-loop
-same-length t c =
-    let c₁ = c .before .before .before .before .before .before .before .before .before .before .before .before in
-    let c₂ = c₁ .before .before .before .before .before .before in
-    let c₃ = c₂ .before .before .before .before .before .before .before in
-    c .before .before .ended-file .kept .0 ∙ c₁ .parse-control-flow .kept .1 .0 ∙ c₂ .loop .inv .ev ∙ c₃ .first-rounds .kept .1 .0
-
-pub same-length-2 : (t : ℕ) → lts.Need-same-length-2 (block-from-calls t) (block-from-at t) block-from.Post block-from-Inv-loop block-from-μ-loop
-same-length-2 t c =
-    let c₁ = c .before .before .before .before .before .before .before .before .before .before .before .before in
-    let c₂ = c₁ .before .before .before .before .before .before in
-    let c₃ = c₂ .before .before .before .before .before .before .before in
-    c₁ .parse-control-flow .kept .1 .1 .0 ∙ c₂ .loop .inv .dm ∙ c₃ .first-rounds .kept .1 .1 .0
-
-pub same-length-3 : (t : ℕ) → lts.Need-same-length-3 (block-from-calls t) (block-from-at t) block-from.Post block-from-Inv-loop block-from-μ-loop
-same-length-3 t c =
-    let c₁ = c .before .before .before .before .before .before .before .before .before .before .before .before in
-    let c₂ = c₁ .before .before .before .before .before .before in
-    let c₃ = c₂ .before .before .before .before .before .before .before in
-    c₁ .parse-control-flow .kept .1 .1 .1 .0 ∙ c₂ .loop .inv .ds ∙ c₃ .first-rounds .kept .1 .1 .1 .0
+    let rounds = c₂ .loop .inv .on _ (begun .rounds) in
+    let here = rounds .form (c₁ .loop-test .taken) in
+    let control = meant (c₄ .args .start .place .terminators) _ Arm.Control refl (here .arm) in
+    (omega (arith, c₄ .pre, begun .wrote .pos, rounds .onward), (here .first, control, omega (arith, here .below)))
 
 pub returns : (t : ℕ) → lts.Need-returns (block-from-calls t) (block-from-at t) block-from.Post block-from-Inv-loop block-from-μ-loop
 unfolding parse-block by-arm
@@ -83,32 +48,21 @@ returns t c =
     let c₆ = c₅ .before .before .before .before .before .before .before .before .before .before .before in
     let begun = c₅ .first-rounds .ensures in
     let here = c₄ .loop .inv .on _ (begun .rounds) .form (c₃ .loop-test .taken) in
-    let form = deeper (c₆ .args .start .place .depth) (c₂ .parse-control-flow .ensures .0 .went) in
+    let form = deeper (c₆ .args .start .place .depth) (c₂ .parse-control-flow .ensures .ran) in
     let rest = bind-to _ form (on-to _ (c₁ .if1 .taken) (gives (c .before .before .ended-file .ensures .1))) in
-    let inside = here .on _ _ (round (c₆ .args .start .place .owner) (c₆ .args .start .place .terminators) (c₆ .args .start .place .depth) Arm.Control (sym (here .arm)) refl (off-to _ (lt-leb limit (c₆ .args .start .place .depth) (here .below)) rest)) in (
-      record {
-        paid = omega (arith, c₆ .pre, begun .wrote .pos, begun .events, begun .diags, here .paid, c₂ .parse-control-flow .ensures .0 .paid, c .before .before .ended-file .ensures .0);
-        went = node-to _ (begun .wrote) inside (c .before .before .ended-file .ensures .0 .wrote (c₆ .args .kinds .now) _ _);
-      },
-      said-no-item (c .before .before .ended-file .ensures .2),
-    )
+    let inside = here .on _ _ (round (c₆ .args .start .place .owner) (c₆ .args .start .place .terminators) (c₆ .args .start .place .depth) Arm.Control (sym (here .arm)) refl (off-to _ (lt-leb limit (c₆ .args .start .place .depth) (here .below)) rest)) in
+    record { ran = node-to _ (begun .wrote) inside (c .before .before .ended-file .ensures .0 .wrote (c₆ .args .kinds .now) _ _); here = said-no-item (c .before .before .ended-file .ensures .2) }
 
 pub next-rounds-requires : (t : ℕ) → lts.Need-next-rounds-requires (block-from-calls t) (block-from-at t) block-from.Post block-from-Inv-loop block-from-μ-loop
 next-rounds-requires t c κs =
     let c₁ = c .before .before .before .before .before .before .before .before .before .before .before in
-    let c₂ = c₁ .before .before .before .before .before in
-    let c₃ = c₂ .before in
-    let c₄ = c₃ .before .before .before .before .before .before .before in
-    let c₅ = c₄ .before .before .before .before .before .before .before .before .before .before .before in
-    let begun = c₄ .first-rounds .ensures in
-    let here = c₃ .loop .inv .on _ (begun .rounds) .form (c₂ .loop-test .taken) in
-    (omega (arith, c₅ .pre, begun .wrote .pos, begun .events, begun .diags, here .paid, c₁ .parse-control-flow .ensures .0 .paid), c₁ .parse-control-flow .ensures .1)
+    c₁ .parse-control-flow .ensures .here
 
 pub loop-less : (t : ℕ) → lts.Need-loop-less (block-from-calls t) (block-from-at t) block-from.Post block-from-Inv-loop block-from-μ-loop
 loop-less t c =
     let c₁ = c .before .before .before .before .before .before in
     let c₂ = c₁ .before .before .before .before .before .before .before .before .before .before .before .before in
-    omega (arith, c₂ .parse-control-flow .ensures .2, c₂ .parse-control-flow .ensures .0 .paid, ahead (c₁ .next-rounds .ensures))
+    omega (arith, c₂ .parse-control-flow .ensures .past, c₁ .next-rounds .ensures .onward)
 
 pub loop-again : (t : ℕ) → lts.Need-loop-again (block-from-calls t) (block-from-at t) block-from.Post block-from-Inv-loop block-from-μ-loop
 unfolding by-arm
@@ -119,29 +73,15 @@ loop-again t c =
     let c₄ = c₃ .before .before .before .before .before in
     let c₅ = c₄ .before in
     let c₆ = c₅ .before .before .before .before .before .before .before .before .before .before .before .before .before .before .before .before .before .before in
-    let form = deeper (c₆ .args .start .place .depth) (c₃ .parse-control-flow .ensures .0 .went) in
+    let form = deeper (c₆ .args .start .place .depth) (c₃ .parse-control-flow .ensures .ran) in
     let i = c₅ .loop .inv in
     record {
-      on = λ w r. let here = i .on w r .form (c₄ .loop-test .taken) in from-form here (λ u x h. round (c₆ .args .start .place .owner) (c₆ .args .start .place .terminators) (c₆ .args .start .place .depth) Arm.Control (sym (here .arm)) refl (off-to _ (lt-leb limit (c₆ .args .start .place .depth) (here .below)) (bind-to _ form (off-to _ (c₂ .if1 .left) h)))) (omega (arith, c₃ .parse-control-flow .ensures .0 .paid)) (c₁ .next-rounds .ensures);
-      ev = c₁ .next-rounds .kept .1 .0 ∙ c₃ .parse-control-flow .kept .1 .0 ∙ i .ev;
-      dm = c₁ .next-rounds .kept .1 .1 .0 ∙ c₃ .parse-control-flow .kept .1 .1 .0 ∙ i .dm;
-      ds = c₁ .next-rounds .kept .1 .1 .1 .0 ∙ c₃ .parse-control-flow .kept .1 .1 .1 .0 ∙ i .ds;
+      on = λ w r.
+          let rounds = i .on w r in
+          let here = rounds .form (c₄ .loop-test .taken) in
+          from-form (c₄ .loop-test .taken) rounds (λ u x h. round (c₆ .args .start .place .owner) (c₆ .args .start .place .terminators) (c₆ .args .start .place .depth) Arm.Control (sym (here .arm)) refl (off-to _ (lt-leb limit (c₆ .args .start .place .depth) (here .below)) (bind-to _ form (off-to _ (c₂ .if1 .left) h))))
+          (c₃ .parse-control-flow .ensures .ran .ran .onward) (c₁ .next-rounds .ensures);
     }
-
-pub same-length-4 : (t : ℕ) → lts.Need-same-length-4 (block-from-calls t) (block-from-at t) block-from.Post block-from-Inv-loop block-from-μ-loop
-same-length-4 t c =
-    let c₁ = c .before .before .before .before .before .before .before .before .before in
-    c .before .before .loop .inv .ev ∙ c₁ .first-rounds .kept .1 .0
-
-pub same-length-5 : (t : ℕ) → lts.Need-same-length-5 (block-from-calls t) (block-from-at t) block-from.Post block-from-Inv-loop block-from-μ-loop
-same-length-5 t c =
-    let c₁ = c .before .before .before .before .before .before .before .before .before in
-    c .before .before .loop .inv .dm ∙ c₁ .first-rounds .kept .1 .1 .0
-
-pub same-length-6 : (t : ℕ) → lts.Need-same-length-6 (block-from-calls t) (block-from-at t) block-from.Post block-from-Inv-loop block-from-μ-loop
-same-length-6 t c =
-    let c₁ = c .before .before .before .before .before .before .before .before .before in
-    c .before .before .loop .inv .ds ∙ c₁ .first-rounds .kept .1 .1 .1 .0
 
 pub returns-2 : (t : ℕ) → lts.Need-returns-2 (block-from-calls t) (block-from-at t) block-from.Post block-from-Inv-loop block-from-μ-loop
 unfolding parse-block
@@ -149,10 +89,5 @@ returns-2 t c =
     let c₁ = c .before .before .before .before .before .before .before .before .before in
     let c₂ = c₁ .before .before .before .before .before .before .before .before .before .before .before in
     let begun = c₁ .first-rounds .ensures in
-    let over = c .before .before .loop .inv .on _ (begun .rounds) .over (c .before .loop-test .left) in (
-      record {
-        paid = omega (arith, c₂ .pre, begun .wrote .pos, begun .events, begun .diags, over .paid);
-        went = node-to _ (begun .wrote) (over .went) (over .wrote);
-      },
-      over .here,
-    )
+    let over = c .before .before .loop .inv .on _ (begun .rounds) .over (c .before .loop-test .left) in
+    record { ran = node-to _ (begun .wrote) (over .ran) (over .wrote); here = over .here }

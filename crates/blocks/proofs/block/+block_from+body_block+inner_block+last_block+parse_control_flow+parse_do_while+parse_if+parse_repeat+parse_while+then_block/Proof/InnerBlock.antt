@@ -15,21 +15,6 @@ block-from-requires t c κs =
     let c₁ = c .before .before .before .before .before .before .before in
     omega (arith, c₁ .pre)
 
-pub same-length : (t : ℕ) → lts.Need-same-length (inner-block-calls t) (inner-block-at t) inner-block.Post
-same-length t c =
-    let c₁ = c .before .before .before .before .before .before in
-    c₁ .block-from .kept .1 .0
-
-pub same-length-2 : (t : ℕ) → lts.Need-same-length-2 (inner-block-calls t) (inner-block-at t) inner-block.Post
-same-length-2 t c =
-    let c₁ = c .before .before .before .before .before .before in
-    c₁ .block-from .kept .1 .1 .0
-
-pub same-length-3 : (t : ℕ) → lts.Need-same-length-3 (inner-block-calls t) (inner-block-at t) inner-block.Post
-same-length-3 t c =
-    let c₁ = c .before .before .before .before .before .before in
-    c₁ .block-from .kept .1 .1 .1 .0
-
 pub returns : (t : ℕ) → lts.Need-returns (inner-block-calls t) (inner-block-at t) inner-block.Post
 returns t c =
     let c₁ = c .before .before .before .before .before .before in

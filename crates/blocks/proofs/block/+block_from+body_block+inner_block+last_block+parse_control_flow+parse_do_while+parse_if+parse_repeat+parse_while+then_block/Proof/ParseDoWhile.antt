@@ -14,31 +14,13 @@ use Rattle.blocks.proofs.block.+block_from+body_block+inner_block+last_
 pub do-header-requires : (t : ℕ) → lts.Need-do-header-requires (parse-do-while-calls t) (parse-do-while-at t) parse-do-while.Post
 do-header-requires t c κs =
     let c₁ = c .before .before .before .before .before .before .before in
-    (omega (arith, c₁ .pre), c₁ .pre .1 .1)
+    c₁ .pre .1 .0
 
 pub body-block-requires : (t : ℕ) → lts.Need-body-block-requires (parse-do-while-calls t) (parse-do-while-at t) parse-do-while.Post
 body-block-requires t c κs =
     let c₁ = c .before .before .before .before .before .before .before .before .before in
     let c₂ = c₁ .before .before .before .before .before .before .before .before in
-    omega (arith, c₂ .pre, c₁ .do-header .ensures .paid)
-
-pub same-length : (t : ℕ) → lts.Need-same-length (parse-do-while-calls t) (parse-do-while-at t) parse-do-while.Post
-same-length t c =
-    let c₁ = c .before .before .before .before .before .before .before .before .before in
-    let c₂ = c₁ .before .before .before .before .before .before .before .before .before .before in
-    c₁ .body-block .kept .1 .0 ∙ c₂ .do-header .kept .1 .0
-
-pub same-length-2 : (t : ℕ) → lts.Need-same-length-2 (parse-do-while-calls t) (parse-do-while-at t) parse-do-while.Post
-same-length-2 t c =
-    let c₁ = c .before .before .before .before .before .before .before .before .before in
-    let c₂ = c₁ .before .before .before .before .before .before .before .before .before .before in
-    c₁ .body-block .kept .1 .1 .0 ∙ c₂ .do-header .kept .1 .1 .0
-
-pub same-length-3 : (t : ℕ) → lts.Need-same-length-3 (parse-do-while-calls t) (parse-do-while-at t) parse-do-while.Post
-same-length-3 t c =
-    let c₁ = c .before .before .before .before .before .before .before .before .before in
-    let c₂ = c₁ .before .before .before .before .before .before .before .before .before .before in
-    c₁ .body-block .kept .1 .1 .1 .0 ∙ c₂ .do-header .kept .1 .1 .1 .0
+    omega (arith, c₂ .pre, c₁ .do-header .ensures .past)
 
 pub returns : (t : ℕ) → lts.Need-returns (parse-do-while-calls t) (parse-do-while-at t) parse-do-while.Post
 unfolding parse-do-while
@@ -50,15 +32,13 @@ returns t c =
     let first = c₁ .body-block .ensures in
     let fails = not-true (c₁ .body-block .result .more) (c .if1 .taken) in
     let last = first .done fails in
-    let rest = no-condition (c₃ .args .depth) (first .outcome) (first .test) fails (last .went) in
-    let form = bind-to (do-condition (parse-block limit) (c₃ .args .depth)) (first .block .went) rest in (
-      record {
-        paid = omega (arith, c₃ .pre, c₂ .do-header .ensures .paid, c₁ .body-block .ensures .block .paid, last .paid);
-        went = node-to _ (head .wrote) (head .on _ _ _ form) (last .wrote);
-      },
-      last .here,
-      omega (arith, head .paid .ahead, first .block .paid .ahead, last .paid .ahead),
-    )
+    let rest = no-condition (c₃ .args .depth) (first .outcome) (first .test) fails (last .ran) in
+    let form = bind-to (do-condition (parse-block limit) (c₃ .args .depth)) (first .block) rest in
+    record {
+      ran = node-to _ (head .wrote) (head .on _ _ _ form) (last .wrote);
+      past = record { on = omega (arith, head .past, first .onward); within = head .past .within };
+      here = last .here;
+    }
 
 pub last-block-requires : (t : ℕ) → lts.Need-last-block-requires (parse-do-while-calls t) (parse-do-while-at t) parse-do-while.Post
 last-block-requires t c κs =
@@ -67,28 +47,7 @@ last-block-requires t c κs =
     let c₃ = c₂ .before .before .before .before .before .before .before .before .before .before in
     let c₄ = c₃ .before .before .before .before .before .before .before .before in
     let line = c₂ .body-block .ensures .led (not-false (c₂ .body-block .result .more) (c₁ .if1 .left)) in
-    omega (arith, c₄ .pre, c₃ .do-header .ensures .paid, c₂ .body-block .ensures .block .paid, line .paid)
-
-pub same-length-4 : (t : ℕ) → lts.Need-same-length-4 (parse-do-while-calls t) (parse-do-while-at t) parse-do-while.Post
-same-length-4 t c =
-    let c₁ = c .before .before .before .before .before .before in
-    let c₂ = c₁ .before .before .before .before .before .before .before .before .before .before .before .before .before in
-    let c₃ = c₂ .before .before .before .before .before .before .before .before .before .before in
-    c₁ .last-block .kept .1 .0 ∙ c₂ .body-block .kept .1 .0 ∙ c₃ .do-header .kept .1 .0
-
-pub same-length-5 : (t : ℕ) → lts.Need-same-length-5 (parse-do-while-calls t) (parse-do-while-at t) parse-do-while.Post
-same-length-5 t c =
-    let c₁ = c .before .before .before .before .before .before in
-    let c₂ = c₁ .before .before .before .before .before .before .before .before .before .before .before .before .before in
-    let c₃ = c₂ .before .before .before .before .before .before .before .before .before .before in
-    c₁ .last-block .kept .1 .1 .0 ∙ c₂ .body-block .kept .1 .1 .0 ∙ c₃ .do-header .kept .1 .1 .0
-
-pub same-length-6 : (t : ℕ) → lts.Need-same-length-6 (parse-do-while-calls t) (parse-do-while-at t) parse-do-while.Post
-same-length-6 t c =
-    let c₁ = c .before .before .before .before .before .before in
-    let c₂ = c₁ .before .before .before .before .before .before .before .before .before .before .before .before .before in
-    let c₃ = c₂ .before .before .before .before .before .before .before .before .before .before in
-    c₁ .last-block .kept .1 .1 .1 .0 ∙ c₂ .body-block .kept .1 .1 .1 .0 ∙ c₃ .do-header .kept .1 .1 .1 .0
+    omega (arith, c₄ .pre, c₃ .do-header .ensures .past, c₂ .body-block .ensures .onward)
 
 pub returns-2 : (t : ℕ) → lts.Need-returns-2 (parse-do-while-calls t) (parse-do-while-at t) parse-do-while.Post
 unfolding parse-do-while
@@ -103,13 +62,11 @@ returns-2 t c =
     let holds = not-false (c₃ .body-block .result .more) (c₂ .if1 .left) in
     let line = first .led holds in
     let last = c₁ .last-block .ensures in
-    let block = bind-to (λ o. ended BlockOwner.DoWhile o) (last .block .went) (last .done .went) in
+    let block = bind-to (λ o. ended BlockOwner.DoWhile o) (last .block) (last .done .ran) in
     let rest = condition (c₅ .args .depth) (first .outcome) (first .test) holds (line .on _ _ _ block) in
-    let form = bind-to (do-condition (parse-block limit) (c₅ .args .depth)) (first .block .went) rest in (
-      record {
-        paid = omega (arith, c₅ .pre, c₄ .do-header .ensures .paid, c₃ .body-block .ensures .block .paid, c₁ .last-block .ensures .block .paid, c₁ .last-block .ensures .done .paid, line .paid);
-        went = node-to _ (head .wrote) (head .on _ _ _ form) (last .done .wrote);
-      },
-      last .done .here,
-      omega (arith, head .paid .ahead, first .block .paid .ahead, line .paid .ahead, last .block .paid .ahead, last .done .paid .ahead),
-    )
+    let form = bind-to (do-condition (parse-block limit) (c₅ .args .depth)) (first .block) rest in
+    record {
+      ran = node-to _ (head .wrote) (head .on _ _ _ form) (last .done .wrote);
+      past = record { on = omega (arith, head .past, first .onward, last .onward); within = head .past .within };
+      here = last .done .here;
+    }

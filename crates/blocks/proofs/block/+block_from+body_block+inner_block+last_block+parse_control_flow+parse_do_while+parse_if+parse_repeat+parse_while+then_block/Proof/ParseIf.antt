@@ -14,31 +14,13 @@ use Rattle.blocks.proofs.block.+block_from+body_block+inner_block+last_
 pub if-header-requires : (t : ℕ) → lts.Need-if-header-requires (parse-if-calls t) (parse-if-at t) parse-if.Post
 if-header-requires t c κs =
     let c₁ = c .before .before .before .before .before .before .before in
-    (omega (arith, c₁ .pre), c₁ .pre .1 .1)
+    c₁ .pre .1 .0
 
 pub then-block-requires : (t : ℕ) → lts.Need-then-block-requires (parse-if-calls t) (parse-if-at t) parse-if.Post
 then-block-requires t c κs =
     let c₁ = c .before .before .before .before .before .before .before .before .before in
     let c₂ = c₁ .before .before .before .before .before .before .before .before in
-    omega (arith, c₂ .pre, c₁ .if-header .ensures .paid)
-
-pub same-length : (t : ℕ) → lts.Need-same-length (parse-if-calls t) (parse-if-at t) parse-if.Post
-same-length t c =
-    let c₁ = c .before .before .before .before .before .before .before .before .before in
-    let c₂ = c₁ .before .before .before .before .before .before .before .before .before .before in
-    c₁ .then-block .kept .1 .0 ∙ c₂ .if-header .kept .1 .0
-
-pub same-length-2 : (t : ℕ) → lts.Need-same-length-2 (parse-if-calls t) (parse-if-at t) parse-if.Post
-same-length-2 t c =
-    let c₁ = c .before .before .before .before .before .before .before .before .before in
-    let c₂ = c₁ .before .before .before .before .before .before .before .before .before .before in
-    c₁ .then-block .kept .1 .1 .0 ∙ c₂ .if-header .kept .1 .1 .0
-
-pub same-length-3 : (t : ℕ) → lts.Need-same-length-3 (parse-if-calls t) (parse-if-at t) parse-if.Post
-same-length-3 t c =
-    let c₁ = c .before .before .before .before .before .before .before .before .before in
-    let c₂ = c₁ .before .before .before .before .before .before .before .before .before .before in
-    c₁ .then-block .kept .1 .1 .1 .0 ∙ c₂ .if-header .kept .1 .1 .1 .0
+    omega (arith, c₂ .pre, c₁ .if-header .ensures .past)
 
 pub returns : (t : ℕ) → lts.Need-returns (parse-if-calls t) (parse-if-at t) parse-if.Post
 unfolding parse-if
@@ -50,15 +32,13 @@ returns t c =
     let first = c₁ .then-block .ensures in
     let fails = not-true (c₁ .then-block .result .more) (c .if1 .taken) in
     let last = first .done fails in
-    let rest = no-else (c₃ .args .depth) (first .outcome) (first .test) fails (last .went) in
-    let form = bind-to (else-part (parse-block limit) (c₃ .args .depth)) (first .block .went) rest in (
-      record {
-        paid = omega (arith, c₃ .pre, c₂ .if-header .ensures .paid, c₁ .then-block .ensures .block .paid, last .paid);
-        went = node-to _ (head .wrote) (head .on _ _ _ form) (last .wrote);
-      },
-      last .here,
-      omega (arith, head .paid .ahead, first .block .paid .ahead, last .paid .ahead),
-    )
+    let rest = no-else (c₃ .args .depth) (first .outcome) (first .test) fails (last .ran) in
+    let form = bind-to (else-part (parse-block limit) (c₃ .args .depth)) (first .block) rest in
+    record {
+      ran = node-to _ (head .wrote) (head .on _ _ _ form) (last .wrote);
+      past = record { on = omega (arith, head .past, first .onward); within = head .past .within };
+      here = last .here;
+    }
 
 pub last-block-requires : (t : ℕ) → lts.Need-last-block-requires (parse-if-calls t) (parse-if-at t) parse-if.Post
 last-block-requires t c κs =
@@ -67,28 +47,7 @@ last-block-requires t c κs =
     let c₃ = c₂ .before .before .before .before .before .before .before .before .before .before in
     let c₄ = c₃ .before .before .before .before .before .before .before .before in
     let line = c₂ .then-block .ensures .led (not-false (c₂ .then-block .result .more) (c₁ .if1 .left)) in
-    omega (arith, c₄ .pre, c₃ .if-header .ensures .paid, c₂ .then-block .ensures .block .paid, line .paid)
-
-pub same-length-4 : (t : ℕ) → lts.Need-same-length-4 (parse-if-calls t) (parse-if-at t) parse-if.Post
-same-length-4 t c =
-    let c₁ = c .before .before .before .before .before .before in
-    let c₂ = c₁ .before .before .before .before .before .before .before .before .before .before .before .before .before in
-    let c₃ = c₂ .before .before .before .before .before .before .before .before .before .before in
-    c₁ .last-block .kept .1 .0 ∙ c₂ .then-block .kept .1 .0 ∙ c₃ .if-header .kept .1 .0
-
-pub same-length-5 : (t : ℕ) → lts.Need-same-length-5 (parse-if-calls t) (parse-if-at t) parse-if.Post
-same-length-5 t c =
-    let c₁ = c .before .before .before .before .before .before in
-    let c₂ = c₁ .before .before .before .before .before .before .before .before .before .before .before .before .before in
-    let c₃ = c₂ .before .before .before .before .before .before .before .before .before .before in
-    c₁ .last-block .kept .1 .1 .0 ∙ c₂ .then-block .kept .1 .1 .0 ∙ c₃ .if-header .kept .1 .1 .0
-
-pub same-length-6 : (t : ℕ) → lts.Need-same-length-6 (parse-if-calls t) (parse-if-at t) parse-if.Post
-same-length-6 t c =
-    let c₁ = c .before .before .before .before .before .before in
-    let c₂ = c₁ .before .before .before .before .before .before .before .before .before .before .before .before .before in
-    let c₃ = c₂ .before .before .before .before .before .before .before .before .before .before in
-    c₁ .last-block .kept .1 .1 .1 .0 ∙ c₂ .then-block .kept .1 .1 .1 .0 ∙ c₃ .if-header .kept .1 .1 .1 .0
+    omega (arith, c₄ .pre, c₃ .if-header .ensures .past, c₂ .then-block .ensures .onward)
 
 pub returns-2 : (t : ℕ) → lts.Need-returns-2 (parse-if-calls t) (parse-if-at t) parse-if.Post
 unfolding parse-if
@@ -103,12 +62,10 @@ returns-2 t c =
     let holds = not-false (c₃ .then-block .result .more) (c₂ .if1 .left) in
     let line = first .led holds in
     let last = c₁ .last-block .ensures in
-    let rest = with-else (c₅ .args .depth) (first .outcome) (first .test) holds (line .on _ _ _ (last .block .went)) (last .done .went) in
-    let form = bind-to (else-part (parse-block limit) (c₅ .args .depth)) (first .block .went) rest in (
-      record {
-        paid = omega (arith, c₅ .pre, c₄ .if-header .ensures .paid, c₃ .then-block .ensures .block .paid, c₁ .last-block .ensures .block .paid, c₁ .last-block .ensures .done .paid, line .paid);
-        went = node-to _ (head .wrote) (head .on _ _ _ form) (last .done .wrote);
-      },
-      last .done .here,
-      omega (arith, head .paid .ahead, first .block .paid .ahead, line .paid .ahead, last .block .paid .ahead, last .done .paid .ahead),
-    )
+    let rest = with-else (c₅ .args .depth) (first .outcome) (first .test) holds (line .on _ _ _ (last .block)) (last .done .ran) in
+    let form = bind-to (else-part (parse-block limit) (c₅ .args .depth)) (first .block) rest in
+    record {
+      ran = node-to _ (head .wrote) (head .on _ _ _ form) (last .done .wrote);
+      past = record { on = omega (arith, head .past, first .onward, last .onward); within = head .past .within };
+      here = last .done .here;
+    }

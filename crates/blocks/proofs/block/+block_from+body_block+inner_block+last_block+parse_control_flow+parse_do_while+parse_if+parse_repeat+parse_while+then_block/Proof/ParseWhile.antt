@@ -12,31 +12,13 @@ use Rattle.blocks.proofs.block.+block_from+body_block+inner_block+last_
 pub while-header-requires : (t : ℕ) → lts.Need-while-header-requires (parse-while-calls t) (parse-while-at t) parse-while.Post
 while-header-requires t c κs =
     let c₁ = c .before .before .before .before .before .before .before in
-    (omega (arith, c₁ .pre), c₁ .pre .1 .1)
+    c₁ .pre .1 .0
 
 pub last-block-requires : (t : ℕ) → lts.Need-last-block-requires (parse-while-calls t) (parse-while-at t) parse-while.Post
 last-block-requires t c κs =
     let c₁ = c .before .before .before .before .before .before .before .before .before in
     let c₂ = c₁ .before .before .before .before .before .before .before .before in
-    omega (arith, c₂ .pre, c₁ .while-header .ensures .paid)
-
-pub same-length : (t : ℕ) → lts.Need-same-length (parse-while-calls t) (parse-while-at t) parse-while.Post
-same-length t c =
-    let c₁ = c .before .before .before .before .before .before in
-    let c₂ = c₁ .before .before .before .before .before .before .before .before .before .before in
-    c₁ .last-block .kept .1 .0 ∙ c₂ .while-header .kept .1 .0
-
-pub same-length-2 : (t : ℕ) → lts.Need-same-length-2 (parse-while-calls t) (parse-while-at t) parse-while.Post
-same-length-2 t c =
-    let c₁ = c .before .before .before .before .before .before in
-    let c₂ = c₁ .before .before .before .before .before .before .before .before .before .before in
-    c₁ .last-block .kept .1 .1 .0 ∙ c₂ .while-header .kept .1 .1 .0
-
-pub same-length-3 : (t : ℕ) → lts.Need-same-length-3 (parse-while-calls t) (parse-while-at t) parse-while.Post
-same-length-3 t c =
-    let c₁ = c .before .before .before .before .before .before in
-    let c₂ = c₁ .before .before .before .before .before .before .before .before .before .before in
-    c₁ .last-block .kept .1 .1 .1 .0 ∙ c₂ .while-header .kept .1 .1 .1 .0
+    omega (arith, c₂ .pre, c₁ .while-header .ensures .past)
 
 pub returns : (t : ℕ) → lts.Need-returns (parse-while-calls t) (parse-while-at t) parse-while.Post
 unfolding parse-while
@@ -46,11 +28,9 @@ returns t c =
     let c₃ = c₂ .before .before .before .before .before .before .before .before in
     let head = c₂ .while-header .ensures in
     let last = c₁ .last-block .ensures in
-    let form = bind-to (λ o. ended BlockOwner.While o) (last .block .went) (last .done .went) in (
-      record {
-        paid = omega (arith, c₃ .pre, c₂ .while-header .ensures .paid, c₁ .last-block .ensures .block .paid, c₁ .last-block .ensures .done .paid);
-        went = node-to _ (head .wrote) (head .on _ _ _ form) (last .done .wrote);
-      },
-      last .done .here,
-      omega (arith, head .paid .ahead, last .block .paid .ahead, last .done .paid .ahead),
-    )
+    let form = bind-to (λ o. ended BlockOwner.While o) (last .block) (last .done .ran) in
+    record {
+      ran = node-to _ (head .wrote) (head .on _ _ _ form) (last .done .wrote);
+      past = record { on = omega (arith, head .past, last .onward); within = head .past .within };
+      here = last .done .here;
+    }
