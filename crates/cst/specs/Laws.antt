@@ -2,37 +2,26 @@
 -- Assumes nothing.
 use Prim.Native.Nat.{ℕ, zero, suc, pred, _+_, _≤_}
 use mathlib.Core.Path.{_≡_, refl, sym, ap, ap₂, _∙_}
-use mathlib.Core.List.{List, [], _∷_, _++_, map, map-id}
+use mathlib.Core.List.{List, [], _∷_, _++_, map}
 use native.Mathlib.Omega.{arith}
 use lib.ListN.{length, take, drop, length-map}
 use lib.Seq.{take-at, drop-at}
 use Rattle.utf8.specs.Width.{width}
 use Rattle.utf8.specs.Last.{last-from, last-char}
-use Rattle.room.specs.Over.{over, fit, nil-over, cons-over}
+use Rattle.room.specs.Over.{over, fit}
 use Rattle.lexer.specs.Tokens.{token-ends}
 use Rattle.grammar.specs.Words.{kindOf}
 use Rattle.grammar.specs.Out.{Diag, diags}
 use Rattle.grammar.specs.Source.{symbols}
-use Rattle.parser.specs.declared.cursor.Cursor.{Cursor}
-use Rattle.parser.specs.Rep.{onto, world}
+use Rattle.parser.specs.Rep.{World}
 use Rattle.grammar.specs.Block.{MAX-CONTROL-FLOW-NESTING as limit}
-use Rattle.items.specs.Entry.{base, Parsed}
+use Rattle.items.specs.Entry.{Parsed}
 use Rattle.marks.specs.Laws.{source-unmarked}
 use Rattle.places.specs.Places.{Placed}
 use Rattle.places.specs.Laws.{messages-of-places}
 use Rattle.places.specs.Writes.{indices, Written, placed-written}
 use Rattle.answer.specs.Answer.{events-of}
 use Rattle.cst.specs.Parts.{Grown}
-
--- the parser's writes are the lexer's
-onto-over : {A : Type 0} (f : A → ℕ) (l : List ℕ) (xs : List A) → onto f (length l) l xs ≡ over l 0 (map f xs)
-unfolding onto
-onto-over f [] xs = sym (nil-over 0 (map f xs))
-onto-over f (b ∷ l) [] = refl
-onto-over f (b ∷ l) (x ∷ xs) = ap (λ (k : List ℕ). f x ∷ k) (onto-over f l xs) ∙ sym (cons-over (f x) l 0 (map f xs))
-
-pub onto-all : {A : Type 0} (f : A → ℕ) (r : ℕ) (l : List ℕ) (xs : List A) → r ≡ length l → onto f r l xs ≡ over l 0 (map f xs)
-onto-all f r l xs e = rw e (onto-over f l xs)
 
 last-below : (k m n : ℕ) (s : List ℕ) → m ≤ n → last-from k m n s ≤ n + length s
 unfolding last-from
@@ -57,35 +46,27 @@ refit g r n vs l e =
 
 -- the grammar, the marks taken off, and the places
 module _
-    (s F ends : List ℕ) (anchor : ℕ) (ev dm ds de : List ℕ) (kinds′ ev′ dm′ ds₁ ds′ de′ : List ℕ) (c : Cursor)
+    (s F ends : List ℕ) (anchor : ℕ) (b w : World) (de kinds′ ds′ de′ : List ℕ)
     (symbols-are : F ≡ symbols s) (ends-are : ends ≡ token-ends s) (anchor-is : anchor ≡ last-char s)
-    (same : length dm ≡ length ds) (same₂ : length ds ≡ length de)
-    (parsed : Parsed F (base ev dm ds) (world ev′ dm′ ds₁ c)) (k : kinds′ ≡ map kindOf F)
-    (placed : Placed ends anchor (c .diags) ds₁ de ds′ de′)
+    (same : length (b .ds) ≡ length de) (parsed : Parsed F b w) (k : kinds′ ≡ map kindOf F)
+    (placed : Placed ends anchor (w .c .diags) (w .ds) de ds′ de′)
   where
-    p : Parsed (symbols s) (base ev dm ds) (world ev′ dm′ ds₁ c)
+    p : Parsed (symbols s) b w
     p = rw symbols-are at parsed
 
     abbrev said : List Diag
     said = diags limit (symbols s)
 
-    indices-are : ds₁ ≡ over ds 0 (indices said)
-    indices-are =
-        p .ds ∙ onto-all (λ d. d .pos) _ ds said (omega arith)
+    written : Written (token-ends s) (last-char s) said (b .ds) de ds′ de′
+    written = placed-written (token-ends s) (last-char s) said (b .ds) de ds′ de′ same (rw (ends-are, anchor-is, p .diags, p .ds) at placed)
 
-    written : Written (token-ends s) (last-char s) said ds de ds′ de′
-    written = placed-written (token-ends s) (last-char s) said ds de ds′ de′ same₂ (rw (ends-are, anchor-is, p .diags, indices-are) at placed)
-
-    pub grown : Grown s ev dm ds de (record { events = c .events; diagnostics = c .diags }) kinds′ ev′ dm′ ds′ de′
+    pub grown : Grown s (b .ev) (b .dm) (b .ds) de (record { events = w .c .events; diagnostics = w .c .diags }) kinds′ (w .ev) (w .dm) ds′ de′
     grown = record {
       event-count = p .events;
       diagnostic-count = p .diags ∙ sym (length-map said _);
       kinds-are = k ∙ ap (map kindOf) symbols-are ∙ source-unmarked s;
-      events-are = p .ev ∙ onto-all (λ x. x) _ ev (events-of s) refl ∙ ap (over ev 0) (map-id (events-of s));
-      messages-are =
-          p .dm
-          ∙ onto-all (λ d. d .msg) _ dm said (omega arith)
-          ∙ ap (over dm 0) (sym (messages-of-places (token-ends s) (last-char s) said));
+      events-are = p .ev;
+      messages-are = p .dm ∙ ap (over (b .dm) 0) (sym (messages-of-places (token-ends s) (last-char s) said));
       starts-are = written .starts-are;
       stops-are = written .stops-are;
     }

@@ -1,37 +1,41 @@
--- From the empty cursor, which stands for the definition's first state, to what the parser leaves. Assumes nothing.
+-- From the cursor at the start, which stands for the definition's first state, to what the parser leaves: a file's numbers are small.
+-- Assumes nothing.
 use mathlib.Core.Bool.{Bool}
-use mathlib.Core.List.{List, [], _∷_, append-nil}
+use mathlib.Core.List.{List, [], append-nil, map}
 use mathlib.Core.Path.{_≡_, refl, sym, ap, _∙_}
-use Prim.Native.Nat.{ℕ, zero, suc, _≤_}
+use Prim.Native.Nat.{ℕ, _+_, _≤_, _^_}
 use native.Mathlib.Omega.{arith}
 use lib.ListN.{length}
+use Rattle.room.specs.Over.{over, length-over}
 use Rattle.grammar.specs.Words.{File, from}
-use Rattle.grammar.specs.Run.{SourceFile, P, inNode}
+use Rattle.grammar.specs.Run.{SourceFile, P, leaves, inNode}
 use Rattle.grammar.specs.Item.{items-in, parse}
 use Rattle.grammar.specs.Out.{Diag, ev, dg, events, diags}
 use Rattle.grammar.specs.State.{State, run}
-use Rattle.grammar.specs.Laws.LiveItem.{items-end}
-use Rattle.parser.specs.Rep.{onto, Base, World, world, room, Rep, Ran}
-use Rattle.parser.proofs.Laws.{left}
+use Rattle.grammar.specs.Theorems.AllTokens.{all-tokens}
+use Rattle.grammar.specs.Theorems.FewEvents.{few-events}
+use Rattle.grammar.specs.Theorems.FewDiagnostics.{few-diagnostics}
 use Rattle.grammar.specs.Block.{MAX-CONTROL-FLOW-NESTING as limit}
-use Rattle.items.specs.Entry.{base, Parsed}
-
-onto-none : {A : Type 0} (f : A → ℕ) (r : ℕ) (base : List ℕ) → base ≡ onto f r base []
-unfolding onto
-onto-none f zero base = refl
-onto-none f (suc r) [] = refl
-onto-none f (suc r) (b ∷ base) = refl
+use Rattle.parser.specs.Rep.{World, world, Rep, Small, Ran}
+use Rattle.items.specs.Entry.{start, Parsed}
 
 -- before the first token
 abbrev begun : File → State
 begun F = record { rest = from F 0; pos = 0; evs = []; dgs = [] }
 
-starts : (F : File) (b : Base) → Rep F b (world (b .ev) (b .dm) (b .ds) (record { pos = 0; events = 0; diags = 0 })) (begun F)
-starts F b = record { rest = refl; pos = refl; events = refl; diags = refl; ev = onto-none _ _ _; dm = onto-none _ _ _; ds = onto-none _ _ _ }
+abbrev at-start : World → World
+at-start b = world (b .ev) (b .dm) (b .ds) start
+
+starts : (F : File) (b : World) → Rep F b (at-start b) (begun F)
+starts F b = record { rest = refl; pos = refl; events = refl; diags = refl; ev = refl; dm = refl; ds = refl }
 
 -- the file in its root node
 abbrev pub root : P Bool
 root = inNode SourceFile (items-in limit)
+
+root-leaves : (F : File) → leaves (root F .out) ≡ F
+unfolding inNode parse
+root-leaves F = append-nil _ ∙ all-tokens limit F
 
 root-events : (F : File) → ev (root F .out) ≡ events limit F
 unfolding inNode events parse
@@ -41,19 +45,27 @@ root-diags : (F : File) → dg 0 (root F .out) ≡ diags limit F
 unfolding inNode diags parse
 root-diags F = append-nil _
 
-root-rest : (F : File) → root F .rest ≡ []
-unfolding inNode items-in
-root-rest F = items-end (suc (length F)) limit F (omega arith)
-
-pub whole : (F : File) (b : Base) {w : World} → w .c .pos ≤ length F → Ran F root (world (b .ev) (b .dm) (b .ds) (record { pos = 0; events = 0; diags = 0 })) w → Parsed F b w
+small : (F : File) → length F ≤ 2 ^ 20 → Small (run root (begun F))
 unfolding run
-whole F b {w} p h =
-    let r = h .sim b (begun F) (starts F b) in
+small F h = record {
+  pos = omega (arith, ap length (root-leaves F));
+  events = omega (arith, ap length (root-events F), few-events limit F);
+  diags = omega (arith, ap length (root-diags F), few-diagnostics limit F);
+}
+
+pub whole : (F : File) (b : World) {w : World} → length F ≤ 2 ^ 20 → Ran F root (at-start b) w → Parsed F b w
+unfolding run
+whole F b {w} l h =
+    let r = h .sim b (begun F) (starts F b) (small F l) in
     record {
-      pos = omega (arith, p, ap length (sym (h .rest) ∙ root-rest F), left F (w .c .pos));
+      pos = sym (r .pos) ∙ ap (λ (t : File). 0 + length t) (root-leaves F) ∙ omega arith;
       events = sym (r .events) ∙ ap length (root-events F);
       diags = sym (r .diags) ∙ ap length (root-diags F);
-      ev = r .ev ∙ ap (onto (λ x. x) (length (b .ev)) (b .ev)) (root-events F);
-      dm = r .dm ∙ ap (onto (λ (d : Diag). d .msg) (room b) (b .dm)) (root-diags F);
-      ds = r .ds ∙ ap (onto (λ (d : Diag). d .pos) (room b) (b .ds)) (root-diags F);
+      ev = r .ev ∙ ap (over (b .ev) 0) (root-events F);
+      dm = r .dm ∙ ap (λ (l : List Diag). over (b .dm) 0 (map (λ d. d .msg) l)) (root-diags F);
+      ds = r .ds ∙ ap (λ (l : List Diag). over (b .ds) 0 (map (λ d. d .pos) l)) (root-diags F);
     }
+
+-- the slices keep their lengths
+pub kept : {F : File} {b w : World} → Parsed F b w → (length (w .ev) ≡ length (b .ev)) × (length (w .dm) ≡ length (b .dm)) × (length (w .ds) ≡ length (b .ds))
+kept {F} {b} p = (ap length (p .ev) ∙ length-over (b .ev) 0 _, ap length (p .dm) ∙ length-over (b .dm) 0 _, ap length (p .ds) ∙ length-over (b .ds) 0 _)

@@ -9,13 +9,12 @@ ghost use lib.ListN.{length};
 ghost use Rattle.grammar.specs.Block.{MAX-CONTROL-FLOW-NESTING as limit};
 ghost use Rattle.grammar.specs.Item.{items-in};
 ghost use Rattle.parser.specs.Rep.{entry, exit, Ran};
-ghost use Rattle.items.specs.Entry.{base, Parsed};
+ghost use Rattle.items.specs.Entry.{start, Parsed};
 
 const SOURCE_FILE: u16 = 2;
 
-// parse's loop; trivia behind an item is taken at once. An item writes at most 15 more than 7 for each of its tokens, and it takes one: 22 for each pay for all.
+// parse's loop; trivia behind an item is taken at once.
 fn source_items(kinds: &[u16], ev: &mut [u16], dm: &mut [u16], ds: &mut [u32], c0: Cursor) -> Cursor
-    requires { ⌜ Ready (2 ^ 25) (now kinds) c0 ⌝ }
     ensures { λ r. ⌜ Ran (now (kinds .entry)) (items-in limit) (entry ev dm ds c0) (exit ev dm ds r) ⌝ }
 {
     let mut c = c0;
@@ -29,8 +28,7 @@ fn source_items(kinds: &[u16], ev: &mut [u16], dm: &mut [u16], ds: &mut [u32], c
 // The whole file, in its root node.
 pub fn parse(kinds: &[u16], ev: &mut [u16], dm: &mut [u16], ds: &mut [u32]) -> Cursor
     requires { ⌜ length (now kinds) ≤ 2 ^ 20 ⌝ }
-    ensures { λ r. ⌜ Parsed (now (kinds .entry)) (base (now (ev .entry)) (now (dm .entry)) (now (ds .entry))) (world (now (ev .exit)) (now (dm .exit)) (now (ds .exit)) r)
-        λ r. ⌜ Parsed (now (kinds .entry)) (base (now (ev .entry)) (now (dm .entry)) (now (ds .entry))) (world (now (ev .exit)) (now (dm .exit)) (now (ds .exit)) r) ⌝ }
+    ensures { λ r. ⌜ Parsed (now (kinds .entry)) (entry ev dm ds start) (exit ev dm ds r) ⌝ }
 {
     let start = Cursor {
         pos: 0,

@@ -55,7 +55,7 @@ returns c =
     let c₅ = c₄ .before .before .before .before .before .before .before .before .before .before .before .before in
     let a = c₅ .args in
     let pre = c₅ .pre in
-    grown (a .source .now) _ _ _ _ _ _ _ _ _ _ _ _ _ _ (pre .2) (pre .3) (c₂ .last-char .ensures) (pre .4) (pre .5) (c₄ .parse .ensures) (c₃ .unmark .ensures) (c₁ .places .ensures)
+    grown (a .source .now) _ _ _ _ _ _ _ _ _ (pre .2) (pre .3) (c₂ .last-char .ensures) (pre .5) (c₄ .parse .ensures) (c₃ .unmark .ensures) (c₁ .places .ensures)
 
 pub grow-spec : {M : Type 1} → statement M
 grow-spec =

@@ -5,7 +5,6 @@ use mathlib.Core.Path.{_≡_, refl, sym, ap, _∙_}
 use Prim.Native.Nat.{_-_, _<_}
 use native.Mathlib.Omega.{arith}
 use lib.ListN.{length}
-use borrow.Author.Needs.{needs}
 use borrow.Author.Tests.{not-true, not-false}
 use Rattle.grammar.specs.Block.{MAX-CONTROL-FLOW-NESTING as limit, parse-block}
 use Rattle.grammar.specs.Item.{parse-source-item, items-in}
@@ -70,28 +69,7 @@ abbrev μ-loop : tie.MeasureT-loop
 μ-loop kinds ev₀ dm₀ ds₀ c₀ ev dm ds c = length kinds - c .pos
 
 loop-holds : tie.Need-loop-holds Inv-loop μ-loop
-loop-holds c =
-    let c₁ = c .before .before .before .before in
-    begins
-
-eof-requires : tie.Need-eof-requires Inv-loop μ-loop
-eof-requires c κs = search needs
-
-parse-source-item-requires : tie.Need-parse-source-item-requires Inv-loop μ-loop
-parse-source-item-requires c κs =
-    let c₁ = c .before .before .before .before .before in
-    let c₂ = c₁ .before .before .before .before .before in
-    omega (arith, c₂ .pre, c₁ .loop .inv .paid)
-
-bump-regular-trivia-requires : tie.Need-bump-regular-trivia-requires Inv-loop μ-loop
-bump-regular-trivia-requires c κs =
-    let c₁ = c .before .before .before .before .before .before .before .before .before in
-    let c₂ = c₁ .before .before .before .before in
-    let c₃ = c₂ .before in
-    let c₄ = c₃ .before in
-    let c₅ = c₄ .before .before .before .before .before in
-    let m = past-here (c₁ .parse-source-item .ensures .went) (takes _ (sym (c₃ .eof .ensures) ∙ not-true _ (c₂ .if1 .taken))) in
-    omega (arith, m, c₅ .pre, c₄ .loop .inv .paid, c₁ .parse-source-item .ensures .paid)
+loop-holds c = begins
 
 loop-less : tie.Need-loop-less Inv-loop μ-loop
 loop-less c =
@@ -99,8 +77,8 @@ loop-less c =
     let c₁ = b .before .before .before .before .before .before .before .before .before .before in
     let c₂ = c₁ .before .before .before .before in
     let c₃ = c₂ .before in
-    let m = past-here (c₁ .parse-source-item .ensures .went) (takes _ (sym (c₃ .eof .ensures) ∙ not-true _ (c₂ .if1 .taken))) in
-    omega (arith, m, c₁ .parse-source-item .ensures .paid, b .bump-regular-trivia .ensures .paid)
+    let m = past-here (c₁ .parse-source-item .ensures) (takes _ (sym (c₃ .eof .ensures) ∙ not-true _ (c₂ .if1 .taken))) in
+    omega (arith, m, b .bump-regular-trivia .ensures .onward)
 
 loop-again : tie.Need-loop-again Inv-loop μ-loop
 loop-again c =
@@ -109,33 +87,14 @@ loop-again c =
     let c₂ = c₁ .before .before .before .before in
     let c₃ = c₂ .before in
     let c₄ = c₃ .before in
-    let c₅ = c₄ .before .before .before .before .before in
     let z = sym (c₃ .eof .ensures) ∙ not-true _ (c₂ .if1 .taken) in
-    let m = past-here (c₁ .parse-source-item .ensures .went) (takes _ z) in
-    let t = c₁ .parse-source-item in
-    let v = b .bump-regular-trivia in
-    let i = c₄ .loop .inv in
-    goes-on i (λ w′ r k. next z (t .ensures .went) (absorbs (v .ensures .went) k))
-
-same-length : tie.Need-same-length Inv-loop μ-loop
-same-length c = c .before .before .loop .inv .ev
-
-same-length-2 : tie.Need-same-length-2 Inv-loop μ-loop
-same-length-2 c = c .before .before .loop .inv .dm
-
-same-length-3 : tie.Need-same-length-3 Inv-loop μ-loop
-same-length-3 c = c .before .before .loop .inv .ds
+    goes-on (c₄ .loop .inv) (λ w′ r k. next z (c₁ .parse-source-item .ensures) (absorbs (b .bump-regular-trivia .ensures) k))
 
 returns : tie.Need-returns Inv-loop μ-loop
 returns c =
-    let c₁ = c .before .before .before .before .before .before .before in
-    record {
-      paid = omega (arith, c₁ .pre, c .before .before .loop .inv .paid);
-      went = c .before .before .loop .inv .on _ _ (last (sym (c .before .eof .ensures) ∙ not-false _ (c .if1 .left))) .went;
-    }
+    c .before .before .loop .inv .on _ _ (last (sym (c .before .eof .ensures) ∙ not-false _ (c .if1 .left))) .ran
 
 pub source-items-spec : {M : Type 1} → statement M
 source-items-spec =
     tie.close
-    (tie.spec Inv-loop μ-loop loop-holds eof-requires parse-source-item-requires bump-regular-trivia-requires loop-less loop-again same-length same-length-2 same-length-3
-    returns)
+    (tie.spec Inv-loop μ-loop loop-holds (λ c κs. tt) (λ c κs. tt) (λ c κs. tt) loop-less loop-again (λ c. returns c .onward .ev) (λ c. returns c .onward .dm) (λ c. returns c .onward .ds) returns)

@@ -1,52 +1,19 @@
 -- `items::procedure::optional_signature`: one test. Assumes nothing.
 use mathlib.Core.Bool.{true}
-use native.Mathlib.Omega.{arith}
-use borrow.Author.Needs.{needs}
 use Rattle.parser.proofs.Kit.{yes, no, done}
 use Rattle.items.proofs.procedure.optional_signature.Statement.{statement}
 use Rattle.items.proofs.procedure.optional_signature.Tie as tie
-
-at-kind-requires : tie.Need-at-kind-requires
-at-kind-requires c κs = search needs
-
-parse-signature-requires : tie.Need-parse-signature-requires
-parse-signature-requires c κs =
-    let c₁ = c .before .before .before .before .before .before .before .before .before in
-    omega (arith, c₁ .pre)
-
-same-length : tie.Need-same-length
-same-length c =
-    let c₁ = c .before .before .before .before .before .before in
-    c₁ .parse-signature .kept .1 .0
-
-same-length-2 : tie.Need-same-length-2
-same-length-2 c =
-    let c₁ = c .before .before .before .before .before .before in
-    c₁ .parse-signature .kept .1 .1 .0
-
-same-length-3 : tie.Need-same-length-3
-same-length-3 c =
-    let c₁ = c .before .before .before .before .before .before in
-    c₁ .parse-signature .kept .1 .1 .1 .0
 
 returns : tie.Need-returns
 returns c =
     let c₁ = c .before .before .before .before .before .before in
     let c₂ = c₁ .before .before .before .before in
     let c₃ = c₂ .before in
-    let c₄ = c₃ .before .before .before .before .before in
-    record {
-      paid = omega (arith, c₄ .pre, c₁ .parse-signature .ensures .paid);
-      went = yes _ _ (c₃ .at-kind .ensures) (c₂ .if1 .taken) (c₁ .parse-signature .ensures .went);
-    }
+    yes _ _ (c₃ .at-kind .ensures) (c₂ .if1 .taken) (c₁ .parse-signature .ensures)
 
 returns-2 : tie.Need-returns-2
 returns-2 c =
-    let c₁ = c .before .before .before .before .before .before in
-    record {
-      paid = omega (arith, c₁ .pre);
-      went = no _ _ (c .before .at-kind .ensures) (c .if1 .left) (done true);
-    }
+    no _ _ (c .before .at-kind .ensures) (c .if1 .left) (done true)
 
 pub optional-signature-spec : {M : Type 1} → statement M
-optional-signature-spec = tie.close (tie.spec at-kind-requires parse-signature-requires same-length same-length-2 same-length-3 returns returns-2)
+optional-signature-spec = tie.close (tie.spec (λ c κs. tt) (λ c κs. tt) (λ c. returns c .onward .ev) (λ c. returns c .onward .dm) (λ c. returns c .onward .ds) returns returns-2)

@@ -1,5 +1,4 @@
 -- `items::procedure::parse_begin_block`: its node around the steps of its callees. Assumes nothing.
-use mathlib.Core.Path.{_∙_}
 use native.Mathlib.Omega.{arith}
 use Rattle.grammar.specs.Block.{closing}
 use Rattle.grammar.specs.Item.{parse-begin-block}
@@ -7,76 +6,6 @@ use Rattle.grammar.specs.declared.block.BlockOwner.{BlockOwner}
 use Rattle.parser.proofs.Kit.{node, bind, _then_}
 use Rattle.items.proofs.procedure.parse_begin_block.Statement.{statement}
 use Rattle.items.proofs.procedure.parse_begin_block.Tie as tie
-
-put-requires : tie.Need-put-requires
-put-requires c κs =
-    let c₁ = c .before .before .before .before .before in
-    omega (arith, c₁ .pre)
-
-expect-kind-requires : tie.Need-expect-kind-requires
-expect-kind-requires c κs =
-    let c₁ = c .before .before .before .before .before in
-    let c₂ = c₁ .before .before .before .before .before .before in
-    omega (arith, c₂ .pre, c₁ .put .ensures)
-
-parse-line-tail-requires : tie.Need-parse-line-tail-requires
-parse-line-tail-requires c κs =
-    let c₁ = c .before .before .before .before .before .before .before .before .before .before in
-    let c₂ = c₁ .before .before .before .before .before .before in
-    let c₃ = c₂ .before .before .before .before .before .before in
-    omega (arith, c₃ .pre, c₂ .put .ensures, c₁ .expect-kind .ensures .paid)
-
-parse-block-requires : tie.Need-parse-block-requires
-parse-block-requires c κs =
-    let c₁ = c .before .before .before .before .before .before .before .before .before in
-    let c₂ = c₁ .before .before .before .before .before .before .before .before .before .before .before in
-    let c₃ = c₂ .before .before .before .before .before .before in
-    let c₄ = c₃ .before .before .before .before .before .before in
-    (omega (arith, c₄ .pre, c₃ .put .ensures, c₂ .expect-kind .ensures .paid, c₁ .parse-line-tail .ensures .paid), omega arith)
-
-closing-requires : tie.Need-closing-requires
-closing-requires c κs =
-    let c₁ = c .before .before .before .before .before .before .before .before .before .before in
-    let c₂ = c₁ .before .before .before .before .before .before .before .before .before .before in
-    let c₃ = c₂ .before .before .before .before .before .before .before .before .before .before .before in
-    let c₄ = c₃ .before .before .before .before .before .before in
-    let c₅ = c₄ .before .before .before .before .before .before in
-    omega (arith, c₅ .pre, c₄ .put .ensures, c₃ .expect-kind .ensures .paid, c₂ .parse-line-tail .ensures .paid, c₁ .parse-block .ensures .0 .paid)
-
-put-requires-2 : tie.Need-put-requires-2
-put-requires-2 c κs =
-    let c₁ = c .before .before .before .before .before .before .before in
-    let c₂ = c₁ .before .before .before .before .before .before .before .before .before .before .before in
-    let c₃ = c₂ .before .before .before .before .before .before .before .before .before .before in
-    let c₄ = c₃ .before .before .before .before .before .before .before .before .before .before .before in
-    let c₅ = c₄ .before .before .before .before .before .before in
-    let c₆ = c₅ .before .before .before .before .before .before in
-    omega (arith, c₆ .pre, c₅ .put .ensures, c₄ .expect-kind .ensures .paid, c₃ .parse-line-tail .ensures .paid, c₂ .parse-block .ensures .0 .paid, c₁ .closing .ensures .paid)
-
-same-length : tie.Need-same-length
-same-length c =
-    let c₁ = c .before .before .before .before .before .before .before .before .before .before in
-    let c₂ = c₁ .before .before .before .before .before .before .before .before .before .before .before in
-    let c₃ = c₂ .before .before .before .before .before .before .before .before .before .before in
-    let c₄ = c₃ .before .before .before .before .before .before .before .before .before .before .before in
-    let c₅ = c₄ .before .before .before .before .before .before in
-    c .before .before .put2 .kept .0 ∙ c₁ .closing .kept .1 .0 ∙ c₂ .parse-block .kept .1 .0 ∙ c₃ .parse-line-tail .kept .1 .0 ∙ c₄ .expect-kind .kept .1 .0 ∙ c₅ .put .kept .0
-
-same-length-2 : tie.Need-same-length-2
-same-length-2 c =
-    let c₁ = c .before .before .before .before .before .before .before .before .before .before in
-    let c₂ = c₁ .before .before .before .before .before .before .before .before .before .before .before in
-    let c₃ = c₂ .before .before .before .before .before .before .before .before .before .before in
-    let c₄ = c₃ .before .before .before .before .before .before .before .before .before .before .before in
-    c₁ .closing .kept .1 .1 .0 ∙ c₂ .parse-block .kept .1 .1 .0 ∙ c₃ .parse-line-tail .kept .1 .1 .0 ∙ c₄ .expect-kind .kept .1 .1 .0
-
-same-length-3 : tie.Need-same-length-3
-same-length-3 c =
-    let c₁ = c .before .before .before .before .before .before .before .before .before .before in
-    let c₂ = c₁ .before .before .before .before .before .before .before .before .before .before .before in
-    let c₃ = c₂ .before .before .before .before .before .before .before .before .before .before in
-    let c₄ = c₃ .before .before .before .before .before .before .before .before .before .before .before in
-    c₁ .closing .kept .1 .1 .1 .0 ∙ c₂ .parse-block .kept .1 .1 .1 .0 ∙ c₃ .parse-line-tail .kept .1 .1 .1 .0 ∙ c₄ .expect-kind .kept .1 .1 .1 .0
 
 returns : tie.Need-returns
 unfolding parse-begin-block
@@ -87,13 +16,9 @@ returns c =
     let c₄ = c₃ .before .before .before .before .before .before .before .before .before .before .before in
     let c₅ = c₄ .before .before .before .before .before .before in
     let c₆ = c₅ .before .before .before .before .before .before in
-    record {
-      paid = omega (arith, c₆ .pre, c₅ .put .ensures, c₄ .expect-kind .ensures .paid, c₃ .parse-line-tail .ensures .paid, c₂ .parse-block .ensures .0 .paid, c₁ .closing .ensures .paid, c .before .before .put2 .ensures);
-      went = node _ (c₅ .put .ensures .wrote (c₆ .args .kinds .now) _ _) (c₄ .expect-kind .ensures .went .went then c₃ .parse-line-tail .ensures .went then bind (closing BlockOwner.Begin) (c₂ .parse-block .ensures .0 .went) (c₁ .closing .ensures .went)) (c .before .before .put2 .ensures .wrote (c₆ .args .kinds .now) _ _);
-    }
+    node _ (c₅ .put .ensures .wrote (c₆ .args .kinds .now) _ _) (c₄ .expect-kind .ensures .ran then c₃ .parse-line-tail .ensures then bind (closing BlockOwner.Begin) (c₂ .parse-block .ensures .ran) (c₁ .closing .ensures)) (c .before .before .put2 .ensures .wrote (c₆ .args .kinds .now) _ _)
 
 pub parse-begin-block-spec : {M : Type 1} → statement M
 parse-begin-block-spec =
     tie.close
-    (tie.spec put-requires expect-kind-requires parse-line-tail-requires parse-block-requires closing-requires put-requires-2 same-length
-    same-length-2 same-length-3 returns)
+    (tie.spec (λ c κs. tt) (λ c κs. tt) (λ c κs. tt) (λ c κs. omega arith) (λ c κs. tt) (λ c κs. tt) (λ c. returns c .onward .ev) (λ c. returns c .onward .dm) (λ c. returns c .onward .ds) returns)
