@@ -68,4 +68,4 @@ whole F b {w} l h =
 
 -- the slices keep their lengths
 pub kept : {F : File} {b w : World} → Parsed F b w → (length (w .ev) ≡ length (b .ev)) × (length (w .dm) ≡ length (b .dm)) × (length (w .ds) ≡ length (b .ds))
-kept {F} {b} p = (ap length (p .ev) ∙ length-over (b .ev) 0 _, ap length (p .dm) ∙ length-over (b .dm) 0 _, ap length (p .ds) ∙ length-over (b .ds) 0 _)
+kept p = (ap length (p .ev) ∙ simp length-over, ap length (p .dm) ∙ simp length-over, ap length (p .ds) ∙ simp length-over)
