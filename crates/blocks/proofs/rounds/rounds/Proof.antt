@@ -61,11 +61,10 @@ loop-again c =
     let i = c₄ .loop .inv .0 in
     let t = c₁ .take in
     let v = b .bump-regular-trivia in
-    let p = c₅ .args .place in
-    (
+    let p = c₅ .args .place in (
       goes-on i (λ w′ r k.
-            round (p .owner) (p .terminators) (p .depth) (Arm.Takes _) (c₃ .arm-here .ensures .0) (c₂ .a .given .1)
-            (t .ensures then-to absorbs limit (p .owner) (p .terminators) (p .depth) (v .ensures) k)),
+          round (p .owner) (p .terminators) (p .depth) (Arm.Takes _) (c₃ .arm-here .ensures .0) (c₂ .a .given .1)
+          (t .ensures then-to absorbs limit (p .owner) (p .terminators) (p .depth) (v .ensures) k)),
       c₄ .loop .inv .1 farther t .ensures .onward farther v .ensures .onward,
       remembers-later _ (omega (arith, t .ensures .onward, v .ensures .onward)) (c₃ .arm-here .ensures .1),
       no-item,

@@ -49,7 +49,7 @@ loop-again c =
     let i = c₂ .loop .inv in
     let more = not-false (c₁ .suffix-round .result .ok) (c .if1 .left) in
     goes-on i (λ w′ r k.
-          like-to _ (suffixes-eq _) (bind-to (λ c. pick c (loop suffix-round) (pure false)) (c₁ .suffix-round .ensures) (on-to (pure false) more k)))
+    like-to _ (suffixes-eq _) (bind-to (λ c. pick c (loop suffix-round) (pure false)) (c₁ .suffix-round .ensures) (on-to (pure false) more k)))
 
 pub parse-structured-header-suffixes-spec : {M : Type 1} → statement M
 parse-structured-header-suffixes-spec =

@@ -32,7 +32,7 @@ returns-2 c =
     let test = sym (at-or name-like (oneOf (Number ∷ QuotedString ∷ [])) _) ∙ operand in
     let no-group = at-not LBracket _ refl (c₅ .current .ensures) (c₄ .if1 .left) in
     no-to _ _ refl no-group
-          (like-to _ (either (at name-like) (at (oneOf (Number ∷ QuotedString ∷ []))) _ _ _ test) (c₁ .bump .ensures .ran then-to done-to true))
+    (like-to _ (either (at name-like) (at (oneOf (Number ∷ QuotedString ∷ []))) _ _ _ test) (c₁ .bump .ensures .ran then-to done-to true))
 
 returns-3 : tie.Need-returns-3
 unfolding suffix-operand name-like oneOf
@@ -47,7 +47,7 @@ returns-3 c =
     let test = sym (at-or name-like (oneOf (Number ∷ QuotedString ∷ [])) _) ∙ operand in
     let no-group = at-not LBracket _ refl (c₅ .current .ensures) (c₄ .if1 .left) in
     no-to _ _ refl no-group
-          (like-to _ (neither (at name-like) (at (oneOf (Number ∷ QuotedString ∷ []))) _ _ _ test) (c₁ .error-here .ensures .ran (c₆ .args .kinds .now) _ then-to done-to false))
+    (like-to _ (neither (at name-like) (at (oneOf (Number ∷ QuotedString ∷ []))) _ _ _ test) (c₁ .error-here .ensures .ran (c₆ .args .kinds .now) _ then-to done-to false))
 
 pub suffix-operand-spec : {M : Type 1} → statement M
 suffix-operand-spec =
