@@ -8,6 +8,16 @@ use Rattle.parser.proofs.Laws.{at-some}
 use Rattle.blocks.proofs.arm.arm_here.Statement.{statement}
 use Rattle.blocks.proofs.arm.arm_here.Tie as tie
 
+-- places
+abbrev else4 : tie.After-inner-arm → tie.Else4
+else4 c = c .before .before .before
+
+abbrev after-current : tie.After-eof → tie.After-current
+after-current c = c .before .before .before .before
+
+abbrev after-current-from-then2 : tie.Then2 → tie.After-current
+after-current-from-then2 c = c .before .before .before
+
 current-requires : tie.Need-current-requires
 current-requires c κs = search needs
 
@@ -23,7 +33,7 @@ returns c =
 
 returns-2 : tie.Need-returns-2
 returns-2 c =
-    let c₁ = c .before .before .before in
+    let c₁ = after-current-from-then2 c in
     let c₂ = c₁ .before .before in
     (ident-arm (c₂ .args .terminators) _ (c₁ .current .ensures) (c .if2 .taken), c₂ .pre .0)
 
@@ -33,19 +43,19 @@ eof-requires c κs = search needs
 returns-3 : tie.Need-returns-3
 unfolding arm-of oneOf
 returns-3 c =
-    let c₁ = c .before .before .before .before .before .before .before in
+    let c₁ = after-current (c .before) .before .before in
     (rw (sym (c .before .eof .ensures) ∙ c .if3 .taken), c₁ .pre .0)
 
 at-terminator-requires : tie.Need-at-terminator-requires
 at-terminator-requires c κs =
-    let c₁ = c .before .before .before .before .before .before .before in
+    let c₁ = after-current (c .before) .before .before in
     tt
 
 returns-4 : tie.Need-returns-4
 unfolding arm-of oneOf
 returns-4 c =
     let c₁ = c .before .before .before in
-    let c₂ = c₁ .before .before .before .before .before .before in
+    let c₂ = after-current c₁ .before .before in
     (rw (sym (c₁ .eof .ensures) ∙ c .before .before .if3 .left, sym (c .before .at-terminator .ensures) ∙ c .if4 .taken), c₂ .pre .0)
 
 at-stray-else-requires : tie.Need-at-stray-else-requires
@@ -65,13 +75,13 @@ returns-5 c =
 
 inner-arm-requires : tie.Need-inner-arm-requires
 inner-arm-requires c κs =
-    let c₁ = c .before .before .before .before .before .before .before .before .before .before .before in
+    let c₁ = after-current (c .before .before .before .before .before) .before .before in
     (c₁ .pre .0, c₁ .pre .1)
 
 returns-6 : tie.Need-returns-6
 unfolding arm-of oneOf
 returns-6 c =
-    let c₁ = c .before .before .before in
+    let c₁ = else4 c in
     let c₂ = c₁ .before in
     let c₃ = c₂ .before in
     let c₄ = c₃ .before in

@@ -9,17 +9,27 @@ use Rattle.parser.proofs.Kit.{_then-to_}
 use Rattle.blocks.proofs.header.else_line.Statement.{statement}
 use Rattle.blocks.proofs.header.else_line.Tie as tie
 
+-- places
+abbrev after-keyword-line : tie.After-slice-known6 → tie.After-keyword-line
+after-keyword-line c = c .before .before .before .before .before .before
+
+abbrev start : tie.After-keyword-line → tie.Start
+start c = c .before .before .before .before .before .before .before .before
+
+abbrev start-from-keyword-line-arg3 : tie.After-keyword-line-arg3 → tie.Start
+start-from-keyword-line-arg3 c = c .before .before .before .before .before .before .before
+
 keyword-line-requires : tie.Need-keyword-line-requires
 unfolding oneOf
 keyword-line-requires c κs =
-    let c₁ = c .before .before .before .before .before .before .before in
+    let c₁ = start-from-keyword-line-arg3 c in
     (c₁ .pre, refl)
 
 returns : tie.Need-returns
 unfolding oneOf
 returns c =
-    let c₁ = c .before .before .before .before .before .before in
-    let c₂ = c₁ .before .before .before .before .before .before .before .before in
+    let c₁ = after-keyword-line c in
+    let c₂ = start c₁ in
     let taken = take-expected ELSE Message.Unreached refl (c₂ .pre) (c₁ .keyword-line .ensures .key) in
     record { on = λ next v r h. taken then-to c₁ .keyword-line .ensures .tail then-to h; onward = c₁ .keyword-line .ensures .onward; past = c₁ .keyword-line .ensures .past }
 

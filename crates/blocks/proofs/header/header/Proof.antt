@@ -12,19 +12,38 @@ use Rattle.parser.proofs.Laws.{past-here}
 use Rattle.blocks.proofs.header.header.Statement.{statement}
 use Rattle.blocks.proofs.header.header.Tie as tie
 
+-- places
+abbrev after-parse-line-tail : tie.After-slice-known13 → tie.After-parse-line-tail
+after-parse-line-tail c = c .before .before .before .before .before .before
+
+abbrev after-parse-structured-header-suffixes : tie.After-parse-line-tail → tie.After-parse-structured-header-suffixes
+after-parse-structured-header-suffixes c = c .before .before .before .before .before .before .before .before .before .before
+
+abbrev after-expect : tie.After-parse-structured-header-suffixes → tie.After-expect
+after-expect c = c .before .before .before .before .before .before .before .before .before .before .before
+
+abbrev after-put : tie.After-expect → tie.After-put
+after-put c = c .before .before .before .before .before .before
+
+abbrev after-put-from-expect-arg3 : tie.After-expect-arg3 → tie.After-put
+after-put-from-expect-arg3 c = c .before .before .before .before .before
+
+abbrev start : tie.After-put → tie.Start
+start c = c .before .before .before .before .before .before
+
 expect-requires : tie.Need-expect-requires
 expect-requires c κs =
-    let c₁ = c .before .before .before .before .before in
-    let c₂ = c₁ .before .before .before .before .before .before in
+    let c₁ = after-put-from-expect-arg3 c in
+    let c₂ = start c₁ in
     c₂ .pre .1
 
 returns : tie.Need-returns
 returns c =
-    let c₁ = c .before .before .before .before .before .before in
-    let c₂ = c₁ .before .before .before .before .before .before .before .before .before .before in
-    let c₃ = c₂ .before .before .before .before .before .before .before .before .before .before .before in
-    let c₄ = c₃ .before .before .before .before .before .before in
-    let c₅ = c₄ .before .before .before .before .before .before in
+    let c₁ = after-parse-line-tail c in
+    let c₂ = after-parse-structured-header-suffixes c₁ in
+    let c₃ = after-expect c₂ in
+    let c₄ = after-put c₃ in
+    let c₅ = start c₄ in
     let here = ap (λ i. at (is (c₅ .args .keyword)) (drop i (c₅ .args .kinds .now))) (c₄ .put .ensures .pos) ∙ c₅ .pre .0 in
     let moved = past-here (c₃ .expect .ensures .ran) (eats-expect (c₅ .args .keyword) (c₅ .pre .1) Message.Unreached .eats _ here) in
     let suffixes = c₂ .parse-structured-header-suffixes .ensures in

@@ -5,15 +5,22 @@ use Rattle.grammar.specs.Look.{oneOf}
 use Rattle.blocks.proofs.header.if_header.Statement.{statement}
 use Rattle.blocks.proofs.header.if_header.Tie as tie
 
+-- places
+abbrev after-header : tie.After-slice-known6 → tie.After-header
+after-header c = c .before .before .before .before .before .before
+
+abbrev start : tie.After-header-arg3 → tie.Start
+start c = c .before .before .before .before .before .before .before
+
 header-requires : tie.Need-header-requires
 unfolding oneOf
 header-requires c κs =
-    let c₁ = c .before .before .before .before .before .before .before in
+    let c₁ = start c in
     (c₁ .pre, refl)
 
 returns : tie.Need-returns
 returns c =
-    let c₁ = c .before .before .before .before .before .before in
+    let c₁ = after-header c in
     c₁ .header .ensures
 
 pub if-header-spec : {M : Type 1} → statement M

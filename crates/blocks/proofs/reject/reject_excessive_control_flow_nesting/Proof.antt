@@ -19,23 +19,45 @@ Inv-loop kinds ev₀ dm₀ ds₀ c₀ ev dm ds c = Leads kinds (scan all-round t
 abbrev μ-loop : tie.MeasureT-loop
 μ-loop kinds ev₀ dm₀ ds₀ c₀ ev dm ds c = length kinds - c .pos
 
+-- places
+abbrev after-bump : tie.After-slice-known9 Inv-loop μ-loop → tie.After-bump Inv-loop μ-loop
+after-bump c = c .before .before .before .before .before .before
+
+abbrev else1 : tie.After-slice-known10 Inv-loop μ-loop → tie.Else1 Inv-loop μ-loop
+else1 c = c .before .before .before .before
+
+abbrev then1 : tie.After-bump Inv-loop μ-loop → tie.Then1 Inv-loop μ-loop
+then1 c = c .before .before .before .before
+
+abbrev after-error-here : tie.At-loop Inv-loop μ-loop → tie.After-error-here Inv-loop μ-loop
+after-error-here c = c .before .before .before .before .before
+
+abbrev after-error-here-from-eof : tie.After-eof Inv-loop μ-loop → tie.After-error-here Inv-loop μ-loop
+after-error-here-from-eof c = c .before .before .before .before .before .before
+
+abbrev after-put : tie.After-error-here Inv-loop μ-loop → tie.After-put Inv-loop μ-loop
+after-put c = c .before .before .before .before .before
+
+abbrev start : tie.After-put Inv-loop μ-loop → tie.Start Inv-loop μ-loop
+start c = c .before .before .before .before .before .before
+
 loop-holds : tie.Need-loop-holds Inv-loop μ-loop
 loop-holds c = begins
 
 loop-less : tie.Need-loop-less Inv-loop μ-loop
 loop-less c =
-    let c₁ = c .before .before .before .before .before .before in
-    let c₂ = c₁ .before .before .before .before in
+    let c₁ = after-bump c in
+    let c₂ = then1 c₁ in
     let c₃ = c₂ .before in
-    let c₄ = c₃ .before .before .before .before .before .before .before .before .before .before .before .before .before .before .before .before .before in
+    let c₄ = start (after-put (after-error-here-from-eof c₃)) in
     let h = eof-within (c₄ .args .kinds .now) (c₃ .before .loop .c .pos) (c₃ .eof .ensures) (not-true _ (c₂ .if1 .taken)) in
     omega (arith, h, c₁ .bump .ensures .moved h)
 
 loop-again : tie.Need-loop-again Inv-loop μ-loop
 unfolding all-round
 loop-again c =
-    let c₁ = c .before .before .before .before .before .before in
-    let c₂ = c₁ .before .before .before .before in
+    let c₁ = after-bump c in
+    let c₂ = then1 c₁ in
     let c₃ = c₂ .before in
     let c₄ = c₃ .before in
     goes-on (c₄ .loop .inv) (λ w′ r k. scan-go all-round true true (sym (c₃ .eof .ensures) ∙ not-true _ (c₂ .if1 .taken)) refl (c₁ .bump .ensures .ran) k)
@@ -43,12 +65,12 @@ loop-again c =
 returns : tie.Need-returns Inv-loop μ-loop
 unfolding reject-excessive-control-flow-nesting
 returns c =
-    let c₁ = c .before .before .before .before in
+    let c₁ = else1 c in
     let c₂ = c₁ .before in
     let c₃ = c₂ .before in
-    let c₄ = c₃ .before .before .before .before .before in
-    let c₅ = c₄ .before .before .before .before .before in
-    let c₆ = c₅ .before .before .before .before .before .before in
+    let c₄ = after-error-here c₃ in
+    let c₅ = after-put c₄ in
+    let c₆ = start c₅ in
     let rest = c₃ .loop .inv .on _ _ (scan-end all-round true (sym (c₂ .eof .ensures) ∙ not-false _ (c₁ .if1 .left))) in
     node _ (c₅ .put .ensures .wrote (c₆ .args .kinds .now) _ _) (c₄ .error-here .ensures .ran (c₆ .args .kinds .now) _ then rest .ran) (c .before .before .put2 .ensures .wrote (c₆ .args .kinds .now) _ _)
 

@@ -5,15 +5,25 @@ use Rattle.blocks.proofs.Laws.{no-item}
 use Rattle.blocks.proofs.rounds.first_rounds.Statement.{statement}
 use Rattle.blocks.proofs.rounds.first_rounds.Tie as tie
 
+-- places
+abbrev after-rounds : tie.After-slice-known7 → tie.After-rounds
+after-rounds c = c .before .before .before .before .before .before
+
+abbrev after-put : tie.After-rounds → tie.After-put
+after-put c = c .before .before .before .before .before .before
+
+abbrev start : tie.After-put → tie.Start
+start c = c .before .before .before .before .before .before
+
 rounds-requires : tie.Need-rounds-requires
 rounds-requires c κs =
     no-item
 
 returns : tie.Need-returns
 returns c =
-    let c₁ = c .before .before .before .before .before .before in
-    let c₂ = c₁ .before .before .before .before .before .before in
-    let c₃ = c₂ .before .before .before .before .before .before in
+    let c₁ = after-rounds c in
+    let c₂ = after-put c₁ in
+    let c₃ = start c₂ in
     record {
       mid = _;
       wrote = c₂ .put .ensures .wrote (c₃ .args .kinds .now) _ _;

@@ -12,12 +12,22 @@ use mathlib.Core.Bool.{false≢true}
 use Rattle.blocks.proofs.rounds.form_here.Statement.{statement}
 use Rattle.blocks.proofs.rounds.form_here.Tie as tie
 
+-- places
+abbrev after-reject-excessive-control-flow-nesting : tie.After-slice-known7 → tie.After-reject-excessive-control-flow-nesting
+after-reject-excessive-control-flow-nesting c = c .before .before .before .before .before .before .before .before .before .before
+
+abbrev then1 : tie.After-reject-excessive-control-flow-nesting → tie.Then1
+then1 c = c .before .before .before .before
+
+abbrev start : tie.Then1 → tie.Start
+start c = c .before .before .before .before .before
+
 returns : tie.Need-returns
 unfolding by-arm
 returns c =
-    let c₁ = c .before .before .before .before .before .before .before .before .before .before in
-    let c₂ = c₁ .before .before .before .before in
-    let c₃ = c₂ .before .before .before .before .before in
+    let c₁ = after-reject-excessive-control-flow-nesting c in
+    let c₂ = then1 c₁ in
+    let c₃ = start c₂ in
     let o = c₁ .reject-excessive-control-flow-nesting .ensures .onward farther c .before .before .put .ensures .wrote (c₃ .args .kinds .now) _ _ .onward in
     record {
       onward = o;

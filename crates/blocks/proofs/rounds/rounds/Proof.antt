@@ -28,12 +28,52 @@ Inv-loop kinds ev₀ dm₀ ds₀ item0 owner terminators depth c₀ item₀ know
 abbrev μ-loop : tie.MeasureT-loop
 μ-loop kinds ev₀ dm₀ ds₀ item0 owner terminators depth c₀ item₀ known₀ ev dm ds c item known = length kinds - c .pos
 
+-- places
+abbrev after-bump-regular-trivia : tie.After-slice-known9 Inv-loop μ-loop → tie.After-bump-regular-trivia Inv-loop μ-loop
+after-bump-regular-trivia c = c .before .before .before .before .before .before
+
+abbrev after-close : tie.After-ec Inv-loop μ-loop → tie.After-close Inv-loop μ-loop
+after-close c = c .before .before .before .before .before .before .before
+
+abbrev after-take : tie.After-bump-regular-trivia Inv-loop μ-loop → tie.After-take Inv-loop μ-loop
+after-take c = c .before .before .before .before .before .before .before .before .before .before
+
+abbrev after-form-here : tie.After-slice-known15 Inv-loop μ-loop → tie.After-form-here Inv-loop μ-loop
+after-form-here c = c .before .before .before .before .before .before
+
+abbrev after-a : tie.After-take Inv-loop μ-loop → tie.After-a Inv-loop μ-loop
+after-a c = c .before .before .before .before .before
+
+abbrev after-a2 : tie.After-close Inv-loop μ-loop → tie.After-a2 Inv-loop μ-loop
+after-a2 c = c .before .before .before .before .before
+
+abbrev after-enum-told : tie.After-form-here Inv-loop μ-loop → tie.After-enum-told Inv-loop μ-loop
+after-enum-told c = c .before .before .before .before
+
+abbrev after-arm-here : tie.After-a Inv-loop μ-loop → tie.After-arm-here Inv-loop μ-loop
+after-arm-here c = c .before .before .before
+
+abbrev after-arm-here-from-a2 : tie.After-a2 Inv-loop μ-loop → tie.After-arm-here Inv-loop μ-loop
+after-arm-here-from-a2 c = c .before .before .before
+
+abbrev after-arm-here-from-enum-told : tie.After-enum-told Inv-loop μ-loop → tie.After-arm-here Inv-loop μ-loop
+after-arm-here-from-enum-told c = c .before .before .before
+
+abbrev start : tie.After-arm-here Inv-loop μ-loop → tie.Start Inv-loop μ-loop
+start c = c .before .before .before .before .before .before .before
+
+abbrev start-from-at-loop : tie.At-loop Inv-loop μ-loop → tie.Start Inv-loop μ-loop
+start-from-at-loop c = c .before .before .before .before .before .before
+
+abbrev start-from-struct-known : tie.After-struct-known Inv-loop μ-loop → tie.Start Inv-loop μ-loop
+start-from-struct-known c = c .before .before .before .before .before
+
 cast-depth : tie.Need-cast-depth Inv-loop μ-loop
 cast-depth c = omega (arith, c .struct-known .given)
 
 loop-holds : tie.Need-loop-holds Inv-loop μ-loop
 loop-holds c =
-    let c₁ = c .before .before .before .before .before in
+    let c₁ = start-from-struct-known c in
     (begins, stays, remembers-none (omega arith), c₁ .pre)
 
 arm-here-requires : tie.Need-arm-here-requires Inv-loop μ-loop
@@ -41,23 +81,23 @@ arm-here-requires c κs = (c .loop .inv .2, c .loop .inv .3)
 
 loop-less : tie.Need-loop-less Inv-loop μ-loop
 loop-less c =
-    let b = c .before .before .before .before .before .before in
-    let c₁ = b .before .before .before .before .before .before .before .before .before .before in
-    let c₂ = c₁ .before .before .before .before .before in
-    let c₃ = c₂ .before .before .before in
-    let c₄ = c₃ .before .before .before .before .before .before .before in
+    let b = after-bump-regular-trivia c in
+    let c₁ = after-take b in
+    let c₂ = after-a c₁ in
+    let c₃ = after-arm-here c₂ in
+    let c₄ = start c₃ in
     let moved = past-here (c₁ .take .ensures) (takes _ _ (meant (c₄ .args .place .terminators) _ (Arm.Takes _) (c₃ .arm-here .ensures .0) (c₂ .a .given .1))) in
     omega (arith, moved, b .bump-regular-trivia .ensures .onward)
 
 loop-again : tie.Need-loop-again Inv-loop μ-loop
 unfolding by-arm
 loop-again c =
-    let b = c .before .before .before .before .before .before in
-    let c₁ = b .before .before .before .before .before .before .before .before .before .before in
-    let c₂ = c₁ .before .before .before .before .before in
-    let c₃ = c₂ .before .before .before in
+    let b = after-bump-regular-trivia c in
+    let c₁ = after-take b in
+    let c₂ = after-a c₁ in
+    let c₃ = after-arm-here c₂ in
     let c₄ = c₃ .before in
-    let c₅ = c₄ .before .before .before .before .before .before in
+    let c₅ = start-from-at-loop c₄ in
     let i = c₄ .loop .inv .0 in
     let t = c₁ .take in
     let v = b .bump-regular-trivia in
@@ -73,11 +113,11 @@ loop-again c =
 returns : tie.Need-returns Inv-loop μ-loop
 unfolding by-arm
 returns c =
-    let c₁ = c .before .before .before .before .before .before .before in
-    let c₂ = c₁ .before .before .before .before .before in
-    let c₃ = c₂ .before .before .before in
+    let c₁ = after-close c in
+    let c₂ = after-a2 c₁ in
+    let c₃ = after-arm-here-from-a2 c₂ in
     let c₄ = c₃ .before in
-    let c₅ = c₄ .before .before .before .before .before .before in
+    let c₅ = start-from-at-loop c₄ in
     let told = c₂ .a2 .given .1 in
     record {
       onward = c₄ .loop .inv .1 farther c₁ .close .ensures .onward;
@@ -95,11 +135,11 @@ returns c =
 
 returns-2 : tie.Need-returns-2 Inv-loop μ-loop
 returns-2 c =
-    let c₁ = c .before .before .before .before .before .before in
-    let c₂ = c₁ .before .before .before .before in
-    let c₃ = c₂ .before .before .before in
+    let c₁ = after-form-here c in
+    let c₂ = after-enum-told c₁ in
+    let c₃ = after-arm-here-from-enum-told c₂ in
     let c₄ = c₃ .before in
-    let c₅ = c₄ .before .before .before .before .before .before in
+    let c₅ = start-from-at-loop c₄ in
     let here = c₁ .form-here .ensures .of (c₅ .args .place .owner) (c₅ .args .place .terminators) (sym (c₃ .arm-here .ensures .0) ∙ c₂ .enum-told .given .1) in
     from-here (c₄ .loop .inv .0) (c₄ .loop .inv .1) here
 

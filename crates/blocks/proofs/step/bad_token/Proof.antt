@@ -2,9 +2,13 @@
 use Rattle.blocks.proofs.step.bad_token.Statement.{statement}
 use Rattle.blocks.proofs.step.bad_token.Tie as tie
 
+-- places
+abbrev after-error-token : tie.After-slice-known6 → tie.After-error-token
+after-error-token c = c .before .before .before .before .before .before
+
 returns : tie.Need-returns
 returns c =
-    let c₁ = c .before .before .before .before .before .before in
+    let c₁ = after-error-token c in
     c₁ .error-token .ensures
 
 pub bad-token-spec : {M : Type 1} → statement M

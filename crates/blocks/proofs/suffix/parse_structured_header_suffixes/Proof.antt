@@ -22,21 +22,31 @@ Inv-loop kinds ev₀ dm₀ ds₀ c₀ ev dm ds c = Leads kinds parse-structured-
 abbrev μ-loop : tie.MeasureT-loop
 μ-loop kinds ev₀ dm₀ ds₀ c₀ ev dm ds c = length kinds - c .pos
 
+-- places
+abbrev after-suffix-round : tie.Else1 Inv-loop μ-loop → tie.After-suffix-round Inv-loop μ-loop
+after-suffix-round c = c .before .before .before .before .before .before .before .before .before
+
+abbrev after-suffix-round-from-then1 : tie.Then1 Inv-loop μ-loop → tie.After-suffix-round Inv-loop μ-loop
+after-suffix-round-from-then1 c = c .before .before .before .before .before .before .before .before .before
+
+abbrev at-loop : tie.After-suffix-round Inv-loop μ-loop → tie.At-loop Inv-loop μ-loop
+at-loop c = c .before .before .before .before
+
 loop-holds : tie.Need-loop-holds Inv-loop μ-loop
 loop-holds c = begins
 
 returns : tie.Need-returns Inv-loop μ-loop
 unfolding parse-structured-header-suffixes
 returns c =
-    let c₁ = c .before .before .before .before .before .before .before .before .before in
-    let c₂ = c₁ .before .before .before .before in
+    let c₁ = after-suffix-round-from-then1 c in
+    let c₂ = at-loop c₁ in
     let over = not-true (c₁ .suffix-round .result .ok) (c .if1 .taken) in
     let round = like-to _ (suffixes-eq _) (bind-to (λ c. pick c (loop suffix-round) (pure false)) (c₁ .suffix-round .ensures) (off-to (loop suffix-round) over (done-to false))) in
     c₂ .loop .inv .on _ _ round .ran
 
 loop-less : tie.Need-loop-less Inv-loop μ-loop
 loop-less c =
-    let c₁ = c .before .before .before .before .before .before .before .before .before in
+    let c₁ = after-suffix-round c in
     let more = not-false (c₁ .suffix-round .result .ok) (c .if1 .left) in
     let moved = past-here (c₁ .suffix-round .ensures .ran) (truly-suffix-round .truly _ (c₁ .suffix-round .ensures .val ∙ more)) in
     omega (arith, moved)
@@ -44,8 +54,8 @@ loop-less c =
 loop-again : tie.Need-loop-again Inv-loop μ-loop
 unfolding parse-structured-header-suffixes
 loop-again c =
-    let c₁ = c .before .before .before .before .before .before .before .before .before in
-    let c₂ = c₁ .before .before .before .before in
+    let c₁ = after-suffix-round c in
+    let c₂ = at-loop c₁ in
     let i = c₂ .loop .inv in
     let more = not-false (c₁ .suffix-round .result .ok) (c .if1 .left) in
     goes-on i (λ w′ r k.

@@ -11,11 +11,33 @@ use Rattle.parser.proofs.Kit.{like-to, yes-to, no-to, done-to, _then-to_}
 use Rattle.blocks.proofs.suffix.suffix_operand.Statement.{statement}
 use Rattle.blocks.proofs.suffix.suffix_operand.Tie as tie
 
+-- places
+abbrev after-bump : tie.After-slice-known9 → tie.After-bump
+after-bump c = c .before .before .before .before .before .before
+
+abbrev after-error-here : tie.After-slice-known11 → tie.After-error-here
+after-error-here c = c .before .before .before .before
+
+abbrev after-parse-balanced-group : tie.After-slice-known6 → tie.After-parse-balanced-group
+after-parse-balanced-group c = c .before .before .before .before .before .before
+
+abbrev else2 : tie.After-error-here → tie.Else2
+else2 c = c .before .before .before
+
+abbrev then2 : tie.After-bump → tie.Then2
+then2 c = c .before .before .before .before
+
+abbrev then1 : tie.After-parse-balanced-group → tie.Then1
+then1 c = c .before .before .before .before
+
+abbrev start : tie.After-current → tie.Start
+start c = c .before .before .before .before .before
+
 returns : tie.Need-returns
 unfolding suffix-operand
 returns c =
-    let c₁ = c .before .before .before .before .before .before in
-    let c₂ = c₁ .before .before .before .before in
+    let c₁ = after-parse-balanced-group c in
+    let c₂ = then1 c₁ in
     let c₃ = c₂ .before in
     let group = at-here LBracket _ refl (c₃ .current .ensures) (c₂ .if1 .taken) in
     yes-to _ _ refl group (c₁ .parse-balanced-group .ensures then-to done-to true)
@@ -23,8 +45,8 @@ returns c =
 returns-2 : tie.Need-returns-2
 unfolding suffix-operand name-like oneOf
 returns-2 c =
-    let c₁ = c .before .before .before .before .before .before in
-    let c₂ = c₁ .before .before .before .before in
+    let c₁ = after-bump c in
+    let c₂ = then2 c₁ in
     let c₃ = c₂ .before in
     let c₄ = c₃ .before in
     let c₅ = c₄ .before in
@@ -37,12 +59,12 @@ returns-2 c =
 returns-3 : tie.Need-returns-3
 unfolding suffix-operand name-like oneOf
 returns-3 c =
-    let c₁ = c .before .before .before .before in
-    let c₂ = c₁ .before .before .before in
+    let c₁ = after-error-here c in
+    let c₂ = else2 c₁ in
     let c₃ = c₂ .before in
     let c₄ = c₃ .before in
     let c₅ = c₄ .before in
-    let c₆ = c₅ .before .before .before .before .before in
+    let c₆ = start c₅ in
     let operand = at-number (λ k. name-like k || oneOf (Number ∷ QuotedString ∷ []) k) _ refl (c₅ .current .ensures) (c₃ .is-operand .ensures) (c₂ .if2 .left) in
     let test = sym (at-or name-like (oneOf (Number ∷ QuotedString ∷ [])) _) ∙ operand in
     let no-group = at-not LBracket _ refl (c₅ .current .ensures) (c₄ .if1 .left) in

@@ -18,25 +18,35 @@ Inv-loop kinds ev₀ dm₀ ds₀ c₀ ev dm ds c = Leads kinds (loop attribute-r
 abbrev μ-loop : tie.MeasureT-loop
 μ-loop kinds ev₀ dm₀ ds₀ c₀ ev dm ds c = length kinds - c .pos
 
+-- places
+abbrev after-attribute-round : tie.Else1 Inv-loop μ-loop → tie.After-attribute-round Inv-loop μ-loop
+after-attribute-round c = c .before .before .before .before .before .before .before .before .before
+
+abbrev after-attribute-round-from-then1 : tie.Then1 Inv-loop μ-loop → tie.After-attribute-round Inv-loop μ-loop
+after-attribute-round-from-then1 c = c .before .before .before .before .before .before .before .before .before
+
+abbrev at-loop : tie.After-attribute-round Inv-loop μ-loop → tie.At-loop Inv-loop μ-loop
+at-loop c = c .before .before .before .before
+
 loop-holds : tie.Need-loop-holds Inv-loop μ-loop
 loop-holds c = begins
 
 returns : tie.Need-returns Inv-loop μ-loop
 returns c =
-    let c₁ = c .before .before .before .before .before .before .before .before .before in
-    let c₂ = c₁ .before .before .before .before in
+    let c₁ = after-attribute-round-from-then1 c in
+    let c₂ = at-loop c₁ in
     c₂ .loop .inv .on _ _ (round-last attribute-round (truly-attribute-round .truly) (answers (c₁ .attribute-round .ensures) (not-true _ (c .if1 .taken)))) .ran
 
 loop-less : tie.Need-loop-less Inv-loop μ-loop
 loop-less c =
-    let c₁ = c .before .before .before .before .before .before .before .before .before in
+    let c₁ = after-attribute-round c in
     let m = round-moves attribute-round (truly-attribute-round .truly) (answers (c₁ .attribute-round .ensures) (not-false _ (c .if1 .left))) in
     omega (arith, m)
 
 loop-again : tie.Need-loop-again Inv-loop μ-loop
 loop-again c =
-    let c₁ = c .before .before .before .before .before .before .before .before .before in
-    let c₂ = c₁ .before .before .before .before in
+    let c₁ = after-attribute-round c in
+    let c₂ = at-loop c₁ in
     let h = answers (c₁ .attribute-round .ensures) (not-false _ (c .if1 .left)) in
     goes-on (c₂ .loop .inv) (λ w′ r k. round-more attribute-round (truly-attribute-round .truly) h k)
 

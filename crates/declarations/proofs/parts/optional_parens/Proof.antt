@@ -4,10 +4,17 @@ use Rattle.parser.proofs.Kit.{yes, no, done}
 use Rattle.declarations.proofs.parts.optional_parens.Statement.{statement}
 use Rattle.declarations.proofs.parts.optional_parens.Tie as tie
 
+-- places
+abbrev after-parse-balanced-group : tie.After-slice-known6 → tie.After-parse-balanced-group
+after-parse-balanced-group c = c .before .before .before .before .before .before
+
+abbrev then1 : tie.After-parse-balanced-group → tie.Then1
+then1 c = c .before .before .before .before
+
 returns : tie.Need-returns
 returns c =
-    let c₁ = c .before .before .before .before .before .before in
-    let c₂ = c₁ .before .before .before .before in
+    let c₁ = after-parse-balanced-group c in
+    let c₂ = then1 c₁ in
     let c₃ = c₂ .before in
     yes _ _ (c₃ .at-kind .ensures) (c₂ .if1 .taken) (c₁ .parse-balanced-group .ensures)
 

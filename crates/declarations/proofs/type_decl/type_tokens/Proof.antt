@@ -23,6 +23,22 @@ Inv-loop kinds ev₀ dm₀ ds₀ c₀ nesting₀ known₀ ev dm ds c nesting kno
 abbrev μ-loop : tie.MeasureT-loop
 μ-loop kinds ev₀ dm₀ ds₀ c₀ nesting₀ known₀ ev dm ds c nesting known = length kinds - c .pos
 
+-- places
+abbrev after-bump : tie.After-slice-known8 Inv-loop μ-loop → tie.After-bump Inv-loop μ-loop
+after-bump c = c .before .before .before .before .before .before
+
+abbrev after-bump-nesting : tie.After-bump Inv-loop μ-loop → tie.After-bump-nesting Inv-loop μ-loop
+after-bump-nesting c = c .before .before .before .before .before .before .before .before .before .before
+
+abbrev else2 : tie.After-bump-nesting Inv-loop μ-loop → tie.Else2 Inv-loop μ-loop
+else2 c = c .before .before .before .before .before
+
+abbrev else2-from-current : tie.After-current Inv-loop μ-loop → tie.Else2 Inv-loop μ-loop
+else2-from-current c = c .before .before .before .before
+
+abbrev start : tie.At-loop Inv-loop μ-loop → tie.Start Inv-loop μ-loop
+start c = c .before .before .before .before .before .before
+
 loop-holds : tie.Need-loop-holds Inv-loop μ-loop
 loop-holds c =
     (begins-as (ap (scan type-round) (sym (c .new .ensures))), subst (Below _) (sym (c .new .ensures)) (below-default _ (omega arith)), remembers-none (omega arith))
@@ -37,36 +53,36 @@ returns c =
 
 bump-nesting-requires : tie.Need-bump-nesting-requires Inv-loop μ-loop
 bump-nesting-requires c κs =
-    let c₁ = c .before .before .before .before .before .before in
+    let c₁ = else2-from-current c .before .before in
     let c₂ = c₁ .before in
     let c₃ = c₂ .before in
-    let c₄ = c₃ .before .before .before .before .before .before in
+    let c₄ = start c₃ in
     let h = eof-within (c₄ .args .kinds .now) (c₃ .loop .c .pos) (c₂ .eof .ensures) (not-true _ (c₁ .if1 .taken)) in
     below-le (omega (arith, h, c₄ .good .0 .1)) (c₃ .loop .inv .1)
 
 loop-less : tie.Need-loop-less Inv-loop μ-loop
 loop-less c =
-    let c₁ = c .before .before .before .before .before .before in
-    let c₂ = c₁ .before .before .before .before .before .before .before .before .before .before in
-    let c₃ = c₂ .before .before .before .before .before .before .before in
+    let c₁ = after-bump c in
+    let c₂ = after-bump-nesting c₁ in
+    let c₃ = else2 c₂ .before .before in
     let c₄ = c₃ .before in
     let c₅ = c₄ .before in
-    let c₆ = c₅ .before .before .before .before .before .before in
+    let c₆ = start c₅ in
     let h = eof-within (c₆ .args .kinds .now) (c₅ .loop .c .pos) (c₄ .eof .ensures) (not-true _ (c₃ .if1 .taken)) in
     let m = c₁ .bump .ensures .moved (omega (arith, h, c₂ .bump-nesting .ensures .pos)) in
     omega (arith, h, m, c₂ .bump-nesting .ensures .pos)
 
 loop-again : tie.Need-loop-again Inv-loop μ-loop
 loop-again c =
-    let c₁ = c .before .before .before .before .before .before in
-    let c₂ = c₁ .before .before .before .before .before .before .before .before .before .before in
+    let c₁ = after-bump c in
+    let c₂ = after-bump-nesting c₁ in
     let c₃ = c₂ .before in
-    let c₄ = c₃ .before .before .before .before in
+    let c₄ = else2-from-current c₃ in
     let c₅ = c₄ .before in
     let c₆ = c₅ .before in
     let c₇ = c₆ .before in
     let c₈ = c₇ .before in
-    let c₉ = c₈ .before .before .before .before .before .before in
+    let c₉ = start c₈ in
     let h = eof-within (c₉ .args .kinds .now) (c₈ .loop .c .pos) (c₇ .eof .ensures) (not-true _ (c₆ .if1 .taken)) in
     let m = c₁ .bump .ensures .moved (omega (arith, h, c₂ .bump-nesting .ensures .pos)) in
     let z = sym (c₇ .eof .ensures) ∙ not-true _ (c₆ .if1 .taken) in

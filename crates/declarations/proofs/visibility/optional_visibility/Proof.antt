@@ -5,11 +5,18 @@ use Rattle.parser.proofs.Kit.{yes, no, done}
 use Rattle.declarations.proofs.visibility.optional_visibility.Statement.{statement}
 use Rattle.declarations.proofs.visibility.optional_visibility.Tie as tie
 
+-- places
+abbrev after-parse-visibility : tie.After-slice-known6 → tie.After-parse-visibility
+after-parse-visibility c = c .before .before .before .before .before .before
+
+abbrev then1 : tie.After-parse-visibility → tie.Then1
+then1 c = c .before .before .before .before
+
 returns : tie.Need-returns
 unfolding optional-visibility
 returns c =
-    let c₁ = c .before .before .before .before .before .before in
-    let c₂ = c₁ .before .before .before .before in
+    let c₁ = after-parse-visibility c in
+    let c₂ = then1 c₁ in
     let c₃ = c₂ .before in
     yes _ _ (c₃ .at-kind .ensures) (c₂ .if1 .taken) (c₁ .parse-visibility .ensures)
 

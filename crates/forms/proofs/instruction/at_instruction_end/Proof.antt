@@ -8,6 +8,10 @@ use Rattle.parser.proofs.Ahead.{at-here, at-not}
 use Rattle.forms.proofs.instruction.at_instruction_end.Statement.{statement}
 use Rattle.forms.proofs.instruction.at_instruction_end.Tie as tie
 
+-- places
+abbrev else2 : tie.After-should-stop-instruction-before → tie.Else2
+else2 c = c .before .before .before
+
 returns : tie.Need-returns
 unfolding instruction-ends
 returns c = rw (at-here Whitespace _ refl (c .before .before .current .ensures) (c .before .if1 .taken)) (ap not (c .should-continue-instruction-after-whitespace .ensures))
@@ -31,7 +35,7 @@ should-stop-instruction-before-requires c κs =
 returns-3 : tie.Need-returns-3
 unfolding instruction-ends
 returns-3 c =
-    let c₁ = c .before .before .before in
+    let c₁ = else2 c in
     let c₂ = c₁ .before in
     let c₃ = c₂ .before in
     let c₄ = c₃ .before in

@@ -9,6 +9,10 @@ use Rattle.parser.proofs.Laws.{at-by}
 use Rattle.forms.proofs.instruction.at_next.Statement.{statement}
 use Rattle.forms.proofs.instruction.at_next.Tie as tie
 
+-- places
+abbrev else2 : tie.After-is-top-level-starter → tie.Else2
+else2 c = c .before .before .before
+
 returns : tie.Need-returns
 unfolding starts-next can-start-operation starts-instruction name-like oneOf
 returns c = rw (sym (c .before .at-terminator .ensures) ∙ c .if1 .taken)
@@ -35,7 +39,7 @@ returns-3 c =
 returns-4 : tie.Need-returns-4
 unfolding starts-next can-start-operation starts-instruction name-like oneOf
 returns-4 c =
-    let c₁ = c .before .before .before in
+    let c₁ = else2 c in
     let c₂ = c₁ .before in
     let c₃ = c₂ .before in
     let c₄ = c₃ .before in

@@ -16,6 +16,10 @@ use Rattle.forms.proofs.Rounds.{line-end-is}
 use Rattle.forms.proofs.instruction.ends_plainly.Statement.{statement}
 use Rattle.forms.proofs.instruction.ends_plainly.Tie as tie
 
+-- places
+abbrev after-current : tie.Else2 → tie.After-current
+after-current c = c .before .before .before
+
 returns : tie.Need-returns
 returns c t = ends-at-line _ _ (sym (line-end-is _ (c .before .in-set .ensures) (c .before .before .current .ensures)) ∙ c .if1 .taken)
 
@@ -28,7 +32,7 @@ returns-3 c t = absurd (false≢true t)
 add-current : tie.Need-add-current
 add-current c =
     let c₁ = c .before .before in
-    let c₂ = c₁ .before .before .before in
+    let c₂ = after-current c₁ in
     let a = c₂ .before .before .args in
     let w = at-here Whitespace _ refl (c₂ .current .ensures) (c₁ .if2 .left) in
     let h = at-within (a .kinds .now) (a .p) (is Whitespace) refl w in
@@ -40,7 +44,7 @@ returns-4 c t =
     let c₁ = c .before .before in
     let c₂ = c₁ .before in
     let c₃ = c₂ .before in
-    let c₄ = c₃ .before .before .before in
+    let c₄ = after-current c₃ in
     let a = c₄ .before .before .args in
     let w = at-here Whitespace _ refl (c₄ .current .ensures) (c₃ .if2 .left) in
     let q = rest-cons (a .kinds .now) (a .p) (at-within (a .kinds .now) (a .p) (is Whitespace) refl w) in

@@ -26,9 +26,37 @@ Inv-loop kinds ev₀ dm₀ ds₀ c₀ nesting₀ previous₀ ev dm ds c nesting 
 abbrev μ-loop : tie.MeasureT-loop
 μ-loop kinds ev₀ dm₀ ds₀ c₀ nesting₀ previous₀ ev dm ds c nesting previous = length kinds - c .pos
 
+-- places
+abbrev after-bump2 : tie.After-slice-known11 Inv-loop μ-loop → tie.After-bump2 Inv-loop μ-loop
+after-bump2 c = c .before .before .before .before .before .before
+
+abbrev after-bump : tie.After-slice-known6 Inv-loop μ-loop → tie.After-bump Inv-loop μ-loop
+after-bump c = c .before .before .before .before .before .before
+
+abbrev after-bump-nesting : tie.After-bump2 Inv-loop μ-loop → tie.After-bump-nesting Inv-loop μ-loop
+after-bump-nesting c = c .before .before .before .before .before .before .before .before .before .before
+
+abbrev else3 : tie.After-bump-nesting Inv-loop μ-loop → tie.Else3 Inv-loop μ-loop
+else3 c = c .before .before .before
+
+abbrev then3 : tie.After-bump Inv-loop μ-loop → tie.Then3 Inv-loop μ-loop
+then3 c = c .before .before .before .before
+
+abbrev then1 : tie.Else3 Inv-loop μ-loop → tie.Then1 Inv-loop μ-loop
+then1 c = c .before .before .before .before .before
+
+abbrev then1-from-then3 : tie.Then3 Inv-loop μ-loop → tie.Then1 Inv-loop μ-loop
+then1-from-then3 c = c .before .before .before .before .before
+
+abbrev start : tie.At-loop Inv-loop μ-loop → tie.Start Inv-loop μ-loop
+start c = c .before .before .before .before .before .before
+
+abbrev start-from-new : tie.After-new Inv-loop μ-loop → tie.Start Inv-loop μ-loop
+start-from-new c = c .before .before .before .before .before
+
 loop-holds : tie.Need-loop-holds Inv-loop μ-loop
 loop-holds c =
-    let c₁ = c .before .before .before .before .before in (
+    let c₁ = start-from-new c in (
       begins-as (ap (λ n. scan instruction-round (record { nesting = n; previous = c₁ .args .previous0 })) (sym (c .new .ensures))),
       subst (Below _) (sym (c .new .ensures)) (below-default _ (omega arith)),
     )
@@ -41,19 +69,19 @@ returns c =
 
 loop-less : tie.Need-loop-less Inv-loop μ-loop
 loop-less c =
-    let c₁ = c .before .before .before .before .before .before in
-    let c₂ = c₁ .before .before .before .before .before .before .before .before .before in
+    let c₁ = after-bump c in
+    let c₂ = then1-from-then3 (then3 c₁) in
     let c₃ = c₂ .before in
     let c₄ = c₃ .before in
-    let c₅ = c₄ .before .before .before .before .before .before in
+    let c₅ = start c₄ in
     let h = eof-within (c₅ .args .kinds .now) (c₄ .loop .c .pos) (c₃ .eof .ensures) (not-true _ (c₂ .if1 .taken)) in
     omega (arith, h, c₁ .bump .ensures .moved h)
 
 loop-again : tie.Need-loop-again Inv-loop μ-loop
 unfolding oneOf
 loop-again c =
-    let c₁ = c .before .before .before .before .before .before in
-    let c₂ = c₁ .before .before .before .before in
+    let c₁ = after-bump c in
+    let c₂ = then3 c₁ in
     let c₃ = c₂ .before in
     let c₄ = c₃ .before in
     let c₅ = c₄ .before in
@@ -61,7 +89,7 @@ loop-again c =
     let c₇ = c₆ .before in
     let c₈ = c₇ .before in
     let c₉ = c₈ .before in
-    let c₁₀ = c₉ .before .before .before .before .before .before in
+    let c₁₀ = start c₉ in
     let l : Inst = record { nesting = c₉ .loop .nesting; previous = c₉ .loop .previous } in
     let m = c₁ .bump .ensures .moved (eof-within (c₁₀ .args .kinds .now) (c₉ .loop .c .pos) (c₈ .eof .ensures) (not-true _ (c₇ .if1 .taken))) in
     let z = sym (c₈ .eof .ensures) ∙ not-true _ (c₇ .if1 .taken) in
@@ -75,21 +103,21 @@ loop-again c =
 
 bump-nesting-requires : tie.Need-bump-nesting-requires Inv-loop μ-loop
 bump-nesting-requires c κs =
-    let c₁ = c .before .before .before .before .before .before .before in
+    let c₁ = then1 (c .before .before) in
     let c₂ = c₁ .before in
     let c₃ = c₂ .before in
-    let c₄ = c₃ .before .before .before .before .before .before in
+    let c₄ = start c₃ in
     let h = eof-within (c₄ .args .kinds .now) (c₃ .loop .c .pos) (c₂ .eof .ensures) (not-true _ (c₁ .if1 .taken)) in
     below-le (omega (arith, h, c₄ .good .0 .1)) (c₃ .loop .inv .1)
 
 loop-less-2 : tie.Need-loop-less-2 Inv-loop μ-loop
 loop-less-2 c =
-    let c₁ = c .before .before .before .before .before .before in
-    let c₂ = c₁ .before .before .before .before .before .before .before .before .before .before in
-    let c₃ = c₂ .before .before .before .before .before .before .before .before in
+    let c₁ = after-bump2 c in
+    let c₂ = after-bump-nesting c₁ in
+    let c₃ = then1 (else3 c₂) in
     let c₄ = c₃ .before in
     let c₅ = c₄ .before in
-    let c₆ = c₅ .before .before .before .before .before .before in
+    let c₆ = start c₅ in
     let h = eof-within (c₆ .args .kinds .now) (c₅ .loop .c .pos) (c₄ .eof .ensures) (not-true _ (c₃ .if1 .taken)) in
     let m = c₁ .bump2 .ensures .moved (omega (arith, h, c₂ .bump-nesting .ensures .pos)) in
     omega (arith, h, m, c₂ .bump-nesting .ensures .pos)
@@ -97,9 +125,9 @@ loop-less-2 c =
 loop-again-2 : tie.Need-loop-again-2 Inv-loop μ-loop
 unfolding oneOf
 loop-again-2 c =
-    let c₁ = c .before .before .before .before .before .before in
-    let c₂ = c₁ .before .before .before .before .before .before .before .before .before .before in
-    let c₃ = c₂ .before .before .before in
+    let c₁ = after-bump2 c in
+    let c₂ = after-bump-nesting c₁ in
+    let c₃ = else3 c₂ in
     let c₄ = c₃ .before in
     let c₅ = c₄ .before in
     let c₆ = c₅ .before in
@@ -107,7 +135,7 @@ loop-again-2 c =
     let c₈ = c₇ .before in
     let c₉ = c₈ .before in
     let c₁₀ = c₉ .before in
-    let c₁₁ = c₁₀ .before .before .before .before .before .before in
+    let c₁₁ = start c₁₀ in
     let l : Inst = record { nesting = c₁₀ .loop .nesting; previous = c₁₀ .loop .previous } in
     let h = eof-within (c₁₁ .args .kinds .now) (c₁₀ .loop .c .pos) (c₉ .eof .ensures) (not-true _ (c₈ .if1 .taken)) in
     let m = c₁ .bump2 .ensures .moved (omega (arith, h, c₂ .bump-nesting .ensures .pos)) in

@@ -4,12 +4,22 @@ use Rattle.parser.proofs.Kit.{node}
 use Rattle.forms.proofs.instruction.parse_instruction.Statement.{statement}
 use Rattle.forms.proofs.instruction.parse_instruction.Tie as tie
 
+-- places
+abbrev after-instruction-tokens : tie.After-slice-known8 → tie.After-instruction-tokens
+after-instruction-tokens c = c .before .before .before .before .before .before .before .before .before .before
+
+abbrev after-put : tie.After-instruction-tokens → tie.After-put
+after-put c = c .before .before .before .before .before .before
+
+abbrev start : tie.After-put → tie.Start
+start c = c .before .before .before .before .before .before
+
 returns : tie.Need-returns
 unfolding parse-instruction
 returns c =
-    let c₁ = c .before .before .before .before .before .before .before .before .before .before in
-    let c₂ = c₁ .before .before .before .before .before .before in
-    let c₃ = c₂ .before .before .before .before .before .before in
+    let c₁ = after-instruction-tokens c in
+    let c₂ = after-put c₁ in
+    let c₃ = start c₂ in
     node _ (c₂ .put .ensures .wrote (c₃ .args .kinds .now) _ _) (c₁ .instruction-tokens .ensures) (c .before .before .put2 .ensures .wrote (c₃ .args .kinds .now) _ _)
 
 pub parse-instruction-spec : {M : Type 1} → statement M

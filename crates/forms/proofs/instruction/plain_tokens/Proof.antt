@@ -27,6 +27,19 @@ Inv-loop kinds ev₀ c₀ previous₀ mask₀ ev c previous mask = Led kinds ev�
 abbrev μ-loop : tie.MeasureT-loop
 μ-loop kinds ev₀ c₀ previous₀ mask₀ ev c previous mask = length kinds - c .pos
 
+-- places
+abbrev after-bump-plain : tie.After-open-behind Inv-loop μ-loop → tie.After-bump-plain Inv-loop μ-loop
+after-bump-plain c = c .before .before .before
+
+abbrev after-current : tie.After-bump-plain Inv-loop μ-loop → tie.After-current Inv-loop μ-loop
+after-current c = c .before .before .before .before
+
+abbrev after-current-from-bump-plain-arg : tie.After-bump-plain-arg Inv-loop μ-loop → tie.After-current Inv-loop μ-loop
+after-current-from-bump-plain-arg c = c .before .before .before
+
+abbrev start : tie.At-loop Inv-loop μ-loop → tie.Start Inv-loop μ-loop
+start c = c .before .before .before
+
 loop-holds : tie.Need-loop-holds Inv-loop μ-loop
 unfolding open-behind
 loop-holds c = (record { leads = λ dm ds w′ l h. h; kept = refl }, refl)
@@ -36,10 +49,10 @@ returns c = c .before .before .before .before .before .loop .inv .0
 
 bump-plain-requires : tie.Need-bump-plain-requires Inv-loop μ-loop
 bump-plain-requires c κs =
-    let c₁ = c .before .before .before in
+    let c₁ = after-current-from-bump-plain-arg c in
     let c₂ = c₁ .before .before in
     let c₃ = c₂ .before in
-    let c₄ = c₃ .before .before .before in
+    let c₄ = start c₃ in
     let h = eof-within (c₄ .args .kinds .now) (c₃ .loop .c .pos) (c₂ .eof .ensures) (not-true _ (c₁ .before .if1 .taken)) in
     let k = c₁ .current .ensures ∙ sym (current-in _ _ h) in
     let b = opens _ (c₃ .loop .inv .1) (c .before .before .in-set .ensures) (not-false _ (c .before .if2 .left)) in
@@ -51,17 +64,17 @@ bump-plain-requires c κs =
 
 loop-less : tie.Need-loop-less Inv-loop μ-loop
 loop-less c =
-    let c₁ = c .before .before .before in
-    let c₂ = c .before .before .before .before .before .before .before .before in
+    let c₁ = after-bump-plain c in
+    let c₂ = after-current (after-bump-plain c) .before in
     let c₃ = c₂ .before in
     let c₄ = c₃ .before in
-    let c₅ = c₄ .before .before .before in
+    let c₅ = start c₄ in
     let h = eof-within (c₅ .args .kinds .now) (c₄ .loop .c .pos) (c₃ .eof .ensures) (not-true _ (c₂ .if1 .taken)) in
     omega (arith, h, c₁ .bump-plain .ensures .bumped [] [] .moved h)
 
 loop-again : tie.Need-loop-again Inv-loop μ-loop
 loop-again c =
-    let c₁ = c .before .before .before in
+    let c₁ = after-bump-plain c in
     let c₂ = c₁ .before .before in
     let c₃ = c₂ .before in
     let c₄ = c₃ .before in

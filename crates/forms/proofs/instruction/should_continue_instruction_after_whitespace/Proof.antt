@@ -7,6 +7,13 @@ use Rattle.parser.proofs.Laws.{at-by}
 use Rattle.forms.proofs.instruction.should_continue_instruction_after_whitespace.Statement.{statement}
 use Rattle.forms.proofs.instruction.should_continue_instruction_after_whitespace.Tie as tie
 
+-- places
+abbrev else3 : tie.After-punctuation-continues-instruction → tie.Else3
+else3 c = c .before .before .before
+
+abbrev after-is-some : tie.Then3 → tie.After-is-some
+after-is-some c = c .before .before .before
+
 returns : tie.Need-returns
 unfolding should-continue-instruction-after-whitespace oneOf
 returns c = rw (sym (c .before .is-root .ensures) ∙ not-true _ (c .if1 .taken))
@@ -20,7 +27,7 @@ returns-2 c =
 returns-3 : tie.Need-returns-3
 unfolding should-continue-instruction-after-whitespace oneOf
 returns-3 c =
-    let c₁ = c .before .before .before in
+    let c₁ = after-is-some c in
     let c₂ = c₁ .before in
     let c₃ = c₂ .before in
     rw (sym (c₃ .is-root .ensures) ∙ not-false _ (c₂ .if1 .left), sym (c₁ .is-some .ensures) ∙ not-false _ (c .before .before .if2 .left), sym (c .before .expects-operand .ensures) ∙ c .if3 .taken)
@@ -28,7 +35,7 @@ returns-3 c =
 returns-4 : tie.Need-returns-4
 unfolding should-continue-instruction-after-whitespace oneOf
 returns-4 c =
-    let c₁ = c .before .before .before in
+    let c₁ = else3 c in
     let c₂ = c₁ .before in
     let c₃ = c₂ .before in
     let c₄ = c₃ .before in

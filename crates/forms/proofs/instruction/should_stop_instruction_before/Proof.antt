@@ -8,6 +8,16 @@ use Rattle.parser.proofs.Laws.{at-by}
 use Rattle.forms.proofs.instruction.should_stop_instruction_before.Statement.{statement}
 use Rattle.forms.proofs.instruction.should_stop_instruction_before.Tie as tie
 
+-- places
+abbrev after-current : tie.After-at-next → tie.After-current
+after-current c = c .before .before .before
+
+abbrev after-is-root : tie.Else2 → tie.After-is-root
+after-is-root c = c .before .before .before
+
+abbrev after-is-root-from-then2 : tie.Then2 → tie.After-is-root
+after-is-root-from-then2 c = c .before .before .before
+
 returns : tie.Need-returns
 unfolding should-stop-instruction-before starts-next oneOf
 returns c = rw (sym (c .before .is-root .ensures) ∙ not-true _ (c .if1 .taken))
@@ -15,7 +25,7 @@ returns c = rw (sym (c .before .is-root .ensures) ∙ not-true _ (c .if1 .taken)
 returns-2 : tie.Need-returns-2
 unfolding should-stop-instruction-before starts-next oneOf
 returns-2 c =
-    let c₁ = c .before .before .before in
+    let c₁ = after-is-root-from-then2 c in
     rw (sym (c₁ .is-root .ensures) ∙ not-false _ (c .before .before .if1 .left), sym (c .before .expects-operand .ensures) ∙ c .if2 .taken)
 
 returns-3 : tie.Need-returns-3
@@ -30,13 +40,13 @@ returns-3 c =
 
 at-next-requires : tie.Need-at-next-requires
 at-next-requires c κs =
-    let c₁ = c .before .before .before .before .before .before .before .before in
+    let c₁ = after-is-root (c .before .before .before) .before .before in
     c₁ .pre
 
 returns-4 : tie.Need-returns-4
 unfolding should-stop-instruction-before starts-next oneOf
 returns-4 c =
-    let c₁ = c .before .before .before in
+    let c₁ = after-current c in
     let c₂ = c₁ .before in
     let c₃ = c₂ .before in
     let c₄ = c₃ .before in

@@ -10,6 +10,10 @@ use Rattle.parser.proofs.Ahead.{past-on, next-within}
 use Rattle.forms.proofs.line.at_expr_end.Statement.{statement}
 use Rattle.forms.proofs.line.at_expr_end.Tie as tie
 
+-- places
+abbrev after-at-kind : tie.After-is-top-level-starter → tie.After-at-kind
+after-at-kind c = c .before .before .before
+
 returns : tie.Need-returns
 unfolding expr-ends space-before-top-level-item
 returns c = rw (sym (c .before .at-line-end .ensures) ∙ c .if1 .taken)
@@ -50,7 +54,7 @@ add-next-relevant-top-level-token c =
 returns-5 : tie.Need-returns-5
 unfolding expr-ends space-before-top-level-item
 returns-5 c =
-    let c₁ = c .before .before .before in
+    let c₁ = after-at-kind c in
     let c₂ = c₁ .before in
     let c₃ = c₂ .before in
     let c₄ = c₃ .before in

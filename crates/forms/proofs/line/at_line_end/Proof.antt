@@ -5,10 +5,14 @@ use Rattle.forms.proofs.Rounds.{line-end-is}
 use Rattle.forms.proofs.line.at_line_end.Statement.{statement}
 use Rattle.forms.proofs.line.at_line_end.Tie as tie
 
+-- places
+abbrev after-is-root : tie.After-in-set → tie.After-is-root
+after-is-root c = c .before .before .before
+
 returns : tie.Need-returns
 unfolding line-ends
 returns c =
-    let c₁ = c .before .before .before in
+    let c₁ = after-is-root c in
     rw (sym (c₁ .is-root .ensures) ∙ c .before .before .if1 .taken) (line-end-is _ (c .in-set .ensures) (c .before .current .ensures))
 
 returns-2 : tie.Need-returns-2

@@ -4,13 +4,26 @@ use Rattle.parser.proofs.Kit.{node, _then_}
 use Rattle.forms.proofs.line.parse_expr_until_line_end.Statement.{statement}
 use Rattle.forms.proofs.line.parse_expr_until_line_end.Tie as tie
 
+-- places
+abbrev after-expr-tokens : tie.After-slice-known11 → tie.After-expr-tokens
+after-expr-tokens c = c .before .before .before .before .before .before .before .before .before .before
+
+abbrev after-put : tie.After-expr-tokens → tie.After-put
+after-put c = c .before .before .before .before .before .before
+
+abbrev after-bump-regular-trivia : tie.After-put → tie.After-bump-regular-trivia
+after-bump-regular-trivia c = c .before .before .before .before .before .before .before .before
+
+abbrev start : tie.After-bump-regular-trivia → tie.Start
+start c = c .before .before .before .before .before .before .before .before
+
 returns : tie.Need-returns
 unfolding parse-expr-until-line-end
 returns c =
-    let c₁ = c .before .before .before .before .before .before .before .before .before .before in
-    let c₂ = c₁ .before .before .before .before .before .before in
-    let c₃ = c₂ .before .before .before .before .before .before .before .before in
-    let c₄ = c₃ .before .before .before .before .before .before .before .before in
+    let c₁ = after-expr-tokens c in
+    let c₂ = after-put c₁ in
+    let c₃ = after-bump-regular-trivia c₂ in
+    let c₄ = start c₃ in
     c₃ .bump-regular-trivia .ensures then node _ (c₂ .put .ensures .wrote (c₄ .args .kinds .now) _ _) (c₁ .expr-tokens .ensures) (c .before .before .put2 .ensures .wrote (c₄ .args .kinds .now) _ _)
 
 pub parse-expr-until-line-end-spec : {M : Type 1} → statement M

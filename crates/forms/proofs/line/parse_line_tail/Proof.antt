@@ -38,25 +38,47 @@ Inv-loop kinds ev₀ dm₀ ds₀ c₀ ev dm ds c = Leads kinds (scan tail-round 
 abbrev μ-loop : tie.MeasureT-loop
 μ-loop kinds ev₀ dm₀ ds₀ c₀ ev dm ds c = length kinds - c .pos
 
+-- places
+abbrev after-bump2 : tie.After-slice-known9 Inv-loop μ-loop → tie.After-bump2 Inv-loop μ-loop
+after-bump2 c = c .before .before .before .before .before .before
+
+abbrev after-bump : tie.After-slice-known6 Inv-loop μ-loop → tie.After-bump Inv-loop μ-loop
+after-bump c = c .before .before .before .before .before .before
+
+abbrev then2 : tie.After-bump2 Inv-loop μ-loop → tie.Then2 Inv-loop μ-loop
+then2 c = c .before .before .before .before
+
+abbrev then1 : tie.After-bump Inv-loop μ-loop → tie.Then1 Inv-loop μ-loop
+then1 c = c .before .before .before .before
+
+abbrev after-at-kind : tie.Else2 Inv-loop μ-loop → tie.After-at-kind Inv-loop μ-loop
+after-at-kind c = c .before .before .before
+
+abbrev start : tie.After-at-kind Inv-loop μ-loop → tie.Start Inv-loop μ-loop
+start c = c .before .before .before .before .before .before
+
+abbrev start-from-at-loop : tie.At-loop Inv-loop μ-loop → tie.Start Inv-loop μ-loop
+start-from-at-loop c = c .before .before .before .before .before
+
 loop-holds : tie.Need-loop-holds Inv-loop μ-loop
 loop-holds c = begins
 
 loop-less : tie.Need-loop-less Inv-loop μ-loop
 loop-less c =
-    let c₁ = c .before .before .before .before .before .before in
-    let c₂ = c₁ .before .before .before .before in
+    let c₁ = after-bump c in
+    let c₂ = then1 c₁ in
     let c₃ = c₂ .before in
-    let c₄ = c₃ .before .before .before .before .before .before in
+    let c₄ = start c₃ in
     let h = at-within (c₄ .args .kinds .now) (c₃ .before .loop .c .pos) (is Whitespace) (c₃ .at-kind .ensures) (c₂ .if1 .taken) in
     omega (arith, h, c₁ .bump .ensures .moved h)
 
 loop-again : tie.Need-loop-again Inv-loop μ-loop
 loop-again c =
-    let c₁ = c .before .before .before .before .before .before in
-    let c₂ = c₁ .before .before .before .before in
+    let c₁ = after-bump c in
+    let c₂ = then1 c₁ in
     let c₃ = c₂ .before in
     let c₄ = c₃ .before in
-    let c₅ = c₄ .before .before .before .before .before in
+    let c₅ = start-from-at-loop c₄ in
     let i = c₄ .loop .inv in
     let e = sym (c₃ .at-kind .ensures) ∙ c₂ .if1 .taken in
     goes-on i (λ w′ r k.
@@ -65,8 +87,8 @@ loop-again c =
 returns : tie.Need-returns Inv-loop μ-loop
 unfolding parse-line-tail
 returns c =
-    let c₁ = c .before .before .before .before .before .before in
-    let c₂ = c₁ .before .before .before .before in
+    let c₁ = after-bump2 c in
+    let c₂ = then2 c₁ in
     let c₃ = c₂ .before in
     let c₄ = c₃ .before in
     let c₅ = c₄ .before in
@@ -79,7 +101,7 @@ returns c =
 returns-2 : tie.Need-returns-2 Inv-loop μ-loop
 unfolding parse-line-tail
 returns-2 c =
-    let c₁ = c .before .before .before in
+    let c₁ = after-at-kind c in
     let c₂ = c₁ .before in
     let n = sym (c₁ .at-kind .ensures) ∙ c .before .before .if1 .left in
     let e = sym (c .before .at-kind2 .ensures) ∙ c .if2 .left in

@@ -28,6 +28,34 @@ Inv-loop kinds ev₀ dm₀ ds₀ c₀ nesting₀ taken₀ ev dm ds c nesting tak
 abbrev μ-loop : tie.MeasureT-loop
 μ-loop kinds ev₀ dm₀ ds₀ c₀ nesting₀ taken₀ ev dm ds c nesting taken = length kinds - c .pos
 
+-- places
+abbrev after-bump : tie.After-slice-known11 Inv-loop μ-loop → tie.After-bump Inv-loop μ-loop
+after-bump c = c .before .before .before .before .before .before
+
+abbrev after-bump-nesting : tie.After-bump Inv-loop μ-loop → tie.After-bump-nesting Inv-loop μ-loop
+after-bump-nesting c = c .before .before .before .before .before .before .before .before .before .before
+
+abbrev after-result-end : tie.After-slice-known6 Inv-loop μ-loop → tie.After-result-end Inv-loop μ-loop
+after-result-end c = c .before .before .before .before .before .before
+
+abbrev after-result-end2 : tie.After-slice-known14 Inv-loop μ-loop → tie.After-result-end2 Inv-loop μ-loop
+after-result-end2 c = c .before .before .before .before .before .before
+
+abbrev after-current : tie.After-bump-nesting Inv-loop μ-loop → tie.After-current Inv-loop μ-loop
+after-current c = c .before .before .before
+
+abbrev then2 : tie.After-result-end Inv-loop μ-loop → tie.Then2 Inv-loop μ-loop
+then2 c = c .before .before .before .before
+
+abbrev else1 : tie.After-result-end2 Inv-loop μ-loop → tie.Else1 Inv-loop μ-loop
+else1 c = c .before .before .before .before
+
+abbrev then1 : tie.After-current Inv-loop μ-loop → tie.Then1 Inv-loop μ-loop
+then1 c = c .before .before .before
+
+abbrev start : tie.At-loop Inv-loop μ-loop → tie.Start Inv-loop μ-loop
+start c = c .before .before .before .before .before .before
+
 loop-holds : tie.Need-loop-holds Inv-loop μ-loop
 loop-holds c = (
   begins-as (ap (λ n. scan result-round (record { nesting = n; taken = false })) (sym (c .new .ensures))),
@@ -37,8 +65,8 @@ loop-holds c = (
 returns : tie.Need-returns Inv-loop μ-loop
 unfolding parse-signature-result-until-line-end result-end
 returns c =
-    let c₁ = c .before .before .before .before .before .before in
-    let c₂ = c₁ .before .before .before .before in
+    let c₁ = after-result-end c in
+    let c₂ = then2 c₁ in
     let c₃ = c₂ .before in
     let c₄ = c₃ .before .before .before in
     let l : ResultType = record { nesting = c₄ .loop .nesting; taken = c₄ .loop .taken } in
@@ -46,36 +74,36 @@ returns c =
 
 bump-nesting-requires : tie.Need-bump-nesting-requires Inv-loop μ-loop
 bump-nesting-requires c κs =
-    let c₁ = c .before .before .before .before .before in
+    let c₁ = then1 (c .before .before) in
     let c₂ = c₁ .before in
     let c₃ = c₂ .before in
-    let c₄ = c₃ .before .before .before .before .before .before in
+    let c₄ = start c₃ in
     let h = eof-within (c₄ .args .kinds .now) (c₃ .loop .c .pos) (c₂ .eof .ensures) (not-true _ (c₁ .if1 .taken)) in
     below-le (omega (arith, h, c₄ .good .0 .1)) (c₃ .loop .inv .1)
 
 loop-less : tie.Need-loop-less Inv-loop μ-loop
 loop-less c =
-    let c₁ = c .before .before .before .before .before .before in
-    let c₂ = c₁ .before .before .before .before .before .before .before .before .before .before in
-    let c₃ = c₂ .before .before .before .before .before .before in
+    let c₁ = after-bump c in
+    let c₂ = after-bump-nesting c₁ in
+    let c₃ = then1 (after-current c₂) in
     let c₄ = c₃ .before in
     let c₅ = c₄ .before in
-    let c₆ = c₅ .before .before .before .before .before .before in
+    let c₆ = start c₅ in
     let h = eof-within (c₆ .args .kinds .now) (c₅ .loop .c .pos) (c₄ .eof .ensures) (not-true _ (c₃ .if1 .taken)) in
     let m = c₁ .bump .ensures .moved (omega (arith, h, c₂ .bump-nesting .ensures .pos)) in
     omega (arith, h, m, c₂ .bump-nesting .ensures .pos)
 
 loop-again : tie.Need-loop-again Inv-loop μ-loop
 loop-again c =
-    let c₁ = c .before .before .before .before .before .before in
-    let c₂ = c₁ .before .before .before .before .before .before .before .before .before .before in
-    let c₃ = c₂ .before .before .before in
+    let c₁ = after-bump c in
+    let c₂ = after-bump-nesting c₁ in
+    let c₃ = after-current c₂ in
     let c₄ = c₃ .before in
     let c₅ = c₄ .before in
     let c₆ = c₅ .before in
     let c₇ = c₆ .before in
     let c₈ = c₇ .before in
-    let c₉ = c₈ .before .before .before .before .before .before in
+    let c₉ = start c₈ in
     let l : ResultType = record { nesting = c₈ .loop .nesting; taken = c₈ .loop .taken } in
     let h = eof-within (c₉ .args .kinds .now) (c₈ .loop .c .pos) (c₇ .eof .ensures) (not-true _ (c₆ .if1 .taken)) in
     let m = c₁ .bump .ensures .moved (omega (arith, h, c₂ .bump-nesting .ensures .pos)) in
@@ -90,8 +118,8 @@ loop-again c =
 returns-2 : tie.Need-returns-2 Inv-loop μ-loop
 unfolding parse-signature-result-until-line-end result-end
 returns-2 c =
-    let c₁ = c .before .before .before .before .before .before in
-    let c₂ = c₁ .before .before .before .before in
+    let c₁ = after-result-end2 c in
+    let c₂ = else1 c₁ in
     let c₃ = c₂ .before in
     let c₄ = c₃ .before in
     bind _ (c₄ .loop .inv .0 .on _ _ (scan-end result-round _ (sym (c₃ .eof .ensures) ∙ not-false _ (c₂ .if1 .left)))) (c₁ .result-end2 .ensures)

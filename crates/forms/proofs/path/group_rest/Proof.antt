@@ -56,13 +56,35 @@ Inv-loop kinds ev₀ dm₀ ds₀ opener closer missing c₀ depth₀ ev dm ds c 
 abbrev μ-loop : tie.MeasureT-loop
 μ-loop kinds ev₀ dm₀ ds₀ opener closer missing c₀ depth₀ ev dm ds c depth = length kinds - c .pos
 
+-- places
+abbrev after-bump : tie.After-slice-known6 Inv-loop μ-loop → tie.After-bump Inv-loop μ-loop
+after-bump c = c .before .before .before .before .before .before
+
+abbrev after-error-here : tie.After-slice-known8 Inv-loop μ-loop → tie.After-error-here Inv-loop μ-loop
+after-error-here c = c .before .before .before .before
+
+abbrev after-group-depth : tie.After-bump Inv-loop μ-loop → tie.After-group-depth Inv-loop μ-loop
+after-group-depth c = c .before .before .before .before
+
+abbrev else3 : tie.After-error-here Inv-loop μ-loop → tie.Else3 Inv-loop μ-loop
+else3 c = c .before .before .before
+
+abbrev then1 : tie.After-group-depth Inv-loop μ-loop → tie.Then1 Inv-loop μ-loop
+then1 c = c .before .before .before
+
+abbrev at-loop : tie.Then3 Inv-loop μ-loop → tie.At-loop Inv-loop μ-loop
+at-loop c = c .before .before .before
+
+abbrev start : tie.At-loop Inv-loop μ-loop → tie.Start Inv-loop μ-loop
+start c = c .before .before .before .before .before
+
 loop-holds : tie.Need-loop-holds Inv-loop μ-loop
 loop-holds c = (begins, omega arith)
 
 returns : tie.Need-returns Inv-loop μ-loop
 returns c =
     let c₁ = c .before .before .before in
-    let c₂ = c₁ .before .before .before .before .before in
+    let c₂ = start c₁ in
     closes (c₂ .args .opener) (c₂ .args .closer) (c₂ .args .missing) (c₁ .loop .inv .0 .on _ _ (scan-stop _ _ (round-ends _ _ _ _ (c .if2 .taken)))) (c .if2 .taken)
 
 group-depth-requires : tie.Need-group-depth-requires Inv-loop μ-loop
@@ -70,29 +92,29 @@ group-depth-requires c κs =
     let c₁ = c .before .before in
     let c₂ = c₁ .before in
     let c₃ = c₂ .before in
-    let c₄ = c₃ .before .before .before .before .before in
+    let c₄ = start c₃ in
     let h = eof-within (c₄ .args .kinds .now) (c₃ .loop .c .pos) (c₂ .eof .ensures) (not-true _ (c₁ .if1 .taken)) in
     omega (arith, c .before .if2 .left, c₃ .loop .inv .1, h, c₄ .good .0 .1)
 
 loop-less : tie.Need-loop-less Inv-loop μ-loop
 loop-less c =
-    let c₁ = c .before .before .before .before .before .before in
-    let c₂ = c₁ .before .before .before .before .before .before .before in
+    let c₁ = after-bump c in
+    let c₂ = then1 (after-group-depth c₁) in
     let c₃ = c₂ .before in
-    let c₄ = c₃ .before .before .before .before .before .before in
+    let c₄ = start (c₃ .before) in
     let h = eof-within (c₄ .args .kinds .now) (c₃ .before .loop .c .pos) (c₃ .eof .ensures) (not-true _ (c₂ .if1 .taken)) in
     omega (arith, h, c₁ .bump .ensures .moved h)
 
 loop-again : tie.Need-loop-again Inv-loop μ-loop
 loop-again c =
-    let c₁ = c .before .before .before .before .before .before in
-    let c₂ = c₁ .before .before .before .before in
+    let c₁ = after-bump c in
+    let c₂ = after-group-depth c₁ in
     let c₃ = c₂ .before in
     let c₄ = c₃ .before in
     let c₅ = c₄ .before in
     let c₆ = c₅ .before in
     let c₇ = c₆ .before in
-    let c₈ = c₇ .before .before .before .before .before in
+    let c₈ = start c₇ in
     let i = c₇ .loop .inv .0 in
     let m = c₁ .bump .ensures .moved (eof-within (c₈ .args .kinds .now) _ (c₆ .eof .ensures) (not-true _ (c₅ .if1 .taken))) in
     let z = sym (c₆ .eof .ensures) ∙ not-true _ (c₅ .if1 .taken) in
@@ -105,19 +127,19 @@ loop-again c =
 
 returns-2 : tie.Need-returns-2 Inv-loop μ-loop
 returns-2 c =
-    let c₁ = c .before .before .before in
-    let c₂ = c₁ .before .before .before .before .before in
+    let c₁ = at-loop c in
+    let c₂ = start c₁ in
     let z = sym (c .before .before .eof .ensures) ∙ not-false _ (c .before .if1 .left) in
     closes (c₂ .args .opener) (c₂ .args .closer) (c₂ .args .missing) (c₁ .loop .inv .0 .on _ _ (scan-end _ _ z)) (c .if3 .taken)
 
 returns-3 : tie.Need-returns-3 Inv-loop μ-loop
 returns-3 c =
-    let c₁ = c .before .before .before .before in
-    let c₂ = c₁ .before .before .before in
+    let c₁ = after-error-here c in
+    let c₂ = else3 c₁ in
     let c₃ = c₂ .before in
     let c₄ = c₃ .before in
     let c₅ = c₄ .before in
-    let c₆ = c₅ .before .before .before .before .before in
+    let c₆ = start c₅ in
     let z = sym (c₄ .eof .ensures) ∙ not-false _ (c₃ .if1 .left) in
     lacks (c₆ .args .opener) (c₆ .args .closer) (c₆ .args .missing) (c₅ .loop .inv .0 .on _ _ (scan-end _ _ z)) (c₂ .if3 .left) (c₁ .error-here .ensures .ran (c₆ .args .kinds .now) _)
 

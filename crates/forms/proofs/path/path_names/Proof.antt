@@ -7,12 +7,31 @@ use Rattle.parser.proofs.Laws.{at-by}
 use Rattle.forms.proofs.path.path_names.Statement.{statement}
 use Rattle.forms.proofs.path.path_names.Tie as tie
 
+-- places
+abbrev after-path-segments : tie.After-slice-known9 → tie.After-path-segments
+after-path-segments c = c .before .before .before .before .before .before
+
+abbrev after-bump : tie.After-path-segments → tie.After-bump
+after-bump c = c .before .before .before .before .before .before .before .before .before .before
+
+abbrev after-error-here : tie.After-slice-known11 → tie.After-error-here
+after-error-here c = c .before .before .before .before
+
+abbrev else1 : tie.After-error-here → tie.Else1
+else1 c = c .before .before .before
+
+abbrev then1 : tie.After-bump → tie.Then1
+then1 c = c .before .before .before .before
+
+abbrev start : tie.After-current → tie.Start
+start c = c .before .before .before .before .before
+
 returns : tie.Need-returns
 unfolding path-names name-like oneOf
 returns c =
-    let c₁ = c .before .before .before .before .before .before in
-    let c₂ = c₁ .before .before .before .before .before .before .before .before .before .before in
-    let c₃ = c₂ .before .before .before .before in
+    let c₁ = after-path-segments c in
+    let c₂ = after-bump c₁ in
+    let c₃ = then1 c₂ in
     let c₄ = c₃ .before in
     let c₅ = c₄ .before in
     let e = at-by name-like _ refl (c₄ .is-name-like .ensures) (c₅ .current .ensures) in
@@ -21,11 +40,11 @@ returns c =
 returns-2 : tie.Need-returns-2
 unfolding path-names name-like oneOf
 returns-2 c =
-    let c₁ = c .before .before .before .before in
-    let c₂ = c₁ .before .before .before in
+    let c₁ = after-error-here c in
+    let c₂ = else1 c₁ in
     let c₃ = c₂ .before in
     let c₄ = c₃ .before in
-    let c₅ = c₄ .before .before .before .before .before in
+    let c₅ = start c₄ in
     let e = at-by name-like _ refl (c₃ .is-name-like .ensures) (c₄ .current .ensures) in
     no _ _ e (c₂ .if1 .left) (c₁ .error-here .ensures .ran (c₅ .args .kinds .now) _)
 

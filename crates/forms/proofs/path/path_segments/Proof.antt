@@ -48,18 +48,34 @@ Inv-loop kinds ev₀ dm₀ ds₀ c₀ ev dm ds c = Leads kinds (loop path-round)
 abbrev μ-loop : tie.MeasureT-loop
 μ-loop kinds ev₀ dm₀ ds₀ c₀ ev dm ds c = length kinds - c .pos
 
+-- places
+abbrev after-path-segment : tie.Else2 Inv-loop μ-loop → tie.After-path-segment Inv-loop μ-loop
+after-path-segment c = c .before .before .before .before .before .before .before .before .before
+
+abbrev after-path-segment-from-then2 : tie.Then2 Inv-loop μ-loop → tie.After-path-segment Inv-loop μ-loop
+after-path-segment-from-then2 c = c .before .before .before .before .before .before .before .before .before
+
+abbrev else1 : tie.After-path-segment Inv-loop μ-loop → tie.Else1 Inv-loop μ-loop
+else1 c = c .before .before .before .before
+
+abbrev at-loop : tie.Then1 Inv-loop μ-loop → tie.At-loop Inv-loop μ-loop
+at-loop c = c .before .before .before
+
+abbrev start : tie.At-loop Inv-loop μ-loop → tie.Start Inv-loop μ-loop
+start c = c .before .before .before .before .before
+
 loop-holds : tie.Need-loop-holds Inv-loop μ-loop
 loop-holds c = begins
 
 returns : tie.Need-returns Inv-loop μ-loop
 returns c =
-    let c₁ = c .before .before .before in
+    let c₁ = at-loop c in
     c₁ .loop .inv .on _ _ (ends (round-stops (c .before .before .peek-after-non-comment-trivia .ensures) (c .before .at-kind .ensures) (not-true _ (c .if1 .taken)))) .ran
 
 returns-2 : tie.Need-returns-2 Inv-loop μ-loop
 returns-2 c =
-    let c₁ = c .before .before .before .before .before .before .before .before .before in
-    let c₂ = c₁ .before .before .before .before in
+    let c₁ = after-path-segment-from-then2 c in
+    let c₂ = else1 c₁ in
     let c₃ = c₂ .before in
     let c₄ = c₃ .before in
     let c₅ = c₄ .before in
@@ -69,8 +85,8 @@ returns-2 c =
 
 loop-less : tie.Need-loop-less Inv-loop μ-loop
 loop-less c =
-    let c₁ = c .before .before .before .before .before .before .before .before .before in
-    let c₂ = c₁ .before .before .before .before in
+    let c₁ = after-path-segment c in
+    let c₂ = else1 c₁ in
     let c₃ = c₂ .before in
     let c₄ = c₃ .before in
     let h = round-goes (c₄ .peek-after-non-comment-trivia .ensures) (c₃ .at-kind .ensures) (not-false _ (c₂ .if1 .left))
@@ -79,12 +95,12 @@ loop-less c =
 
 loop-again : tie.Need-loop-again Inv-loop μ-loop
 loop-again c =
-    let c₁ = c .before .before .before .before .before .before .before .before .before in
-    let c₂ = c₁ .before .before .before .before in
+    let c₁ = after-path-segment c in
+    let c₂ = else1 c₁ in
     let c₃ = c₂ .before in
     let c₄ = c₃ .before in
     let c₅ = c₄ .before in
-    let c₆ = c₅ .before .before .before .before .before in
+    let c₆ = start c₅ in
     let h = round-goes (c₄ .peek-after-non-comment-trivia .ensures) (c₃ .at-kind .ensures) (not-false _ (c₂ .if1 .left))
     (answers (c₁ .path-segment .ensures) (not-false _ (c .if2 .left))) in
     let i = c₅ .loop .inv in

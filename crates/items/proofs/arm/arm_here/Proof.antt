@@ -16,6 +16,10 @@ use Rattle.items.proofs.arm.arm_here.Tie as tie
 found : {a : Arm} {k d : Sym} (r : List Sym) → a ≡ arm-by k d → k ≡ current r → d ≡ declared r → a ≡ arm-of r
 found r e p q = e ∙ ap₂ arm-by p q ∙ arm-is r
 
+-- places
+abbrev else2 : tie.After-declared-arm → tie.Else2
+else2 c = c .before .before .before
+
 current-requires : tie.Need-current-requires
 current-requires c κs = search needs
 
@@ -50,7 +54,7 @@ declared-arm-requires c κs = search needs
 returns-4 : tie.Need-returns-4
 unfolding arm-by
 returns-4 c =
-    let c₁ = c .before .before .before in
+    let c₁ = else2 c in
     let c₂ = c₁ .before in
     let c₃ = c₂ .before in
     let c₄ = c₃ .before in

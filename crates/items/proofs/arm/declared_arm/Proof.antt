@@ -4,6 +4,13 @@ use Rattle.items.specs.Arms.{declared-arm}
 use Rattle.items.proofs.arm.declared_arm.Statement.{statement}
 use Rattle.items.proofs.arm.declared_arm.Tie as tie
 
+-- places
+abbrev else5 : tie.Else8 → tie.Else5
+else5 c = c .before .before .before
+
+abbrev else5-from-then8 : tie.Then8 → tie.Else5
+else5-from-then8 c = c .before .before .before
+
 returns : tie.Need-returns
 unfolding declared-arm
 returns c = rw (eq-eqb _ _ (c .if1 .taken))
@@ -49,7 +56,7 @@ returns-7 c =
 returns-8 : tie.Need-returns-8
 unfolding declared-arm
 returns-8 c =
-    let c₁ = c .before .before .before in
+    let c₁ = else5-from-then8 c in
     let c₂ = c₁ .before in
     let c₃ = c₂ .before in
     let c₄ = c₃ .before in
@@ -59,7 +66,7 @@ returns-8 c =
 returns-9 : tie.Need-returns-9
 unfolding declared-arm
 returns-9 c =
-    let c₁ = c .before .before .before in
+    let c₁ = else5 c in
     let c₂ = c₁ .before in
     let c₃ = c₂ .before in
     let c₄ = c₃ .before in

@@ -68,23 +68,33 @@ Inv-loop kinds ev₀ dm₀ ds₀ c₀ ev dm ds c = Leads kinds (items-in limit) 
 abbrev μ-loop : tie.MeasureT-loop
 μ-loop kinds ev₀ dm₀ ds₀ c₀ ev dm ds c = length kinds - c .pos
 
+-- places
+abbrev after-bump-regular-trivia : tie.After-slice-known9 Inv-loop μ-loop → tie.After-bump-regular-trivia Inv-loop μ-loop
+after-bump-regular-trivia c = c .before .before .before .before .before .before
+
+abbrev after-parse-source-item : tie.After-bump-regular-trivia Inv-loop μ-loop → tie.After-parse-source-item Inv-loop μ-loop
+after-parse-source-item c = c .before .before .before .before .before .before .before .before .before .before
+
+abbrev then1 : tie.After-parse-source-item Inv-loop μ-loop → tie.Then1 Inv-loop μ-loop
+then1 c = c .before .before .before .before
+
 loop-holds : tie.Need-loop-holds Inv-loop μ-loop
 loop-holds c = begins
 
 loop-less : tie.Need-loop-less Inv-loop μ-loop
 loop-less c =
-    let b = c .before .before .before .before .before .before in
-    let c₁ = b .before .before .before .before .before .before .before .before .before .before in
-    let c₂ = c₁ .before .before .before .before in
+    let b = after-bump-regular-trivia c in
+    let c₁ = after-parse-source-item b in
+    let c₂ = then1 c₁ in
     let c₃ = c₂ .before in
     let m = past-here (c₁ .parse-source-item .ensures) (takes _ (sym (c₃ .eof .ensures) ∙ not-true _ (c₂ .if1 .taken))) in
     omega (arith, m, b .bump-regular-trivia .ensures .onward)
 
 loop-again : tie.Need-loop-again Inv-loop μ-loop
 loop-again c =
-    let b = c .before .before .before .before .before .before in
-    let c₁ = b .before .before .before .before .before .before .before .before .before .before in
-    let c₂ = c₁ .before .before .before .before in
+    let b = after-bump-regular-trivia c in
+    let c₁ = after-parse-source-item b in
+    let c₂ = then1 c₁ in
     let c₃ = c₂ .before in
     let c₄ = c₃ .before in
     let z = sym (c₃ .eof .ensures) ∙ not-true _ (c₂ .if1 .taken) in

@@ -3,11 +3,21 @@ use Rattle.parser.proofs.Kit.{node}
 use Rattle.items.proofs.item.parse_doc_form.Statement.{statement}
 use Rattle.items.proofs.item.parse_doc_form.Tie as tie
 
+-- places
+abbrev after-bump : tie.After-slice-known8 → tie.After-bump
+after-bump c = c .before .before .before .before .before .before .before .before .before .before
+
+abbrev after-put : tie.After-bump → tie.After-put
+after-put c = c .before .before .before .before .before .before
+
+abbrev start : tie.After-put → tie.Start
+start c = c .before .before .before .before .before .before
+
 returns : tie.Need-returns
 returns c =
-    let c₁ = c .before .before .before .before .before .before .before .before .before .before in
-    let c₂ = c₁ .before .before .before .before .before .before in
-    let c₃ = c₂ .before .before .before .before .before .before in
+    let c₁ = after-bump c in
+    let c₂ = after-put c₁ in
+    let c₃ = start c₂ in
     node _ (c₂ .put .ensures .wrote (c₃ .args .kinds .now) _ _) (c₁ .bump .ensures .ran) (c .before .before .put2 .ensures .wrote (c₃ .args .kinds .now) _ _)
 
 pub parse-doc-form-spec : {M : Type 1} → statement M

@@ -4,10 +4,17 @@ use Rattle.items.proofs.Arms.{by-item}
 use Rattle.items.proofs.item.parse_source_item.Statement.{statement}
 use Rattle.items.proofs.item.parse_source_item.Tie as tie
 
+-- places
+abbrev after-parse-arm : tie.After-slice-known6 → tie.After-parse-arm
+after-parse-arm c = c .before .before .before .before .before .before
+
+abbrev after-arm-here : tie.After-parse-arm → tie.After-arm-here
+after-arm-here c = c .before .before .before .before
+
 returns : tie.Need-returns
 returns c =
-    let c₁ = c .before .before .before .before .before .before in
-    let c₂ = c₁ .before .before .before .before in
+    let c₁ = after-parse-arm c in
+    let c₂ = after-arm-here c₁ in
     by-item (c₂ .arm-here .result) (parse-block limit) (c₂ .arm-here .ensures) (c₁ .parse-arm .ensures)
 
 pub parse-source-item-spec : {M : Type 1} → statement M

@@ -6,11 +6,18 @@ use Rattle.parser.proofs.Kit.{on, off, done}
 use Rattle.items.proofs.procedure.closing.Statement.{statement}
 use Rattle.items.proofs.procedure.closing.Tie as tie
 
+-- places
+abbrev after-expect-kind : tie.After-result → tie.After-expect-kind
+after-expect-kind c = c .before .before .before .before .before .before .before
+
+abbrev then1 : tie.After-expect-kind → tie.Then1
+then1 c = c .before .before .before .before
+
 returns : tie.Need-returns
 unfolding closing
 returns c =
-    let c₁ = c .before .before .before .before .before .before .before in
-    let c₂ = c₁ .before .before .before .before in
+    let c₁ = after-expect-kind c in
+    let c₂ = then1 c₁ in
     let c₃ = c₂ .before in
     on _ (sym (c₃ .found-terminator .ensures) ∙ c₂ .if1 .taken) (c₁ .expect-kind .ensures .ran)
 

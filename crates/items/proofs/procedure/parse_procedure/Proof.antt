@@ -14,23 +14,45 @@ use Rattle.items.proofs.procedure.parse_procedure.Tie as tie
 abbrev behind : Bool → P Bool
 behind declared = pick (not declared) nop (procedure-body (parse-block limit))
 
+-- places
+abbrev after-procedure-body : tie.After-slice-known12 → tie.After-procedure-body
+after-procedure-body c = c .before .before .before .before .before .before .before .before .before .before
+
+abbrev else1 : tie.After-procedure-body → tie.Else1
+else1 c = c .before .before .before .before
+
+abbrev then1 : tie.After-slice-known8 → tie.Then1
+then1 c = c .before .before .before .before
+
+abbrev after-procedure-lead : tie.Else1 → tie.After-procedure-lead
+after-procedure-lead c = c .before .before .before .before .before .before .before .before .before
+
+abbrev after-procedure-lead-from-then1 : tie.Then1 → tie.After-procedure-lead
+after-procedure-lead-from-then1 c = c .before .before .before .before .before .before .before .before .before
+
+abbrev after-put : tie.After-procedure-lead → tie.After-put
+after-put c = c .before .before .before .before .before .before
+
+abbrev start : tie.After-put → tie.Start
+start c = c .before .before .before .before .before .before
+
 returns : tie.Need-returns
 unfolding parse-procedure
 returns c =
-    let c₁ = c .before .before .before .before in
-    let c₂ = c₁ .before .before .before .before .before .before .before .before .before in
-    let c₃ = c₂ .before .before .before .before .before .before in
-    let c₄ = c₃ .before .before .before .before .before .before in
+    let c₁ = then1 c in
+    let c₂ = after-procedure-lead-from-then1 c₁ in
+    let c₃ = after-put c₂ in
+    let c₄ = start c₃ in
     node _ (c₃ .put .ensures .wrote (c₄ .args .kinds .now) _ _) (steps (five _ _ _ _ _ _) (bind behind (c₂ .procedure-lead .ensures) (on _ (c₁ .if1 .taken) (done true)))) (c .before .before .put2 .ensures .wrote (c₄ .args .kinds .now) _ _)
 
 returns-2 : tie.Need-returns-2
 unfolding parse-procedure
 returns-2 c =
-    let c₁ = c .before .before .before .before .before .before .before .before .before .before in
-    let c₂ = c₁ .before .before .before .before in
-    let c₃ = c₂ .before .before .before .before .before .before .before .before .before in
-    let c₄ = c₃ .before .before .before .before .before .before in
-    let c₅ = c₄ .before .before .before .before .before .before in
+    let c₁ = after-procedure-body c in
+    let c₂ = else1 c₁ in
+    let c₃ = after-procedure-lead c₂ in
+    let c₄ = after-put c₃ in
+    let c₅ = start c₄ in
     node _ (c₄ .put .ensures .wrote (c₅ .args .kinds .now) _ _) (steps (five _ _ _ _ _ _) (bind behind (c₃ .procedure-lead .ensures) (off _ (c₂ .if1 .left) (c₁ .procedure-body .ensures)))) (c .before .before .put3 .ensures .wrote (c₅ .args .kinds .now) _ _)
 
 pub parse-procedure-spec : {M : Type 1} → statement M

@@ -4,10 +4,17 @@ use Rattle.parser.proofs.Kit.{yes, no, done}
 use Rattle.parser.proofs.bump.bump_at.Statement.{statement}
 use Rattle.parser.proofs.bump.bump_at.Tie as tie
 
+-- places
+abbrev after-bump : tie.After-slice-known6 → tie.After-bump
+after-bump c = c .before .before .before .before .before .before
+
+abbrev then1 : tie.After-bump → tie.Then1
+then1 c = c .before .before .before .before
+
 returns : tie.Need-returns
 returns c =
-    let c₁ = c .before .before .before .before .before .before in
-    let c₂ = c₁ .before .before .before .before in
+    let c₁ = after-bump c in
+    let c₂ = then1 c₁ in
     let c₃ = c₂ .before in
     yes _ _ (c₃ .at-kind .ensures) (c₂ .if1 .taken) (c₁ .bump .ensures .ran)
 

@@ -21,6 +21,16 @@ Inv-loop kinds ev₀ last c₀ ev c =
 abbrev μ-loop : tie.MeasureT-loop
 μ-loop kinds ev₀ last c₀ ev c = length kinds - c .pos
 
+-- places
+abbrev then1 : tie.After-slice-known2 Inv-loop μ-loop → tie.Then1 Inv-loop μ-loop
+then1 c = c .before .before .before .before .before
+
+abbrev at-loop : tie.Else1 Inv-loop μ-loop → tie.At-loop Inv-loop μ-loop
+at-loop c = c .before .before .before
+
+abbrev start : tie.At-loop Inv-loop μ-loop → tie.Start Inv-loop μ-loop
+start c = c .before .before .before
+
 loop-holds : tie.Need-loop-holds Inv-loop μ-loop
 loop-holds c dm ds = begins
 
@@ -31,7 +41,7 @@ bump-plain-requires c κs =
     let c₂ = c₁ .before in
     let c₃ = c₂ .before in
     let c₄ = c₃ .before in
-    let c₅ = c₄ .before .before .before in
+    let c₅ = start c₄ in
     let l = c₅ .args .last in
     let e = at-by (trivia-to l) _ refl (c₂ .is-trivia-to .ensures) (c₃ .current .ensures) in
     let h = at-within (c₅ .args .kinds .now) _ (trivia-to l) e (c₁ .if1 .taken) in
@@ -42,10 +52,10 @@ bump-plain-requires c κs =
 loop-less : tie.Need-loop-less Inv-loop μ-loop
 unfolding trivia-to
 loop-less c =
-    let c₁ = c .before .before .before .before .before in
+    let c₁ = then1 c in
     let c₂ = c₁ .before in
     let c₃ = c₂ .before in
-    let c₄ = c₃ .before .before .before .before in
+    let c₄ = start (c₃ .before) in
     let l = c₄ .args .last in
     let e = at-by (trivia-to l) _ refl (c₂ .is-trivia-to .ensures) (c₃ .current .ensures) in
     let h = at-within (c₄ .args .kinds .now) (c₃ .before .loop .c .pos) (trivia-to l) e (c₁ .if1 .taken) in
@@ -54,11 +64,11 @@ loop-less c =
 loop-again : tie.Need-loop-again Inv-loop μ-loop
 unfolding bump-while while-round trivia-to
 loop-again c dm ds =
-    let c₁ = c .before .before .before .before .before in
+    let c₁ = then1 c in
     let c₂ = c₁ .before in
     let c₃ = c₂ .before in
     let c₄ = c₃ .before in
-    let c₅ = c₄ .before .before .before in
+    let c₅ = start c₄ in
     let l = c₅ .args .last in
     let i = c₄ .loop .inv in
     let b = c .before .before .bump-plain in
@@ -69,8 +79,8 @@ loop-again c dm ds =
 returns : tie.Need-returns Inv-loop μ-loop
 unfolding bump-while while-round trivia-to
 returns c =
-    let c₁ = c .before .before .before in
-    let c₂ = c₁ .before .before .before in
+    let c₁ = at-loop c in
+    let c₂ = start c₁ in
     let l = c₂ .args .last in
     let i = c₁ .loop .inv in
     let e = sym (at-by (trivia-to l) _ refl (c .before .is-trivia-to .ensures) (c .before .before .current .ensures)) ∙ c .if1 .left in

@@ -4,13 +4,26 @@ use Rattle.parser.proofs.Kit.{node, _then_}
 use Rattle.parser.proofs.bump.error_token.Statement.{statement}
 use Rattle.parser.proofs.bump.error_token.Tie as tie
 
+-- places
+abbrev after-bump : tie.After-slice-known10 → tie.After-bump
+after-bump c = c .before .before .before .before .before .before .before .before .before .before
+
+abbrev after-error-here : tie.After-bump → tie.After-error-here
+after-error-here c = c .before .before .before .before .before .before .before .before
+
+abbrev after-put : tie.After-error-here → tie.After-put
+after-put c = c .before .before .before .before .before
+
+abbrev start : tie.After-put → tie.Start
+start c = c .before .before .before .before .before .before
+
 returns : tie.Need-returns
 unfolding error-token
 returns c =
-    let c₁ = c .before .before .before .before .before .before .before .before .before .before in
-    let c₂ = c₁ .before .before .before .before .before .before .before .before in
-    let c₃ = c₂ .before .before .before .before .before in
-    let c₄ = c₃ .before .before .before .before .before .before in
+    let c₁ = after-bump c in
+    let c₂ = after-error-here c₁ in
+    let c₃ = after-put c₂ in
+    let c₄ = start c₃ in
     node _ (c₃ .put .ensures .wrote (c₄ .args .kinds .now) _ _) (c₂ .error-here .ensures .ran (c₄ .args .kinds .now) _ then c₁ .bump .ensures .ran) (c .before .before .put2 .ensures .wrote (c₄ .args .kinds .now) _ _)
 
 pub error-token-spec : {M : Type 1} → statement M

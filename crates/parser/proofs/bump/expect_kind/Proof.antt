@@ -4,12 +4,22 @@ use Rattle.parser.proofs.Expect.{expected}
 use Rattle.parser.proofs.bump.expect_kind.Statement.{statement}
 use Rattle.parser.proofs.bump.expect_kind.Tie as tie
 
+-- places
+abbrev after-bump : tie.After-slice-known6 → tie.After-bump
+after-bump c = c .before .before .before .before .before .before
+
+abbrev then1 : tie.After-bump → tie.Then1
+then1 c = c .before .before .before .before
+
+abbrev start : tie.After-stands-here → tie.Start
+start c = c .before .before .before .before .before
+
 returns : tie.Need-returns
 returns c =
-    let c₁ = c .before .before .before .before .before .before in
-    let c₂ = c₁ .before .before .before .before in
+    let c₁ = after-bump c in
+    let c₂ = then1 c₁ in
     let c₃ = c₂ .before in
-    let c₄ = c₃ .before .before .before .before .before in
+    let c₄ = start c₃ in
     let here = c₃ .stands-here .ensures (c₂ .if1 .taken) in
     expected (c₄ .args .k) (c₄ .args .m) (here .1) (here .0) (c₁ .bump .ensures .ran)
 

@@ -7,11 +7,27 @@ use Rattle.parser.proofs.Laws.{at-by}
 use Rattle.parser.proofs.bump.expect_name.Statement.{statement}
 use Rattle.parser.proofs.bump.expect_name.Tie as tie
 
+-- places
+abbrev after-bump : tie.After-slice-known6 → tie.After-bump
+after-bump c = c .before .before .before .before .before .before
+
+abbrev after-error-here : tie.After-slice-known8 → tie.After-error-here
+after-error-here c = c .before .before .before .before
+
+abbrev else1 : tie.After-error-here → tie.Else1
+else1 c = c .before .before .before
+
+abbrev then1 : tie.After-bump → tie.Then1
+then1 c = c .before .before .before .before
+
+abbrev start : tie.After-current → tie.Start
+start c = c .before .before .before .before .before
+
 returns : tie.Need-returns
 unfolding expect-name name-like oneOf
 returns c =
-    let c₁ = c .before .before .before .before .before .before in
-    let c₂ = c₁ .before .before .before .before in
+    let c₁ = after-bump c in
+    let c₂ = then1 c₁ in
     let c₃ = c₂ .before in
     let c₄ = c₃ .before in
     let e = at-by name-like _ refl (c₃ .is-name-like .ensures) (c₄ .current .ensures) in
@@ -20,11 +36,11 @@ returns c =
 returns-2 : tie.Need-returns-2
 unfolding expect-name name-like oneOf
 returns-2 c =
-    let c₁ = c .before .before .before .before in
-    let c₂ = c₁ .before .before .before in
+    let c₁ = after-error-here c in
+    let c₂ = else1 c₁ in
     let c₃ = c₂ .before in
     let c₄ = c₃ .before in
-    let c₅ = c₄ .before .before .before .before .before in
+    let c₅ = start c₄ in
     let e = at-by name-like _ refl (c₃ .is-name-like .ensures) (c₄ .current .ensures) in
     no _ _ e (c₂ .if1 .left) (c₁ .error-here .ensures .ran (c₅ .args .kinds .now) _)
 

@@ -6,13 +6,23 @@ use Rattle.parser.proofs.Laws.{bump-bad, take-end}
 use Rattle.parser.proofs.cursor.bump.Statement.{statement}
 use Rattle.parser.proofs.cursor.bump.Tie as tie
 
+-- places
+abbrev after-error-here : tie.After-slice-known6 → tie.After-error-here
+after-error-here c = c .before .before .before .before .before .before .before .before
+
+abbrev then2 : tie.After-error-here → tie.Then2
+then2 c = c .before .before .before
+
+abbrev start : tie.Then1 → tie.Start
+start c = c .before .before .before .before .before
+
 returns : tie.Need-returns
 returns c =
     let putᶜ = c .before .before .put in
-    let error-hereᶜ = c .before .before .before .before .before .before .before .before .error-here in
-    let if2ᶜ = c .before .before .before .before .before .before .before .before .before .before .before .if2 in
-    let if1ᶜ = c .before .before .before .before .before .before .before .before .before .before .before .before .before .if1 in
-    let argsᶜ = c .before .before .before .before .before .before .before .before .before .before .before .before .before .before .before .before .before .before .args in
+    let error-hereᶜ = after-error-here c .error-here in
+    let if2ᶜ = then2 (after-error-here c) .if2 in
+    let if1ᶜ = then2 (after-error-here c) .before .before .if1 in
+    let argsᶜ = start (then2 (after-error-here c) .before .before) .args in
     record {
       ran = bump-bad (if1ᶜ .taken) (if2ᶜ .taken) (error-hereᶜ .ensures .ran (argsᶜ .kinds .now) _) (putᶜ .ensures .wrote (argsᶜ .kinds .now) _ _);
       moved = λ h. refl;

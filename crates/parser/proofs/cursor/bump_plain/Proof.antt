@@ -6,10 +6,14 @@ use Rattle.parser.proofs.Laws.{bump-plain}
 use Rattle.parser.proofs.cursor.bump_plain.Statement.{statement}
 use Rattle.parser.proofs.cursor.bump_plain.Tie as tie
 
+-- places
+abbrev start : tie.After-slice-known2 → tie.Start
+start c = c .before .before .before .before .before .before .before
+
 returns : tie.Need-returns
 returns c =
     let putᶜ = c .before .before .put in
-    let s = c .before .before .before .before .before .before .before in
+    let s = start c in
     record {
       bumped = λ dm ds.
           record {

@@ -11,6 +11,10 @@ use Rattle.parser.specs.Sets.{keys, bits-are, word-bits-are}
 use Rattle.parser.proofs.kinds.starts_item.Statement.{statement}
 use Rattle.parser.proofs.kinds.starts_item.Tie as tie
 
+-- places
+abbrev start : tie.After-in-words → tie.Start
+start c = c .before .before .before
+
 in-set-requires : tie.Need-in-set-requires
 in-set-requires c κs = search needs
 
@@ -41,7 +45,7 @@ returns c =
 returns-2 : tie.Need-returns-2
 unfolding oneOf
 returns-2 c =
-    let k = c .before .before .before .args .k in
+    let k = start c .args .k in
     let e = c .before .before .in-set .ensures ∙ bits-are _ (DocComment ∷ At ∷ []) k tt tt in
     c .in-words .ensures
     ∙ word-bits-are _ words k tt tt

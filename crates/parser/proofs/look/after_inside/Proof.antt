@@ -32,12 +32,19 @@ no-closer : (F : File) (l : List Sym) → past (is RParen) l ≡ [] → from F (
 unfolding skip
 no-closer F l e = rest-nil F (length F) (omega arith) ∙ sym (ap (skip regular-trivia) e)
 
+-- places
+abbrev after-next-relevant-top-level-token : tie.After-next-relevant-top-level-token2 → tie.After-next-relevant-top-level-token
+after-next-relevant-top-level-token c = c .before .before .before
+
+abbrev start : tie.After-next-relevant-top-level-token → tie.Start
+start c = c .before .before .before
+
 returns : tie.Need-returns
 returns c = let a = c .before .before .args in record { is = none (a .kinds .now) (a .p) (search needs); ahead = omega arith }
 
 returns-2 : tie.Need-returns-2
 returns-2 c =
-    let a = c .before .before .before .before .before .args in
+    let a = start (c .before .before) .args in
     let F = a .kinds .now in
     let found = c .before .before .next-relevant-top-level-token in
     let e = closer F (a .p) (found .result) (search needs) (found .ensures .is) in
@@ -45,16 +52,16 @@ returns-2 c =
 
 add-next-relevant-top-level-token-2 : tie.Need-add-next-relevant-top-level-token-2
 add-next-relevant-top-level-token-2 c =
-    let F = c .before .before .before .before .before .args .kinds .now in
+    let F = start (c .before .before) .args .kinds .now in
     let found = c .before .before .next-relevant-top-level-token in
     let h = next-within F (found .result) (is RParen) (c .before .at-kind .ensures) (not-false _ (c .if2 .left)) in
     search needs
 
 returns-3 : tie.Need-returns-3
 returns-3 c =
-    let a = c .before .before .before .before .before .before .args in
+    let a = start (after-next-relevant-top-level-token c) .args in
     let F = a .kinds .now in
-    let found = c .before .before .before .next-relevant-top-level-token in
+    let found = after-next-relevant-top-level-token c .next-relevant-top-level-token in
     let g = c .next-relevant-top-level-token2 .ensures in
     let e = closer F (a .p) (found .result) (search needs) (found .ensures .is) in
     record {

@@ -8,16 +8,23 @@ use Rattle.parser.proofs.Ahead.{past-on, next-within}
 use Rattle.parser.proofs.look.at_bare_while.Statement.{statement}
 use Rattle.parser.proofs.look.at_bare_while.Tie as tie
 
+-- places
+abbrev start : tie.Then1 → tie.Start
+start c = c .before .before .before
+
+abbrev start-from-at-kind2 : tie.After-at-kind2 → tie.Start
+start-from-at-kind2 c = c .before .before .before .before
+
 add-at-kind : tie.Need-add-at-kind
 add-at-kind c =
-    let a = c .before .before .before .args in
+    let a = start c .args in
     let h = next-within (a .kinds .now) (a .p) (is WHILE) (c .before .at-kind .ensures) (c .if1 .taken) in
     search needs
 
 returns : tie.Need-returns
 unfolding at-bare-while
 returns c =
-    let a = c .before .before .before .before .args in
+    let a = start-from-at-kind2 c .args in
     let here = c .before .before .at-kind .ensures in
     let yes = c .before .if1 .taken in
     rw (← here, yes, past-on (a .kinds .now) (a .p) (is WHILE) refl here yes) (ap not (c .at-kind2 .ensures))

@@ -14,10 +14,20 @@ unfolding at oneOf
 either [] = refl
 either (s ∷ r) = ap (λ u. is ELSE s || u) (or-false _)
 
+-- places
+abbrev after-enum-told2 : tie.After-at-kind3 → tie.After-enum-told2
+after-enum-told2 c = c .before .before .before
+
+abbrev start : tie.After-at-bare-while → tie.Start
+start c = c .before .before .before .before
+
+abbrev start-from-at-kind : tie.After-at-kind → tie.Start
+start-from-at-kind c = c .before .before .before .before
+
 returns : tie.Need-returns
 unfolding at-terminator
 returns c =
-    let a = c .before .before .before .before .args in
+    let a = start-from-at-kind c .args in
     c .at-kind .ensures ∙ sym (ap (λ t. at-terminator t (drop (a .p) (a .kinds .now))) (c .before .enum-told .given .1))
 
 -- `else`
@@ -29,12 +39,12 @@ returns-2 c = rw (c .before .before .enum-told2 .given .1, either, ← c .before
 returns-3 : tie.Need-returns-3
 unfolding at-terminator
 returns-3 c =
-    rw (c .before .before .before .enum-told2 .given .1, either, ← c .before .before .at-kind2 .ensures, c .before .if1 .left) (c .at-kind3 .ensures)
+    rw (after-enum-told2 c .enum-told2 .given .1, either, ← c .before .before .at-kind2 .ensures, c .before .if1 .left) (c .at-kind3 .ensures)
 
 returns-4 : tie.Need-returns-4
 unfolding at-terminator
 returns-4 c =
-    let a = c .before .before .before .before .args in
+    let a = start c .args in
     c .at-bare-while .ensures ∙ sym (ap (λ t. at-terminator t (drop (a .p) (a .kinds .now))) (c .before .enum-told3 .given .1))
 
 pub at-terminator-spec : {M : Type 1} → statement M

@@ -8,6 +8,10 @@ use Rattle.parser.proofs.Ahead.{past-on, next-within, at-here, at-not, 
 use Rattle.parser.proofs.look.declared.Statement.{statement}
 use Rattle.parser.proofs.look.declared.Tie as tie
 
+-- places
+abbrev after-current : tie.After-current2 → tie.After-current
+after-current c = c .before .before .before
+
 add-next-token-after-visibility : tie.Need-add-next-token-after-visibility
 add-next-token-after-visibility c =
     let a = c .before .before .before .args in
@@ -16,10 +20,10 @@ add-next-token-after-visibility c =
 
 returns : tie.Need-returns
 returns c =
-    let a = c .before .before .before .before .before .args in
+    let a = after-current c .before .before .args in
     let F = a .kinds .now in
     let f = c .before .next-token-after-visibility .ensures in
-    let yes = at-here PUB (drop (a .p) F) refl (c .before .before .before .current .ensures) (c .before .before .if1 .taken) in
+    let yes = at-here PUB (drop (a .p) F) refl (after-current c .current .ensures) (c .before .before .if1 .taken) in
     c .current2 .ensures
     ∙ ap current (f .is ∙ ap next-token-after-visibility (sym (past-on F (a .p) (is PUB) refl refl yes)))
     ∙ sym (declared-behind (drop (a .p) F) yes)

@@ -23,10 +23,14 @@ here : (r : List Sym) → at (is PUB) r ≡ false → starter (current r) ≡ is
 unfolding is-top-level-starter oneOf
 here r e = at-current starter r refl ∙ sym (or-false _) ∙ ap (λ u. at starter r || u) (sym (prefixed-none r words e))
 
+-- places
+abbrev after-current : tie.After-in-words → tie.After-current
+after-current c = c .before .before .before
+
 returns : tie.Need-returns
 unfolding oneOf
 returns c =
-    let e = c .before .before .before .current .ensures in
+    let e = after-current c .current .ensures in
     let d = c .before .declared in
     c .in-words .ensures
     ∙ word-bits-are _ (3 ∷ 7 ∷ 9 ∷ 12 ∷ 15 ∷ []) (d .result) tt tt

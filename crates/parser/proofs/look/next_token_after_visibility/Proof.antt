@@ -25,6 +25,10 @@ module _ (r l : List Sym) (f : l ≡ skip regular-trivia r) where
   unfolding next-token-after-visibility
   opened e = rw (next-token-after-visibility, ← f, e) (ap (λ l. behind (skip regular-trivia (past (is LParen) l))) f)
 
+-- places
+abbrev after-at-kind : tie.After-after-inside → tie.After-at-kind
+after-at-kind c = c .before .before .before
+
 returns : tie.Need-returns
 returns c =
     let f = c .before .before .next-relevant-top-level-token .ensures in
@@ -39,9 +43,9 @@ add-next-relevant-top-level-token c =
 
 returns-2 : tie.Need-returns-2
 returns-2 c =
-    let F = c .before .before .before .before .before .before .args .kinds .now in
-    let found = c .before .before .before .before .next-relevant-top-level-token in
-    let paren = c .before .before .before .at-kind .ensures in
+    let F = after-at-kind c .before .before .before .args .kinds .now in
+    let found = after-at-kind c .before .next-relevant-top-level-token in
+    let paren = after-at-kind c .at-kind .ensures in
     let yes = not-false _ (c .before .before .if1 .left) in
     let g = c .before .next-relevant-top-level-token2 .ensures in
     let h = c .after-inside .ensures in

@@ -17,13 +17,20 @@ Inv-loop kinds last p i₀ i = (p ≤ i) × (skip (trivia-to last) (drop p kinds
 abbrev μ-loop : tie.MeasureT-loop
 μ-loop kinds last p i₀ i = length kinds - i
 
+-- places
+abbrev at-loop : tie.Else1 Inv-loop μ-loop → tie.At-loop Inv-loop μ-loop
+at-loop c = c .before .before .before .before
+
+abbrev at-loop-from-then1 : tie.Then1 Inv-loop μ-loop → tie.At-loop Inv-loop μ-loop
+at-loop-from-then1 c = c .before .before .before .before
+
 loop-holds : tie.Need-loop-holds Inv-loop μ-loop
 loop-holds c = (omega arith, refl)
 
 returns : tie.Need-returns Inv-loop μ-loop
 returns c =
-    let l = c .before .before .before .before .loop in
-    let a = c .before .before .before .before .before .before .args in
+    let l = at-loop-from-then1 c .loop in
+    let a = at-loop-from-then1 c .before .before .args in
     record {
       is = skip-off (a .kinds .now) (trivia-to (a .last)) (l .i) (at-in (a .kinds .now) (trivia-to (a .last)) (l .i) (search needs)) (sym (c .before .is-trivia-to .ensures) ∙ not-true _ (c .if1 .taken)) ∙ sym (l .inv .1);
       ahead = l .inv .0;
@@ -31,8 +38,8 @@ returns c =
 
 loop-again : tie.Need-loop-again Inv-loop μ-loop
 loop-again c =
-    let l = c .before .before .before .before .loop in
-    let a = c .before .before .before .before .before .before .args in
+    let l = at-loop c .loop in
+    let a = at-loop c .before .before .args in
     (omega arith, l .inv .1 ∙ skip-on (a .kinds .now) (trivia-to (a .last)) (l .i) (at-in (a .kinds .now) (trivia-to (a .last)) (l .i) (search needs)) (sym (c .before .is-trivia-to .ensures) ∙ not-false _ (c .if1 .left)))
 
 returns-2 : tie.Need-returns-2 Inv-loop μ-loop

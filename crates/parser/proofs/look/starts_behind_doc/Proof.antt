@@ -24,20 +24,30 @@ module _ (F : File) (p : ℕ) {k : Remembered} (doc : at (is DocComment) (drop p
   known : DocKnown F p k → (k .starts ≡ at-top-level-form-starter-in-block (drop p F)) × DocKnown F p k
   known m = (remembered (is DocComment) doc h m ∙ question (drop p F) doc, m)
 
+-- places
+abbrev start : tie.Else1 → tie.Start
+start c = c .before .before .before
+
+abbrev start-from-is-top-level-starter : tie.After-is-top-level-starter → tie.Start
+start-from-is-top-level-starter c = c .before .before .before .before .before
+
+abbrev start-from-then1 : tie.Then1 → tie.Start
+start-from-then1 c = c .before .before .before
+
 returns : tie.Need-returns
 returns c =
-    let b = c .before .before .before in
+    let b = start-from-then1 c in
     known (b .args .kinds .now) (b .args .p) (b .pre .0) (c .if1 .taken) (b .pre .1)
 
 add-next-relevant-block-token : tie.Need-add-next-relevant-block-token
 add-next-relevant-block-token c =
-    let b = c .before .before .before in
+    let b = start c in
     let h = next-within (b .args .kinds .now) (b .args .p) (is DocComment) refl (b .pre .0) in
     search needs
 
 returns-2 : tie.Need-returns-2
 returns-2 c =
-    let b = c .before .before .before .before .before in
+    let b = start-from-is-top-level-starter c in
     let f = c .before .next-relevant-block-token .ensures in
     known (b .args .kinds .now) (b .args .p) (b .pre .0) (omega (arith, f .ahead)) (remembers-new (f .is) (c .is-top-level-starter .ensures))
 
