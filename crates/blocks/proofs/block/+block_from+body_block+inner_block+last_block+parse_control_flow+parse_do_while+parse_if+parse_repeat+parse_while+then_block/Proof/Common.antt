@@ -1,7 +1,7 @@
 -- What the members of the cycle share: measures, what is asked and learnt at their calls, and the invariant of the loop. Assumes nothing.
 use Prim.Native.Nat.{ℕ, _+_, _-_, _*_, _<_}
 use lib.ListN.{length}
-use borrow.Fn.Kinds.{In}
+use borrow.Fn.Kinds.{In, Out}
 use borrow.Fn.PlainCycle.{Measures, is, falls, and}
 use Rattle.blocks.proofs.Laws.{Going}
 use Rattle.blocks.proofs.block.block_from.Reads as block-from
@@ -250,3 +250,34 @@ block-from-Inv-loop kinds ev₀ dm₀ ds₀ place depth s₀ ev dm ds s = Going 
 
 abbrev pub block-from-μ-loop : block-from-lts.MeasureT-loop
 block-from-μ-loop kinds ev₀ dm₀ ds₀ place depth s₀ ev dm ds s = length kinds - s .c .pos
+
+-- ---- a place, or a need, of a member
+abbrev pub block-from-place : (block-from-lts.Claims → In 4 block-from-kinds.ps → Out 4 block-from-kinds.ps block-from-kinds.r → block-from-lts.InvT-loop → block-from-lts.MeasureT-loop → Type 0) → ℕ → Type 0
+block-from-place P t = P (block-from-calls t) (block-from-at t) block-from.Post block-from-Inv-loop block-from-μ-loop
+
+abbrev pub body-block-place : (body-block-lts.Claims → In 4 body-block-kinds.ps → Out 4 body-block-kinds.ps body-block-kinds.r → Type 0) → ℕ → Type 0
+body-block-place P t = P (body-block-calls t) (body-block-at t) body-block.Post
+
+abbrev pub inner-block-place : (inner-block-lts.Claims → In 4 inner-block-kinds.ps → Out 4 inner-block-kinds.ps inner-block-kinds.r → Type 0) → ℕ → Type 0
+inner-block-place P t = P (inner-block-calls t) (inner-block-at t) inner-block.Post
+
+abbrev pub last-block-place : (last-block-lts.Claims → In 4 last-block-kinds.ps → Out 4 last-block-kinds.ps last-block-kinds.r → Type 0) → ℕ → Type 0
+last-block-place P t = P (last-block-calls t) (last-block-at t) last-block.Post
+
+abbrev pub parse-control-flow-place : (parse-control-flow-lts.Claims → In 4 parse-control-flow-kinds.ps → Out 4 parse-control-flow-kinds.ps parse-control-flow-kinds.r → Type 0) → ℕ → Type 0
+parse-control-flow-place P t = P (parse-control-flow-calls t) (parse-control-flow-at t) parse-control-flow.Post
+
+abbrev pub parse-do-while-place : (parse-do-while-lts.Claims → In 4 parse-do-while-kinds.ps → Out 4 parse-do-while-kinds.ps parse-do-while-kinds.r → Type 0) → ℕ → Type 0
+parse-do-while-place P t = P (parse-do-while-calls t) (parse-do-while-at t) parse-do-while.Post
+
+abbrev pub parse-if-place : (parse-if-lts.Claims → In 4 parse-if-kinds.ps → Out 4 parse-if-kinds.ps parse-if-kinds.r → Type 0) → ℕ → Type 0
+parse-if-place P t = P (parse-if-calls t) (parse-if-at t) parse-if.Post
+
+abbrev pub parse-repeat-place : (parse-repeat-lts.Claims → In 4 parse-repeat-kinds.ps → Out 4 parse-repeat-kinds.ps parse-repeat-kinds.r → Type 0) → ℕ → Type 0
+parse-repeat-place P t = P (parse-repeat-calls t) (parse-repeat-at t) parse-repeat.Post
+
+abbrev pub parse-while-place : (parse-while-lts.Claims → In 4 parse-while-kinds.ps → Out 4 parse-while-kinds.ps parse-while-kinds.r → Type 0) → ℕ → Type 0
+parse-while-place P t = P (parse-while-calls t) (parse-while-at t) parse-while.Post
+
+abbrev pub then-block-place : (then-block-lts.Claims → In 4 then-block-kinds.ps → Out 4 then-block-kinds.ps then-block-kinds.r → Type 0) → ℕ → Type 0
+then-block-place P t = P (then-block-calls t) (then-block-at t) then-block.Post

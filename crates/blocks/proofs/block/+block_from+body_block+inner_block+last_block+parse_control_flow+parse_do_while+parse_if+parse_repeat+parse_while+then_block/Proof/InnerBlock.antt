@@ -2,20 +2,29 @@
 use Prim.Native.Nat.{ℕ}
 use native.Mathlib.Omega.{arith}
 use Rattle.blocks.proofs.block.+block_from+body_block+inner_block+last_block+parse_control_flow+parse_do_while+parse_if+parse_repeat+parse_while+then_block.Lts-inner_block as lts
-use Rattle.blocks.proofs.block.inner_block.Reads as inner-block
-use Rattle.blocks.proofs.block.+block_from+body_block+inner_block+last_block+parse_control_flow+parse_do_while+parse_if+parse_repeat+parse_while+then_block.Proof.Common.{inner-block-calls, inner-block-at}
+use Rattle.blocks.proofs.block.+block_from+body_block+inner_block+last_block+parse_control_flow+parse_do_while+parse_if+parse_repeat+parse_while+then_block.Proof.Common.{inner-block-place}
 
-pub cast-t11 : (t : ℕ) → lts.Need-cast-t11 (inner-block-calls t) (inner-block-at t) inner-block.Post
+-- places
+abbrev after-block-from : (t : ℕ) → inner-block-place lts.After-slice-known6 t → inner-block-place lts.After-block-from t
+after-block-from t c = c .before .before .before .before .before .before
+
+abbrev start : (t : ℕ) → inner-block-place lts.After-slice-known3 t → inner-block-place lts.Start t
+start t c = c .before .before .before .before
+
+abbrev start-from-block-from-arg3 : (t : ℕ) → inner-block-place lts.After-block-from-arg3 t → inner-block-place lts.Start t
+start-from-block-from-arg3 t c = c .before .before .before .before .before .before .before
+
+pub cast-t11 : (t : ℕ) → inner-block-place lts.Need-cast-t11 t
 cast-t11 t c =
-    let c₁ = c .before .before .before .before in
+    let c₁ = start t c in
     omega (arith, c₁ .pre)
 
-pub block-from-requires : (t : ℕ) → lts.Need-block-from-requires (inner-block-calls t) (inner-block-at t) inner-block.Post
+pub block-from-requires : (t : ℕ) → inner-block-place lts.Need-block-from-requires t
 block-from-requires t c κs =
-    let c₁ = c .before .before .before .before .before .before .before in
+    let c₁ = start-from-block-from-arg3 t c in
     omega (arith, c₁ .pre)
 
-pub returns : (t : ℕ) → lts.Need-returns (inner-block-calls t) (inner-block-at t) inner-block.Post
+pub returns : (t : ℕ) → inner-block-place lts.Need-returns t
 returns t c =
-    let c₁ = c .before .before .before .before .before .before in
+    let c₁ = after-block-from t c in
     c₁ .block-from .ensures

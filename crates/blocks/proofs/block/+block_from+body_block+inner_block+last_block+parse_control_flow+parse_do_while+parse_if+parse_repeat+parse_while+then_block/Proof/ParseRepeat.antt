@@ -6,26 +6,41 @@ use Rattle.grammar.specs.declared.block.BlockOwner.{BlockOwner}
 use Rattle.parser.proofs.Kit.{node-to, bind-to}
 use Rattle.grammar.specs.Block.{ended, parse-repeat}
 use Rattle.blocks.proofs.block.+block_from+body_block+inner_block+last_block+parse_control_flow+parse_do_while+parse_if+parse_repeat+parse_while+then_block.Lts-parse_repeat as lts
-use Rattle.blocks.proofs.block.parse_repeat.Reads as parse-repeat
-use Rattle.blocks.proofs.block.+block_from+body_block+inner_block+last_block+parse_control_flow+parse_do_while+parse_if+parse_repeat+parse_while+then_block.Proof.Common.{parse-repeat-calls, parse-repeat-at}
+use Rattle.blocks.proofs.block.+block_from+body_block+inner_block+last_block+parse_control_flow+parse_do_while+parse_if+parse_repeat+parse_while+then_block.Proof.Common.{parse-repeat-place}
 
-pub repeat-header-requires : (t : ℕ) → lts.Need-repeat-header-requires (parse-repeat-calls t) (parse-repeat-at t) parse-repeat.Post
+-- places
+abbrev after-last-block : (t : ℕ) → parse-repeat-place lts.After-slice-known9 t → parse-repeat-place lts.After-last-block t
+after-last-block t c = c .before .before .before .before .before .before
+
+abbrev after-repeat-header : (t : ℕ) → parse-repeat-place lts.After-last-block t → parse-repeat-place lts.After-repeat-header t
+after-repeat-header t c = c .before .before .before .before .before .before .before .before .before .before
+
+abbrev after-repeat-header-from-last-block-arg3 : (t : ℕ) → parse-repeat-place lts.After-last-block-arg3 t → parse-repeat-place lts.After-repeat-header t
+after-repeat-header-from-last-block-arg3 t c = c .before .before .before .before .before .before .before .before .before
+
+abbrev start : (t : ℕ) → parse-repeat-place lts.After-repeat-header t → parse-repeat-place lts.Start t
+start t c = c .before .before .before .before .before .before .before .before
+
+abbrev start-from-repeat-header-arg3 : (t : ℕ) → parse-repeat-place lts.After-repeat-header-arg3 t → parse-repeat-place lts.Start t
+start-from-repeat-header-arg3 t c = c .before .before .before .before .before .before .before
+
+pub repeat-header-requires : (t : ℕ) → parse-repeat-place lts.Need-repeat-header-requires t
 repeat-header-requires t c κs =
-    let c₁ = c .before .before .before .before .before .before .before in
+    let c₁ = start-from-repeat-header-arg3 t c in
     c₁ .pre .1 .0
 
-pub last-block-requires : (t : ℕ) → lts.Need-last-block-requires (parse-repeat-calls t) (parse-repeat-at t) parse-repeat.Post
+pub last-block-requires : (t : ℕ) → parse-repeat-place lts.Need-last-block-requires t
 last-block-requires t c κs =
-    let c₁ = c .before .before .before .before .before .before .before .before .before in
-    let c₂ = c₁ .before .before .before .before .before .before .before .before in
+    let c₁ = after-repeat-header-from-last-block-arg3 t c in
+    let c₂ = start t c₁ in
     omega (arith, c₂ .pre, c₁ .repeat-header .ensures .past)
 
-pub returns : (t : ℕ) → lts.Need-returns (parse-repeat-calls t) (parse-repeat-at t) parse-repeat.Post
+pub returns : (t : ℕ) → parse-repeat-place lts.Need-returns t
 unfolding parse-repeat
 returns t c =
-    let c₁ = c .before .before .before .before .before .before in
-    let c₂ = c₁ .before .before .before .before .before .before .before .before .before .before in
-    let c₃ = c₂ .before .before .before .before .before .before .before .before in
+    let c₁ = after-last-block t c in
+    let c₂ = after-repeat-header t c₁ in
+    let c₃ = start t c₂ in
     let head = c₂ .repeat-header .ensures in
     let last = c₁ .last-block .ensures in
     let form = bind-to (λ o. ended BlockOwner.Repeat o) (last .block) (last .done .ran) in

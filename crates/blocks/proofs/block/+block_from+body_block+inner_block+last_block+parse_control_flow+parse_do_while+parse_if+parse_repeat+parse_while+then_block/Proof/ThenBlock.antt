@@ -8,28 +8,58 @@ use Rattle.grammar.specs.Laws.Here.{and-r}
 use Rattle.grammar.specs.Block.{reached-eof}
 use Rattle.parser.proofs.Kit.{_farther_}
 use Rattle.blocks.proofs.block.+block_from+body_block+inner_block+last_block+parse_control_flow+parse_do_while+parse_if+parse_repeat+parse_while+then_block.Lts-then_block as lts
-use Rattle.blocks.proofs.block.then_block.Reads as then-block
-use Rattle.blocks.proofs.block.+block_from+body_block+inner_block+last_block+parse_control_flow+parse_do_while+parse_if+parse_repeat+parse_while+then_block.Proof.Common.{then-block-calls, then-block-at}
+use Rattle.blocks.proofs.block.+block_from+body_block+inner_block+last_block+parse_control_flow+parse_do_while+parse_if+parse_repeat+parse_while+then_block.Proof.Common.{then-block-place}
 
-pub inner-block-requires : (t : ℕ) → lts.Need-inner-block-requires (then-block-calls t) (then-block-at t) then-block.Post
+-- places
+abbrev after-else-line : (t : ℕ) → then-block-place lts.After-slice-known9 t → then-block-place lts.After-else-line t
+after-else-line t c = c .before .before .before .before .before .before
+
+abbrev after-finish : (t : ℕ) → then-block-place lts.After-fc t → then-block-place lts.After-finish t
+after-finish t c = c .before .before .before .before .before .before .before
+
+abbrev else1 : (t : ℕ) → then-block-place lts.After-finish t → then-block-place lts.Else1 t
+else1 t c = c .before .before .before .before
+
+abbrev else1-from-finish-arg3 : (t : ℕ) → then-block-place lts.After-finish-arg3 t → then-block-place lts.Else1 t
+else1-from-finish-arg3 t c = c .before .before .before
+
+abbrev then1 : (t : ℕ) → then-block-place lts.After-else-line t → then-block-place lts.Then1 t
+then1 t c = c .before .before .before .before
+
+abbrev then1-from-else-line-arg3 : (t : ℕ) → then-block-place lts.After-else-line-arg3 t → then-block-place lts.Then1 t
+then1-from-else-line-arg3 t c = c .before .before .before
+
+abbrev after-inner-block : (t : ℕ) → then-block-place lts.Else1 t → then-block-place lts.After-inner-block t
+after-inner-block t c = c .before .before .before .before .before .before .before .before .before
+
+abbrev after-inner-block-from-goes-to-else : (t : ℕ) → then-block-place lts.After-goes-to-else t → then-block-place lts.After-inner-block t
+after-inner-block-from-goes-to-else t c = c .before .before .before .before .before .before .before .before
+
+abbrev start : (t : ℕ) → then-block-place lts.After-inner-block t → then-block-place lts.Start t
+start t c = c .before .before .before .before .before .before .before .before
+
+abbrev start-from-inner-block-arg3 : (t : ℕ) → then-block-place lts.After-inner-block-arg3 t → then-block-place lts.Start t
+start-from-inner-block-arg3 t c = c .before .before .before .before .before .before .before
+
+pub inner-block-requires : (t : ℕ) → then-block-place lts.Need-inner-block-requires t
 inner-block-requires t c κs =
-    let c₁ = c .before .before .before .before .before .before .before in
+    let c₁ = start-from-inner-block-arg3 t c in
     omega (arith, c₁ .pre)
 
-pub else-line-requires : (t : ℕ) → lts.Need-else-line-requires (then-block-calls t) (then-block-at t) then-block.Post
+pub else-line-requires : (t : ℕ) → then-block-place lts.Need-else-line-requires t
 else-line-requires t c κs =
-    let c₁ = c .before .before .before in
+    let c₁ = then1-from-else-line-arg3 t c in
     let c₂ = c₁ .before in
-    let c₃ = c₂ .before .before .before .before .before .before .before .before in
-    let c₄ = c₃ .before .before .before .before .before .before .before .before in
+    let c₃ = after-inner-block-from-goes-to-else t c₂ in
+    let c₄ = start t c₃ in
     and-r (not (reached-eof (c₃ .inner-block .result .outcome))) _ (sym (c₂ .goes-to-else .ensures) ∙ c₁ .if1 .taken)
 
-pub returns : (t : ℕ) → lts.Need-returns (then-block-calls t) (then-block-at t) then-block.Post
+pub returns : (t : ℕ) → then-block-place lts.Need-returns t
 returns t c =
-    let c₁ = c .before .before .before .before .before .before in
-    let c₂ = c₁ .before .before .before .before in
+    let c₁ = after-else-line t c in
+    let c₂ = then1 t c₁ in
     let c₃ = c₂ .before in
-    let c₄ = c₃ .before .before .before .before .before .before .before .before in
+    let c₄ = after-inner-block-from-goes-to-else t c₃ in
     record {
       mid = _;
       outcome = _;
@@ -40,17 +70,17 @@ returns t c =
       onward = c₄ .inner-block .ensures .ran .ran .onward farther c₁ .else-line .ensures .onward;
     }
 
-pub finish-requires : (t : ℕ) → lts.Need-finish-requires (then-block-calls t) (then-block-at t) then-block.Post
+pub finish-requires : (t : ℕ) → then-block-place lts.Need-finish-requires t
 finish-requires t c κs =
-    let c₁ = c .before .before .before .before .before .before .before .before .before .before .before .before in
+    let c₁ = after-inner-block t (else1-from-finish-arg3 t c) in
     c₁ .inner-block .ensures .here
 
-pub returns-2 : (t : ℕ) → lts.Need-returns-2 (then-block-calls t) (then-block-at t) then-block.Post
+pub returns-2 : (t : ℕ) → then-block-place lts.Need-returns-2 t
 returns-2 t c =
-    let c₁ = c .before .before .before .before .before .before .before in
-    let c₂ = c₁ .before .before .before .before in
+    let c₁ = after-finish t c in
+    let c₂ = else1 t c₁ in
     let c₃ = c₂ .before in
-    let c₄ = c₃ .before .before .before .before .before .before .before .before in
+    let c₄ = after-inner-block-from-goes-to-else t c₃ in
     record {
       mid = _;
       outcome = _;
