@@ -5,7 +5,7 @@ use mathlib.Core.List.{List}
 use Prim.Native.Nat.{ℕ, _<_}
 use Rattle.grammar.specs.Words.{Sym, File, from, is, ELSE, WHILE}
 use Rattle.grammar.specs.Look.{at, at-keyword, current, at-top-level-form-starter-in-block}
-use Rattle.grammar.specs.Run.{Error, P, pure, inNode, pick, _>>_, _>>=_, if_then_else_}
+use Rattle.grammar.specs.Run.{Kind, num, Error, P, pure, inNode, pick, _>>_, _>>=_, if_then_else_}
 use Rattle.grammar.specs.declared.message.Message.{Message}
 use Rattle.grammar.specs.declared.block.BlockOwner.{BlockOwner}
 use Rattle.grammar.specs.declared.block.Terminators.{Terminators}
@@ -111,7 +111,7 @@ pub record FormHere (F : File) (depth : ℕ) (w w′ : World) (outcome : BlockPa
 -- the same behind the block's opening event
 pub record Begun (F : File) (owner : BlockOwner) (terminators : Terminators) (depth : ℕ) (w w′ : World) (outcome : BlockParseOutcome) (item control : Bool) (word : Sym) : Type 0 where
   pub mid : World
-  pub wrote : Wrote F 18 w mid
+  pub wrote : Wrote F (num Kind.Block) w mid
   pub onward : Onward w w′
   pub rounds : Rounded F owner terminators depth mid w′ outcome item control word
 

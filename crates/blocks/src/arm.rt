@@ -1,5 +1,7 @@
 // What a round of parse_block's loop does, by the token here.
 use grammar::block::Terminators;
+use grammar::kind::IDENT;
+use parser::kinds::CONTROL_FLOW;
 use parser::kinds::in_words;
 use parser::kinds::is_regular_trivia;
 use parser::kinds::starts_instruction;
@@ -44,11 +46,6 @@ pub struct Seen {
     pub arm: Arm,
     pub known: Remembered,
 }
-
-const IDENT: u16 = 31;
-
-// The words `do`, `if`, `repeat` and `while`, as bits.
-const CONTROL_FLOW: u64 = 0x14110;
 
 fn is_control_flow(k: u16) -> bool
     ensures { λ r. ⌜ r ≡ control-flow k ⌝ }

@@ -1,5 +1,6 @@
 // Blocks and the four control forms call each other in a cycle; each call has fewer tokens left, or as many in a later function.
-// The compiler makes one frame of them. To keep it small, a call into the cycle stands in a function of its own: its arguments then share their places.
+// The compiler makes one frame of them. To keep it small, a call into the cycle stands in a function of its own: its arguments then
+// share their places.
 use crate::close::BlockEnd;
 use crate::close::Form;
 use crate::close::ended_file;
@@ -27,7 +28,8 @@ ghost use Prim.Native.Nat.{_≤_};
 ghost use lib.ListN.{drop};
 ghost use Rattle.grammar.specs.Words.{is, DO as doWord, IF as ifWord, REPEAT as repeatWord, WHILE as whileWord};
 ghost use Rattle.grammar.specs.Look.{at, current, control-flow};
-ghost use Rattle.grammar.specs.Block.{MAX-CONTROL-FLOW-NESTING as limit, parse-block, parse-if, parse-while, parse-do-while, parse-repeat, parse-control-flow};
+ghost use Rattle.grammar.specs.Block.{MAX-CONTROL-FLOW-NESTING as limit, parse-block, parse-if, parse-while, parse-do-while, parse-repeat};
+ghost use Rattle.grammar.specs.Block.{parse-control-flow};
 ghost use Rattle.parser.specs.Rep.{entry, exit};
 ghost use Rattle.blocks.specs.Shapes.{Blocked, Formed, Then, Body, Last};
 
@@ -56,7 +58,8 @@ pub fn parse_block(
     depth: usize,
 ) -> BlockEnd
     requires { ⌜ depth ≤ limit ⌝ }
-    ensures { λ r. ⌜ Blocked (now (kinds .entry)) owner terminators depth (entry ev dm ds c0) (exit ev dm ds (r .c)) (r .outcome) (r .item) ⌝ }
+    ensures { λ r. ⌜ Blocked (now (kinds .entry)) owner terminators depth
+        (entry ev dm ds c0) (exit ev dm ds (r .c)) (r .outcome) (r .item) ⌝ }
 {
     let place = Place {
         depth: depth as u16,
@@ -114,7 +117,8 @@ fn parse_control_flow(
     k: u16,
     depth: usize,
 ) -> Form
-    requires { ⌜ (k ≡ current (drop (c0 .pos) (now kinds))) × (at control-flow (drop (c0 .pos) (now kinds)) ≡ true) × (depth ≤ limit) ⌝ }
+    requires { ⌜ (k ≡ current (drop (c0 .pos) (now kinds))) × (at control-flow (drop (c0 .pos) (now kinds)) ≡ true)
+        × (depth ≤ limit) ⌝ }
     ensures { λ r. ⌜ Formed (now (kinds .entry)) (parse-control-flow (parse-block limit) depth)
         (entry ev dm ds c0) (exit ev dm ds (r .c)) (r .eof) (r .item) ⌝ }
 {
@@ -142,7 +146,8 @@ fn inner_block(
     depth: usize,
 ) -> BlockEnd
     requires { ⌜ depth ≤ limit ⌝ }
-    ensures { λ r. ⌜ Blocked (now (kinds .entry)) owner terminators depth (entry ev dm ds c0) (exit ev dm ds (r .c)) (r .outcome) (r .item) ⌝ }
+    ensures { λ r. ⌜ Blocked (now (kinds .entry)) owner terminators depth
+        (entry ev dm ds c0) (exit ev dm ds (r .c)) (r .outcome) (r .item) ⌝ }
 {
     let place = Place {
         depth: depth as u16,

@@ -4,6 +4,8 @@ use crate::expect::expect;
 use grammar::block::BlockOwner;
 use grammar::block::BlockParseOutcome;
 use grammar::block::BlockRecoveryBoundary;
+use grammar::kind::CLOSE;
+use grammar::kind::ERROR;
 use grammar::message::Message;
 use parser::cursor::Cursor;
 use parser::cursor::error_here;
@@ -46,9 +48,9 @@ fn recover(
 ) -> Cursor
     ensures { λ r. ⌜ Recovered owner boundary (entry ev dm ds c0) (exit ev dm ds r) ⌝ }
 {
-    let a = put(ev, c0, 1);
+    let a = put(ev, c0, ERROR);
     let b = error_here(dm, ds, a, Message::Recovery(owner, boundary));
-    put(ev, b, 0)
+    put(ev, b, CLOSE)
 }
 
 // A round that ends the loop, and the block's closing event.
@@ -65,7 +67,7 @@ pub fn close(
     match k {
         Closing::Eof => {
             let a = error_here(dm, ds, c0, Message::MissingEnd(owner));
-            let b = put(ev, a, 0);
+            let b = put(ev, a, CLOSE);
             BlockEnd {
                 c: b,
                 outcome: BlockParseOutcome::ReachedEof,
@@ -73,7 +75,7 @@ pub fn close(
             }
         }
         Closing::Terminator => {
-            let b = put(ev, c0, 0);
+            let b = put(ev, c0, CLOSE);
             BlockEnd {
                 c: b,
                 outcome: BlockParseOutcome::FoundTerminator,
@@ -82,7 +84,7 @@ pub fn close(
         }
         Closing::StrayElse => {
             let a = recover(ev, dm, ds, c0, owner, BlockRecoveryBoundary::Else);
-            let b = put(ev, a, 0);
+            let b = put(ev, a, CLOSE);
             BlockEnd {
                 c: b,
                 outcome: BlockParseOutcome::RecoveredImplicitEnd,
@@ -91,7 +93,7 @@ pub fn close(
         }
         Closing::Item => {
             let a = recover(ev, dm, ds, c0, owner, BlockRecoveryBoundary::TopLevelItem);
-            let b = put(ev, a, 0);
+            let b = put(ev, a, CLOSE);
             BlockEnd {
                 c: b,
                 outcome: BlockParseOutcome::RecoveredImplicitEnd,
@@ -105,7 +107,7 @@ pub fn close(
 pub fn ended_file(ev: &mut [u16], c0: Cursor) -> BlockEnd
     ensures { λ r. ⌜ (Put 0 (now (ev .entry)) c0 (now (ev .exit)) (r .c)) × (r .outcome ≡ ReachedEof) × (r .item ≡ false) ⌝ }
 {
-    let c = put(ev, c0, 0);
+    let c = put(ev, c0, CLOSE);
     BlockEnd {
         c: c,
         outcome: BlockParseOutcome::ReachedEof,
@@ -123,13 +125,14 @@ pub fn finish(
     owner: BlockOwner,
 ) -> Form
     requires { ⌜ ItemAt (now kinds) (b .c .pos) (b .item) ⌝ }
-    ensures { λ r. ⌜ Finished (now (kinds .entry)) owner (b .outcome) (entry ev dm ds (b .c)) (exit ev dm ds (r .c)) (r .eof) (r .item) ⌝ }
+    ensures { λ r. ⌜ Finished (now (kinds .entry)) owner (b .outcome)
+        (entry ev dm ds (b .c)) (exit ev dm ds (r .c)) (r .eof) (r .item) ⌝ }
 {
     let c = b.c;
     let outcome = b.outcome;
     match outcome {
         BlockParseOutcome::ReachedEof => {
-            let e = put(ev, c, 0);
+            let e = put(ev, c, CLOSE);
             Form {
                 c: e,
                 eof: true,
@@ -139,7 +142,7 @@ pub fn finish(
         BlockParseOutcome::FoundTerminator => {
             let d = expect(kinds, ev, dm, ds, c, END, Message::MissingEnd(owner));
             let dc = d.c;
-            let e = put(ev, dc, 0);
+            let e = put(ev, dc, CLOSE);
             Form {
                 c: e,
                 eof: false,
@@ -147,7 +150,7 @@ pub fn finish(
             }
         }
         BlockParseOutcome::RecoveredImplicitEnd => {
-            let e = put(ev, c, 0);
+            let e = put(ev, c, CLOSE);
             Form {
                 c: e,
                 eof: false,

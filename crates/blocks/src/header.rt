@@ -2,6 +2,10 @@
 use crate::expect::expect;
 use crate::suffix::parse_structured_header_suffixes;
 use forms::line::parse_line_tail;
+use grammar::kind::DO_WHILE_OP;
+use grammar::kind::IF_OP;
+use grammar::kind::REPEAT_OP;
+use grammar::kind::WHILE_OP;
 use grammar::message::Message;
 use parser::cursor::Cursor;
 use parser::cursor::put;
@@ -13,6 +17,7 @@ use parser::kinds::WHILE;
 ghost use mathlib.Core.Path.{_≡_};
 ghost use mathlib.Core.Bool.{true, false};
 ghost use lib.ListN.{drop};
+ghost use Rattle.lexer.specs.Syntax.{IfOp, WhileOp, DoWhileOp, RepeatOp};
 ghost use Rattle.grammar.specs.Words.{is, DO as doWord, ELSE as elseWord, IF as ifWord, REPEAT as repeatWord, WHILE as whileWord};
 ghost use Rattle.grammar.specs.Look.{at, regular-trivia};
 ghost use Rattle.parser.specs.Rep.{entry, exit};
@@ -64,9 +69,9 @@ pub fn do_header(
     c0: Cursor,
 ) -> Cursor
     requires { ⌜ at (is doWord) (drop (c0 .pos) (now kinds)) ≡ true ⌝ }
-    ensures { λ r. ⌜ Opened (now (kinds .entry)) 21 (keyword-line doWord) (entry ev dm ds c0) (exit ev dm ds r) ⌝ }
+    ensures { λ r. ⌜ Opened (now (kinds .entry)) DoWhileOp (keyword-line doWord) (entry ev dm ds c0) (exit ev dm ds r) ⌝ }
 {
-    let a = put(ev, c0, 21);
+    let a = put(ev, c0, DO_WHILE_OP);
     keyword_line(kinds, ev, dm, ds, a, DO)
 }
 
@@ -107,9 +112,9 @@ pub fn if_header(
     c0: Cursor,
 ) -> Cursor
     requires { ⌜ at (is ifWord) (drop (c0 .pos) (now kinds)) ≡ true ⌝ }
-    ensures { λ r. ⌜ Opened (now (kinds .entry)) 19 (headerOf ifWord) (entry ev dm ds c0) (exit ev dm ds r) ⌝ }
+    ensures { λ r. ⌜ Opened (now (kinds .entry)) IfOp (headerOf ifWord) (entry ev dm ds c0) (exit ev dm ds r) ⌝ }
 {
-    header(kinds, ev, dm, ds, c0, 19, IF)
+    header(kinds, ev, dm, ds, c0, IF_OP, IF)
 }
 
 // The opening event of a `while`, and its first line.
@@ -121,9 +126,9 @@ pub fn while_header(
     c0: Cursor,
 ) -> Cursor
     requires { ⌜ at (is whileWord) (drop (c0 .pos) (now kinds)) ≡ true ⌝ }
-    ensures { λ r. ⌜ Opened (now (kinds .entry)) 20 (headerOf whileWord) (entry ev dm ds c0) (exit ev dm ds r) ⌝ }
+    ensures { λ r. ⌜ Opened (now (kinds .entry)) WhileOp (headerOf whileWord) (entry ev dm ds c0) (exit ev dm ds r) ⌝ }
 {
-    header(kinds, ev, dm, ds, c0, 20, WHILE)
+    header(kinds, ev, dm, ds, c0, WHILE_OP, WHILE)
 }
 
 // The opening event of a `repeat`, and its first line.
@@ -135,7 +140,7 @@ pub fn repeat_header(
     c0: Cursor,
 ) -> Cursor
     requires { ⌜ at (is repeatWord) (drop (c0 .pos) (now kinds)) ≡ true ⌝ }
-    ensures { λ r. ⌜ Opened (now (kinds .entry)) 22 (headerOf repeatWord) (entry ev dm ds c0) (exit ev dm ds r) ⌝ }
+    ensures { λ r. ⌜ Opened (now (kinds .entry)) RepeatOp (headerOf repeatWord) (entry ev dm ds c0) (exit ev dm ds r) ⌝ }
 {
-    header(kinds, ev, dm, ds, c0, 22, REPEAT)
+    header(kinds, ev, dm, ds, c0, REPEAT_OP, REPEAT)
 }

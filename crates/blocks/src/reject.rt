@@ -1,4 +1,6 @@
 // The rest of a file whose control flow is nested too deep.
+use grammar::kind::CLOSE;
+use grammar::kind::ERROR;
 use grammar::message::BlockMessage;
 use grammar::message::Message;
 use parser::cursor::Cursor;
@@ -19,10 +21,10 @@ pub fn reject_excessive_control_flow_nesting(
 ) -> Cursor
     ensures { λ r. ⌜ Ran (now (kinds .entry)) reject (entry ev dm ds c0) (exit ev dm ds r) ⌝ }
 {
-    let a = put(ev, c0, 1);
+    let a = put(ev, c0, ERROR);
     let mut c = error_here(dm, ds, a, Message::Block(BlockMessage::NestingTooDeep));
     while !eof(kinds, c.pos) {
         c = bump(kinds, ev, dm, ds, c);
     }
-    put(ev, c, 0)
+    put(ev, c, CLOSE)
 }

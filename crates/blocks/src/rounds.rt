@@ -7,6 +7,8 @@ use crate::step::take;
 use grammar::block::BlockOwner;
 use grammar::block::BlockParseOutcome;
 use grammar::block::Terminators;
+use grammar::kind::BLOCK;
+use grammar::kind::CLOSE;
 use parser::bump::bump_regular_trivia;
 use parser::cursor::Cursor;
 use parser::cursor::put;
@@ -48,7 +50,7 @@ fn form_here(
 {
     if MAX_CONTROL_FLOW_NESTING <= depth {
         let d = reject_excessive_control_flow_nesting(kinds, ev, dm, ds, c0);
-        let e = put(ev, d, 0);
+        let e = put(ev, d, CLOSE);
         return Stopped {
             c: e,
             control: false,
@@ -134,7 +136,7 @@ pub fn first_rounds(
     ensures { λ r. ⌜ Begun (now (kinds .entry)) (place .owner) (place .terminators) (place .depth)
         (entry ev dm ds c0) (exit ev dm ds (r .c)) (r .outcome) (r .item) (r .control) (r .word) ⌝ }
 {
-    let c = put(ev, c0, 18);
+    let c = put(ev, c0, BLOCK);
     rounds(kinds, ev, dm, ds, c, place, false)
 }
 

@@ -1,5 +1,6 @@
 // The suffixes of a structured header: a dot, and a group, a name, a number or a text behind it.
 use forms::path::parse_balanced_group;
+use grammar::kind::DOT;
 use grammar::message::BlockMessage;
 use grammar::message::Message;
 use parser::bump::bump_inline_whitespace;
@@ -58,7 +59,7 @@ fn suffix_round(kinds: &[u16], ev: &mut [u16], dm: &mut [u16], ds: &mut [u32], c
     ensures { λ r. ⌜ RanTo (now (kinds .entry)) suffix-round (entry ev dm ds c0) (exit ev dm ds (r .c)) (r .ok) ⌝ }
 {
     let a = bump_inline_whitespace(kinds, ev, dm, ds, c0);
-    if !at_kind(kinds, a.pos, 41) {
+    if !at_kind(kinds, a.pos, DOT) {
         return Flow { c: a, ok: false };
     }
     let b = bump(kinds, ev, dm, ds, a);

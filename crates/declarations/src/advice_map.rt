@@ -2,6 +2,8 @@
 use crate::parts::keyword_and_name;
 use crate::parts::optional_parens;
 use crate::parts::value_line;
+use grammar::kind::ADVICE_MAP;
+use grammar::kind::CLOSE;
 use grammar::message::ItemMessage;
 use grammar::message::Message;
 use parser::bump::bump_inline_whitespace;
@@ -10,8 +12,6 @@ use parser::cursor::put;
 use parser::kinds::ADV_MAP;
 ghost use Rattle.grammar.specs.Item.{parse-advice-map};
 ghost use Rattle.parser.specs.Rep.{entry, exit, Ran};
-
-const ADVICE_MAP: u16 = 12;
 
 pub fn parse_advice_map(
     kinds: &[u16],
@@ -50,5 +50,5 @@ pub fn parse_advice_map(
         e,
         Message::Item(ItemMessage::ExpectedAdviceMapEqual),
     );
-    put(ev, f, 0)
+    put(ev, f, CLOSE)
 }

@@ -1,6 +1,9 @@
 // Attributes, before a procedure.
 use crate::parts::keyword_and_name;
 use crate::parts::optional_parens;
+use grammar::kind::AT;
+use grammar::kind::ATTRIBUTE;
+use grammar::kind::CLOSE;
 use grammar::message::Message;
 use grammar::message::ProcedureMessage;
 use parser::bump::bump_inline_whitespace;
@@ -12,10 +15,6 @@ use parser::look::at_kind;
 ghost use Rattle.grammar.specs.Run.{loop};
 ghost use Rattle.grammar.specs.Item.{parse-attribute, attribute-round};
 ghost use Rattle.parser.specs.Rep.{entry, exit, Ran, RanTo};
-
-const ATTRIBUTE: u16 = 15;
-
-const AT: u16 = 36;
 
 pub fn parse_attribute(
     kinds: &[u16],
@@ -46,7 +45,7 @@ pub fn parse_attribute(
         d,
         Message::Procedure(ProcedureMessage::ExpectedAttributeEnd),
     );
-    put(ev, e, 0)
+    put(ev, e, CLOSE)
 }
 
 // Whether an attribute was there.

@@ -2,6 +2,8 @@
 use crate::parts::keyword_and_name;
 use crate::parts::value_line;
 use crate::visibility::optional_visibility;
+use grammar::kind::CLOSE;
+use grammar::kind::CONSTANT;
 use grammar::message::ItemMessage;
 use grammar::message::Message;
 use parser::cursor::Cursor;
@@ -9,8 +11,6 @@ use parser::cursor::put;
 use parser::kinds::CONST;
 ghost use Rattle.grammar.specs.Item.{parse-constant};
 ghost use Rattle.parser.specs.Rep.{entry, exit, Ran};
-
-const CONSTANT: u16 = 10;
 
 pub fn parse_constant(
     kinds: &[u16],
@@ -41,5 +41,5 @@ pub fn parse_constant(
         d,
         Message::Item(ItemMessage::ExpectedConstantEqual),
     );
-    put(ev, e, 0)
+    put(ev, e, CLOSE)
 }

@@ -1,6 +1,8 @@
 // A namespace.
 use forms::line::parse_line_tail;
 use forms::path::parse_path_with_message;
+use grammar::kind;
+use grammar::kind::CLOSE;
 use grammar::message::ItemMessage;
 use grammar::message::Message;
 use parser::bump::bump_regular_trivia;
@@ -11,9 +13,6 @@ use parser::kinds::NAMESPACE;
 ghost use Rattle.grammar.specs.Item.{parse-namespace};
 ghost use Rattle.parser.specs.Rep.{entry, exit, Ran};
 
-// The node's kind; NAMESPACE is the word.
-const NAMESPACE_NODE: u16 = 4;
-
 pub fn parse_namespace(
     kinds: &[u16],
     ev: &mut [u16],
@@ -23,7 +22,7 @@ pub fn parse_namespace(
 ) -> Cursor
     ensures { λ r. ⌜ Ran (now (kinds .entry)) parse-namespace (entry ev dm ds c0) (exit ev dm ds r) ⌝ }
 {
-    let a = put(ev, c0, NAMESPACE_NODE);
+    let a = put(ev, c0, kind::NAMESPACE);
     let b = expect_kind(kinds, ev, dm, ds, a, NAMESPACE, Message::Unreached);
     let bc = b.c;
     let d = bump_regular_trivia(kinds, ev, dm, ds, bc);
@@ -36,5 +35,5 @@ pub fn parse_namespace(
         Message::Item(ItemMessage::ExpectedNamespacePath),
     );
     let f = parse_line_tail(kinds, ev, dm, ds, e);
-    put(ev, f, 0)
+    put(ev, f, CLOSE)
 }

@@ -2,6 +2,9 @@
 use forms::line::parse_expr_until_line_end;
 use forms::line::parse_line_tail;
 use forms::path::parse_balanced_group;
+use grammar::kind::EQUAL;
+use grammar::kind::L_PAREN;
+use grammar::kind::R_PAREN;
 use grammar::message::Message;
 use parser::bump::bump_regular_trivia;
 use parser::bump::expect_kind;
@@ -10,12 +13,6 @@ use parser::cursor::Cursor;
 use parser::look::at_kind;
 ghost use Rattle.parser.specs.Rep.{entry, exit, Ran};
 ghost use Rattle.declarations.specs.Parts.{keyword-and-name, optional-parens, value-line};
-
-const EQUAL: u16 = 44;
-
-pub const L_PAREN: u16 = 48;
-
-pub const R_PAREN: u16 = 55;
 
 // A token that must be there, and a name behind it.
 pub fn keyword_and_name(

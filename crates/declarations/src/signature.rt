@@ -1,8 +1,11 @@
 // A procedure's signature.
-use crate::parts::L_PAREN;
-use crate::parts::R_PAREN;
 use forms::line::parse_signature_result_until_line_end;
 use forms::path::parse_balanced_group;
+use grammar::kind::CLOSE;
+use grammar::kind::L_PAREN;
+use grammar::kind::R_ARROW;
+use grammar::kind::R_PAREN;
+use grammar::kind::SIGNATURE;
 use grammar::message::Message;
 use grammar::message::ProcedureMessage;
 use parser::bump::bump_non_comment_trivia;
@@ -13,10 +16,6 @@ use parser::look::at_kind;
 use parser::look::peek_after_non_comment_trivia;
 ghost use Rattle.grammar.specs.Item.{parse-results, parse-signature};
 ghost use Rattle.parser.specs.Rep.{entry, exit, Ran};
-
-const SIGNATURE: u16 = 17;
-
-const R_ARROW: u16 = 52;
 
 // parse_signature, behind the arrow
 fn parse_results(
@@ -69,7 +68,7 @@ pub fn parse_signature(
     let next = peek_after_non_comment_trivia(kinds, b.pos);
     if at_kind(kinds, next, R_ARROW) {
         let d = parse_results(kinds, ev, dm, ds, b);
-        return put(ev, d, 0);
+        return put(ev, d, CLOSE);
     }
-    put(ev, b, 0)
+    put(ev, b, CLOSE)
 }

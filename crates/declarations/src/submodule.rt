@@ -2,6 +2,8 @@
 use crate::parts::keyword_and_name;
 use crate::visibility::optional_visibility;
 use forms::line::parse_line_tail;
+use grammar::kind::CLOSE;
+use grammar::kind::SUBMODULE;
 use grammar::message::ItemMessage;
 use grammar::message::Message;
 use parser::cursor::Cursor;
@@ -9,8 +11,6 @@ use parser::cursor::put;
 use parser::kinds::MOD;
 ghost use Rattle.grammar.specs.Item.{parse-submodule};
 ghost use Rattle.parser.specs.Rep.{entry, exit, Ran};
-
-const SUBMODULE: u16 = 6;
 
 pub fn parse_submodule(
     kinds: &[u16],
@@ -34,5 +34,5 @@ pub fn parse_submodule(
         Message::Item(ItemMessage::ExpectedSubmoduleName),
     );
     let e = parse_line_tail(kinds, ev, dm, ds, d);
-    put(ev, e, 0)
+    put(ev, e, CLOSE)
 }

@@ -1,5 +1,9 @@
 // A type declaration.
 use crate::visibility::optional_visibility;
+use grammar::kind::CLOSE;
+use grammar::kind::NEWLINE;
+use grammar::kind::TYPE_BODY;
+use grammar::kind::TYPE_DECL;
 use grammar::message::ItemMessage;
 use grammar::message::Message;
 use grammar::nesting::Nesting;
@@ -26,12 +30,6 @@ ghost use Rattle.grammar.specs.Item.{type-name-and-body, parse-type-decl};
 ghost use Rattle.parser.specs.Rep.{entry, exit, Ran};
 ghost use Rattle.parser.specs.Ahead.{BreakKnown};
 ghost use Rattle.declarations.specs.Parts.{type-keyword, type-ends};
-
-const TYPE_DECL: u16 = 11;
-
-const TYPE_BODY: u16 = 26;
-
-const NEWLINE: u16 = 28;
 
 // `type` and `enum`
 const TYPE_WORDS: u64 = 0x8080;
@@ -102,7 +100,7 @@ pub fn parse_type_body(
 {
     let a = put(ev, c0, TYPE_BODY);
     let b = type_tokens(kinds, ev, dm, ds, a);
-    put(ev, b, 0)
+    put(ev, b, CLOSE)
 }
 
 // parse_type_decl, behind `type` or `enum`
@@ -160,5 +158,5 @@ pub fn parse_type_decl(
     let b = optional_visibility(kinds, ev, dm, ds, a);
     let d = bump_regular_trivia(kinds, ev, dm, ds, b);
     let e = type_keyword(kinds, ev, dm, ds, d);
-    put(ev, e, 0)
+    put(ev, e, CLOSE)
 }

@@ -1,6 +1,8 @@
 // A visibility: `pub`, and `package` in parentheses behind it.
-use crate::parts::L_PAREN;
-use crate::parts::R_PAREN;
+use grammar::kind::CLOSE;
+use grammar::kind::L_PAREN;
+use grammar::kind::R_PAREN;
+use grammar::kind::VISIBILITY;
 use grammar::message::Message;
 use grammar::message::ProcedureMessage;
 use parser::bump::bump_regular_trivia;
@@ -14,8 +16,6 @@ use parser::look::at_kind;
 use parser::look::next_relevant_top_level_token;
 ghost use Rattle.grammar.specs.Item.{package-in-parens, parse-visibility, optional-visibility};
 ghost use Rattle.parser.specs.Rep.{entry, exit, Ran};
-
-const VISIBILITY: u16 = 16;
 
 // parse_visibility, at its parentheses
 fn package_in_parens(
@@ -66,9 +66,9 @@ pub fn parse_visibility(
     let next = next_relevant_top_level_token(kinds, bc.pos);
     if at_kind(kinds, next, L_PAREN) {
         let d = package_in_parens(kinds, ev, dm, ds, bc);
-        return put(ev, d, 0);
+        return put(ev, d, CLOSE);
     }
-    put(ev, bc, 0)
+    put(ev, bc, CLOSE)
 }
 
 // if at_keyword("pub") { parse_visibility }

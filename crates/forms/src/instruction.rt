@@ -1,12 +1,16 @@
 // Instructions.
 use crate::line::LINE_END;
 use grammar::block::Terminators;
+use grammar::kind::CLOSE;
+use grammar::kind::INSTRUCTION;
+use grammar::kind::WHITESPACE;
 use grammar::nesting::Nesting;
 use grammar::nesting::Significant;
 use parser::cursor::Cursor;
 use parser::cursor::bump;
 use parser::cursor::bump_plain;
 use parser::cursor::put;
+use parser::kinds::CONTROL_FLOW;
 use parser::kinds::expects_continuation_operand;
 use parser::kinds::in_set;
 use parser::kinds::in_words;
@@ -28,17 +32,12 @@ ghost use Rattle.grammar.specs.Words.{is};
 ghost use Rattle.grammar.specs.Look.{at};
 ghost use Rattle.grammar.specs.Run.{scan};
 ghost use Rattle.grammar.specs.Nesting.{default};
-ghost use Rattle.grammar.specs.Instruction.{is-some, expects-operand, should-continue-instruction-after-whitespace as shouldContinue, should-stop-instruction-before as shouldStop, instruction-round, before-first, parse-instruction};
+ghost use Rattle.grammar.specs.Instruction.{is-some, expects-operand, should-continue-instruction-after-whitespace as shouldContinue};
+ghost use Rattle.grammar.specs.Instruction.{should-stop-instruction-before as shouldStop, instruction-round, before-first};
+ghost use Rattle.grammar.specs.Instruction.{parse-instruction};
 ghost use Rattle.parser.specs.Rep.{entry, exit, Ran};
 ghost use Rattle.grammar.specs.declared.nesting.Significant.the-variants.{Kind};
 ghost use Rattle.forms.specs.Instruction.{starts-next, instruction-ends, behind, open-behind, Led};
-
-const INSTRUCTION: u16 = 23;
-
-const WHITESPACE: u16 = 27;
-
-// `if`, `do`, `while`, `repeat`
-const CONTROL_FLOW: u64 = 0x14110;
 
 fn is_some(previous: Significant) -> bool
     ensures { λ r. ⌜ r ≡ is-some previous ⌝ }
@@ -256,5 +255,5 @@ pub fn parse_instruction(
 {
     let a = put(ev, c0, INSTRUCTION);
     let b = instruction_tokens(kinds, ev, dm, ds, a);
-    put(ev, b, 0)
+    put(ev, b, CLOSE)
 }

@@ -1,4 +1,8 @@
 // Line forms: what runs to the end of a line.
+use grammar::kind::CLOSE;
+use grammar::kind::COMMENT;
+use grammar::kind::EXPR;
+use grammar::kind::WHITESPACE;
 use grammar::message::Message;
 use grammar::message::ProcedureMessage;
 use grammar::nesting::Nesting;
@@ -21,15 +25,10 @@ ghost use Prim.Native.Nat.{_≤_};
 ghost use lib.ListN.{length, drop};
 ghost use Rattle.grammar.specs.Look.{is-trivia};
 ghost use Rattle.grammar.specs.Run.{scan};
-ghost use Rattle.grammar.specs.Line.{parse-line-tail, expr-round, no-token, parse-expr-until-line-end, parse-signature-result-until-line-end};
+ghost use Rattle.grammar.specs.Line.{parse-line-tail, expr-round, no-token, parse-expr-until-line-end};
+ghost use Rattle.grammar.specs.Line.{parse-signature-result-until-line-end};
 ghost use Rattle.parser.specs.Rep.{entry, exit, Ran};
 ghost use Rattle.forms.specs.Line.{line-ends, expr-ends, result-end};
-
-const EXPR: u16 = 25;
-
-const WHITESPACE: u16 = 27;
-
-const COMMENT: u16 = 29;
 
 // Newline, Comment, DocComment
 pub const LINE_END: u64 = 0x70000000;
@@ -125,7 +124,7 @@ pub fn parse_expr_until_line_end(
     let a = bump_regular_trivia(kinds, ev, dm, ds, c0);
     let b = put(ev, a, EXPR);
     let d = expr_tokens(kinds, ev, dm, ds, b);
-    put(ev, d, 0)
+    put(ev, d, CLOSE)
 }
 
 // A result type must have a token.

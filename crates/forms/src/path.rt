@@ -1,4 +1,7 @@
 // Paths, and groups between delimiters.
+use grammar::kind::CLOSE;
+use grammar::kind::COLON_COLON;
+use grammar::kind::PATH;
 use grammar::message::ItemMessage;
 use grammar::message::Message;
 use parser::bump::bump_at;
@@ -21,10 +24,6 @@ ghost use Rattle.grammar.specs.Run.{loop};
 ghost use Rattle.grammar.specs.Path.{path-segment, path-round, parse-path-with-message, parse-balanced-group};
 ghost use Rattle.parser.specs.Rep.{entry, exit, Ran, RanTo};
 ghost use Rattle.forms.specs.Path.{path-names, group-step, group-rest};
-
-const PATH: u16 = 24;
-
-const COLON_COLON: u16 = 39;
 
 // A further segment of a path, at its `::`.
 fn path_segment(kinds: &[u16], ev: &mut [u16], dm: &mut [u16], ds: &mut [u32], c0: Cursor) -> Flow
@@ -97,7 +96,7 @@ pub fn parse_path_with_message(
     let b = bump_at(kinds, ev, dm, ds, a, COLON_COLON);
     let d = bump_non_comment_trivia(kinds, ev, dm, ds, b);
     let e = path_names(kinds, ev, dm, ds, d, m);
-    put(ev, e, 0)
+    put(ev, e, CLOSE)
 }
 
 // How many delimiters of this kind are open behind the token k.

@@ -1,7 +1,14 @@
 // Delimiter counts: parser.rs's Nesting, and what its bump hands back.
+use crate::kind::L_BRACE;
+use crate::kind::L_BRACKET;
+use crate::kind::L_PAREN;
+use crate::kind::R_BRACE;
+use crate::kind::R_BRACKET;
+use crate::kind::R_PAREN;
 ghost use mathlib.Core.Path.{_≡_};
 ghost use Prim.Native.Nat.{_<_, _^_};
-ghost use Rattle.grammar.specs.Nesting.{default, is-root, open-paren, open-bracket, open-brace, close-paren, close-bracket, close-brace, bump-by, Below};
+ghost use Rattle.grammar.specs.Nesting.{default, is-root, open-paren, open-bracket, open-brace, close-paren, close-bracket};
+ghost use Rattle.grammar.specs.Nesting.{close-brace, bump-by, Below};
 
 pub enum Closer {
     Paren,
@@ -26,18 +33,6 @@ pub enum Significant {
     Nothing,
     Kind(u16),
 }
-
-const L_BRACE: u16 = 46;
-
-const L_BRACKET: u16 = 47;
-
-const L_PAREN: u16 = 48;
-
-const R_BRACE: u16 = 53;
-
-const R_BRACKET: u16 = 54;
-
-const R_PAREN: u16 = 55;
 
 impl Nesting {
     // Nesting::default

@@ -1,4 +1,6 @@
 // Which item starts at a token.
+use grammar::kind::AT;
+use grammar::kind::DOC_COMMENT;
 use parser::kinds::ADV_MAP;
 use parser::kinds::BEGIN;
 use parser::kinds::CONST;
@@ -14,10 +16,6 @@ ghost use mathlib.Core.Path.{_≡_};
 ghost use Prim.Native.Nat.{_≤_};
 ghost use lib.ListN.{length, drop};
 ghost use Rattle.items.specs.Arms.{arm-of, declared-arm as declaredArm};
-
-const DOC_COMMENT: u16 = 30;
-
-const AT: u16 = 36;
 
 // The arms of parse_source_item.
 pub enum Arm {

@@ -1,5 +1,7 @@
 // The whole file.
 use crate::item::parse_source_item;
+use grammar::kind::CLOSE;
+use grammar::kind::SOURCE_FILE;
 use parser::bump::bump_regular_trivia;
 use parser::cursor::Cursor;
 use parser::cursor::put;
@@ -10,8 +12,6 @@ ghost use Rattle.grammar.specs.Block.{MAX-CONTROL-FLOW-NESTING as limit};
 ghost use Rattle.grammar.specs.Item.{items-in};
 ghost use Rattle.parser.specs.Rep.{entry, exit, Ran};
 ghost use Rattle.items.specs.Entry.{start, Parsed};
-
-const SOURCE_FILE: u16 = 2;
 
 // parse's loop; trivia behind an item is taken at once.
 fn source_items(kinds: &[u16], ev: &mut [u16], dm: &mut [u16], ds: &mut [u32], c0: Cursor) -> Cursor
@@ -37,5 +37,5 @@ pub fn parse(kinds: &[u16], ev: &mut [u16], dm: &mut [u16], ds: &mut [u32]) -> C
     };
     let a = put(ev, start, SOURCE_FILE);
     let b = source_items(kinds, ev, dm, ds, a);
-    put(ev, b, 0)
+    put(ev, b, CLOSE)
 }

@@ -8,6 +8,8 @@ use declarations::constant::parse_constant;
 use declarations::namespace::parse_namespace;
 use declarations::submodule::parse_submodule;
 use declarations::type_decl::parse_type_decl;
+use grammar::kind::CLOSE;
+use grammar::kind::DOC;
 use grammar::message::ItemMessage;
 use grammar::message::Message;
 use parser::bump::error_token;
@@ -18,8 +20,6 @@ ghost use Rattle.grammar.specs.Block.{MAX-CONTROL-FLOW-NESTING as limit, parse-
 ghost use Rattle.grammar.specs.Item.{parse-doc-form, parse-source-item};
 ghost use Rattle.parser.specs.Rep.{entry, exit, Ran};
 ghost use Rattle.items.specs.Arms.{by-arm};
-
-const DOC: u16 = 3;
 
 pub fn parse_doc_form(
     kinds: &[u16],
@@ -32,7 +32,7 @@ pub fn parse_doc_form(
 {
     let a = put(ev, c0, DOC);
     let b = bump(kinds, ev, dm, ds, a);
-    put(ev, b, 0)
+    put(ev, b, CLOSE)
 }
 
 // What the arm does.

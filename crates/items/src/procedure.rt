@@ -2,13 +2,16 @@
 use blocks::block::parse_block;
 use blocks::close::found_terminator;
 use declarations::attribute::attributes;
-use declarations::parts::L_PAREN;
 use declarations::signature::parse_signature;
 use declarations::visibility::optional_visibility;
 use forms::line::parse_line_tail;
 use grammar::block::BlockOwner;
 use grammar::block::BlockParseOutcome;
 use grammar::block::Terminators;
+use grammar::kind::BEGIN_BLOCK;
+use grammar::kind::CLOSE;
+use grammar::kind::L_PAREN;
+use grammar::kind::PROCEDURE;
 use grammar::message::Message;
 use grammar::message::ProcedureMessage;
 use parser::bump::bump_regular_trivia;
@@ -25,10 +28,6 @@ ghost use Rattle.grammar.specs.Block.{MAX-CONTROL-FLOW-NESTING as limit, closin
 ghost use Rattle.grammar.specs.Item.{procedure-body, parse-procedure, parse-begin-block};
 ghost use Rattle.parser.specs.Rep.{entry, exit, Ran, RanTo};
 ghost use Rattle.items.specs.Procedure.{optional-signature, procedure-header, procedure-lead};
-
-const BEGIN_BLOCK: u16 = 13;
-
-const PROCEDURE: u16 = 14;
 
 // if outcome == FoundTerminator { expect_keyword("end", owner.missing_end_message()) }
 fn closing(
@@ -146,10 +145,10 @@ pub fn parse_procedure(
     let b = procedure_lead(kinds, ev, dm, ds, a);
     let bc = b.c;
     if !b.ok {
-        return put(ev, bc, 0);
+        return put(ev, bc, CLOSE);
     }
     let d = procedure_body(kinds, ev, dm, ds, bc);
-    put(ev, d, 0)
+    put(ev, d, CLOSE)
 }
 
 // A keyword, the rest of the line and the block.
@@ -170,5 +169,5 @@ pub fn parse_begin_block(
     let f = e.c;
     let outcome = e.outcome;
     let g = closing(kinds, ev, dm, ds, f, BlockOwner::Begin, outcome);
-    put(ev, g, 0)
+    put(ev, g, CLOSE)
 }

@@ -13,6 +13,8 @@ use crate::kinds::is_regular_trivia;
 use crate::kinds::is_trivia_to;
 use crate::look::at_kind;
 use crate::look::current;
+use grammar::kind::CLOSE;
+use grammar::kind::ERROR;
 use grammar::message::Message;
 ghost use mathlib.Core.Path.{_≡_};
 ghost use mathlib.Core.Bool.{true, false};
@@ -150,10 +152,10 @@ pub fn error_token(
 ) -> Cursor
     ensures { λ r. ⌜ Ran (now (kinds .entry)) (error-token m) (entry ev dm ds c0) (exit ev dm ds r) ⌝ }
 {
-    let a = put(ev, c0, 1);
+    let a = put(ev, c0, ERROR);
     let b = error_here(dm, ds, a, m);
     let d = bump(kinds, ev, dm, ds, b);
-    put(ev, d, 0)
+    put(ev, d, CLOSE)
 }
 
 // if at_kind(k) { bump }

@@ -1,4 +1,8 @@
 // The cursor goes by value; events and diagnostics are written while there is room, and counted on.
+use grammar::kind::ERROR;
+use grammar::kind::ERROR_TOKEN;
+use grammar::kind::IDENT;
+use grammar::kind::WHITESPACE;
 use grammar::message::Message;
 use grammar::message::number;
 use room::set_u16;
@@ -71,10 +75,10 @@ fn event_of(k: u16) -> u16
     ensures { λ r. ⌜ r ≡ kind k ⌝ }
 {
     if 256 <= k {
-        return 31;
+        return IDENT;
     }
-    if k < 27 {
-        return 60;
+    if k < WHITESPACE {
+        return ERROR_TOKEN;
     }
     k
 }
@@ -100,9 +104,9 @@ pub fn bump(kinds: &[u16], ev: &mut [u16], dm: &mut [u16], ds: &mut [u32], c: Cu
     if p < kinds.len() {
         let k = kinds[p];
         let next = p + 1;
-        if k == 1 {
+        if k == ERROR {
             let a = error_here(dm, ds, c, Message::UnrecognizedToken);
-            let b = put(ev, a, 60);
+            let b = put(ev, a, ERROR_TOKEN);
             return Cursor {
                 pos: next,
                 events: b.events,

@@ -1,6 +1,10 @@
 // Classes of tokens. A token is its kind, and for an Ident that is one of the words 256 times the word's number more.
+use grammar::kind::IDENT;
+use grammar::kind::WHITESPACE;
 ghost use mathlib.Core.Path.{_≡_};
-ghost use Rattle.grammar.specs.Look.{regular-trivia, is-trivia, non-comment-trivia, name-like, is-reserved-block-keyword, expects-continuation-operand as expectsOperand, punctuation-continues-instruction as continues, starts-instruction as startsInstruction};
+ghost use Rattle.grammar.specs.Look.{regular-trivia, is-trivia, non-comment-trivia, name-like, is-reserved-block-keyword};
+ghost use Rattle.grammar.specs.Look.{expects-continuation-operand as expectsOperand, punctuation-continues-instruction as continues};
+ghost use Rattle.grammar.specs.Look.{starts-instruction as startsInstruction};
 ghost use Rattle.parser.specs.Sets.{bit, word-bit, trivia-to};
 ghost use Rattle.parser.specs.Ahead.{starter};
 
@@ -59,6 +63,9 @@ pub const STARTERS: u64 = 0x968e;
 
 pub const DECLARED: u64 = 0x9288;
 
+// The words of the control forms.
+pub const CONTROL_FLOW: u64 = 0x14110;
+
 pub const RESERVED: u64 = 0x1f7fe;
 
 // Whether the bit is set.
@@ -75,7 +82,7 @@ pub fn in_set(mask: u64, k: u16) -> bool
 pub fn is_trivia_to(last: u16, k: u16) -> bool
     ensures { λ r. ⌜ r ≡ trivia-to last k ⌝ }
 {
-    27 <= k && k <= last
+    WHITESPACE <= k && k <= last
 }
 
 // Whitespace, Newline, Comment
@@ -121,7 +128,7 @@ pub fn is_name_like(k: u16) -> bool
 pub fn in_words(mask: u64, k: u16) -> bool
     ensures { λ r. ⌜ r ≡ word-bit mask k ⌝ }
 {
-    k % 256 == 31 && in_set(mask, k / 256)
+    k % 256 == IDENT && in_set(mask, k / 256)
 }
 
 // All words but `package`

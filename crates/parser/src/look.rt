@@ -12,14 +12,20 @@ use crate::kinds::in_words;
 use crate::kinds::is_trivia_to;
 use crate::kinds::starts_item;
 use grammar::block::Terminators;
+use grammar::kind::DOT;
+use grammar::kind::L_PAREN;
+use grammar::kind::R_PAREN;
 ghost use mathlib.Core.Path.{_≡_};
 ghost use mathlib.Core.Bool.{true};
 ghost use lib.ListN.{drop};
 ghost use Rattle.lexer.specs.Syntax.{Whitespace, Newline, DocComment, RParen};
 ghost use Rattle.grammar.specs.Words.{is};
-ghost use Rattle.grammar.specs.Look.{regular-trivia, is-trivia, non-comment-trivia, at, current as currentOf, eof as eofOf, skip as skipOf, past, anyone};
-ghost use Rattle.grammar.specs.Look.{next-token-after-visibility as afterVisibility, is-top-level-starter as starterOf, at-bare-while as bareWhile, at-terminator as atTerminator, at-stray-else as strayElse};
-ghost use Rattle.grammar.specs.Look.{line-break-starts-new-top-level-item as lineBreakStarts, at-top-level-form-starter-in-block as starterInBlock};
+ghost use Rattle.grammar.specs.Look.{regular-trivia, is-trivia, non-comment-trivia, at, current as currentOf, eof as eofOf};
+ghost use Rattle.grammar.specs.Look.{skip as skipOf, past, anyone};
+ghost use Rattle.grammar.specs.Look.{next-token-after-visibility as afterVisibility, is-top-level-starter as starterOf};
+ghost use Rattle.grammar.specs.Look.{at-bare-while as bareWhile, at-terminator as atTerminator, at-stray-else as strayElse};
+ghost use Rattle.grammar.specs.Look.{line-break-starts-new-top-level-item as lineBreakStarts};
+ghost use Rattle.grammar.specs.Look.{at-top-level-form-starter-in-block as starterInBlock};
 ghost use Rattle.parser.specs.Sets.{trivia-to};
 ghost use Rattle.parser.specs.Ahead.{Found, declared as declaredOf, BreakKnown, DocKnown};
 
@@ -95,13 +101,14 @@ pub fn peek_after_non_comment_trivia(kinds: &[u16], p: usize) -> usize
 
 // Inside the parentheses of a visibility: any one token, the closer, and then the token after it.
 fn after_inside(kinds: &[u16], p: usize) -> usize
-    ensures { λ r. ⌜ Found (now (kinds .entry)) p r (skipOf regular-trivia (past (is RParen) (skipOf regular-trivia (past anyone (drop p (now (kinds .entry))))))) ⌝ }
+    ensures { λ r. ⌜ Found (now (kinds .entry)) p r (skipOf regular-trivia
+        (past (is RParen) (skipOf regular-trivia (past anyone (drop p (now (kinds .entry))))))) ⌝ }
 {
     if kinds.len() <= p {
         return p;
     }
     let closer = next_relevant_top_level_token(kinds, p + 1);
-    if !at_kind(kinds, closer, 55) {
+    if !at_kind(kinds, closer, R_PAREN) {
         return kinds.len();
     }
     next_relevant_top_level_token(kinds, closer + 1)
@@ -112,7 +119,7 @@ pub fn next_token_after_visibility(kinds: &[u16], p: usize) -> usize
     ensures { λ r. ⌜ Found (now (kinds .entry)) p r (afterVisibility (drop p (now (kinds .entry)))) ⌝ }
 {
     let next = next_relevant_top_level_token(kinds, p);
-    if !at_kind(kinds, next, 48) {
+    if !at_kind(kinds, next, L_PAREN) {
         return next;
     }
     let inside = next_relevant_top_level_token(kinds, next + 1);
@@ -143,7 +150,7 @@ pub fn is_top_level_starter(kinds: &[u16], p: usize) -> bool
 pub fn at_bare_while(kinds: &[u16], p: usize) -> bool
     ensures { λ r. ⌜ r ≡ bareWhile (drop p (now (kinds .entry))) ⌝ }
 {
-    at_kind(kinds, p, WHILE) && !at_kind(kinds, p + 1, 41)
+    at_kind(kinds, p, WHILE) && !at_kind(kinds, p + 1, DOT)
 }
 
 pub fn at_terminator(kinds: &[u16], p: usize, terminators: Terminators) -> bool

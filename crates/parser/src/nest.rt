@@ -22,7 +22,8 @@ pub fn bump_nesting(
     kind: u16,
 ) -> Nested
     requires { ⌜ Below (2 ^ 63) nesting ⌝ }
-    ensures { λ r. ⌜ Counted nesting kind (now (dm .entry)) (now (ds .entry)) c (now (dm .exit)) (now (ds .exit)) (r .c) (r .nesting) ⌝ }
+    ensures { λ r. ⌜ Counted nesting kind (now (dm .entry)) (now (ds .entry)) c
+        (now (dm .exit)) (now (ds .exit)) (r .c) (r .nesting) ⌝ }
 {
     let b = nesting.bump(kind);
     match b {
