@@ -74,6 +74,8 @@ def signatures(path):
 
 # ---- A statement.
 
+OPERATORS = {">>=": "_>>=_", ">>": "_>>_"}
+
 
 def tree(text):
     """The words of a type, brackets as lists."""
@@ -101,11 +103,12 @@ def split(words, *at):
 
 
 def names(words):
+    """The names in an expression, without the modules before them and without fields."""
     for word in words:
-        if isinstance(word, str):
-            yield word
-        else:
+        if isinstance(word, list):
             yield from names(word)
+        elif not word.startswith("."):
+            yield OPERATORS.get(word, word.rpartition(".")[2])
 
 
 def functions_of(words, defined, ways):
@@ -115,7 +118,7 @@ def functions_of(words, defined, ways):
     if not words:
         return []
     if ">>=" in words or ">>" in words:
-        way, pieces = "_>>=_" if ">>=" in words else "_>>_", split(words, ">>=", ">>")
+        way, pieces = OPERATORS[">>=" if ">>=" in words else ">>"], split(words, *OPERATORS)
     elif words[0] == "if":
         way, pieces = "if_then_else_", split(words[1:], "then", "else")[1:]
     elif isinstance(words[0], list):
@@ -183,7 +186,7 @@ class Index:
         for sweep in self.sweeps:
             if law.name.startswith(sweep.start) and any(word in sweep.properties for words in premises for word in words):
                 return sweep, [name for name in found if name not in ("at", "past", "skip", "anyone")] or found
-        return None, found if law.public else []
+        return None, found if law.public or law.name.startswith(tuple(sweep.start for sweep in self.sweeps)) else []
 
     def check_sweeps(self):
         told = [name for sweep in self.sweeps for name in sweep.properties]
