@@ -1,7 +1,6 @@
 """The table of must-fail edits in docs/PROOFS.md.
 
-Faults: an edit of crates/*/must-fail is in no row; a row names one that no crate has; a row names one that its crate does not have
-(an edit whose name several crates have stands as crate/name).
+Faults: an edit of crates/*/must-fail is in no row of its crate; a row names an edit that its crate does not have.
 """
 import glob
 import re
