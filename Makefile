@@ -46,7 +46,7 @@ fuzz:
 	tests/fuzz/run $(SECONDS) $(JOBS)
 	cd tests && cargo run --offline --release --bin fuzz -- --seed $(SEED) --seconds $(SECONDS)
 
-# Instructions on sources of n and 2n bytes, 32 families (docs/PERFORMANCE.md). Needs valgrind.
+# Instructions on sources of n and 2n bytes (docs/PERFORMANCE.md). Needs valgrind.
 growth:
 	rt check readings
 	cd tests && cargo run --offline --release --bin growth -- --program ../target/bin/readings --markdown
@@ -81,6 +81,7 @@ LOG ?= target/ci.log
 economy:
 	tests/economy/run $(LOG)
 
-# The table of docs/FUNCTIONS.md against the Rust sources and the files that it names. Needs python3.
+# docs/FUNCTIONS.md, and the edits in docs/PROOFS.md, against the Rust sources and the crates; `tests/index/run --write` writes the tables
+# of laws anew. Needs python3.
 index:
 	tests/index/run
