@@ -8,7 +8,7 @@ use lib.ListN.{length}
 use Rattle.lexer.specs.Syntax
 use Rattle.grammar.specs.Words.{Sym, File, from, is, DO, ELSE, END, IF, REPEAT, WHILE}
 use Rattle.grammar.specs.Look.{oneOf, at, eof, current, name-like, regular-trivia, at-prefixed-keyword, at-bare-while, control-flow, starts-instruction, at-terminator, at-stray-else, at-regular-trivia, is-top-level-starter, at-top-level-form-starter-in-block}
-use Rattle.grammar.specs.Run.{P, Block, leaf, pure, peek, inNode, pick, take, scan, _>>=_, _>>_, if_then_else_}
+use Rattle.grammar.specs.Run.{P, Block, leaf, pure, peek, inNode, pick, take-token, scan, _>>=_, _>>_, if_then_else_}
 use Rattle.grammar.specs.State.{run}
 use Rattle.grammar.specs.declared.block.BlockOwner.{BlockOwner}
 use Rattle.grammar.specs.declared.block.Terminators.{Terminators}
@@ -145,7 +145,7 @@ trivia-arm t r e = rw (at-some regular-trivia r e, trivia-no-end t r e, e)
 
 module _ (limit : ℕ) (owner : BlockOwner) (t : Terminators) (depth : ℕ) where
   trivia-first : (r : List Sym) → block-in limit owner t depth r ≡ (bump-while regular-trivia >> block-in limit owner t depth) r
-  unfolding bump-while while-round scan _>>=_ at by-arm taking take
+  unfolding bump-while while-round scan _>>=_ at by-arm taking take-token
   trivia-first [] = refl
   trivia-first (s ∷ r) = by-test (regular-trivia s) refl (trivia-first r)
     where

@@ -45,7 +45,7 @@ pub record Led {A : Type 0} (F : File) (lead : P A → P A) (w w′ : World) : T
 pub record Lined (F : File) (keyword : Sym) (w w′ : World) : Type 0 where
   pub mid : World
   pub key : Ran F (expect-keyword keyword Message.Unreached) w mid
-  pub tail : Ran F parse-line-tail mid w′
+  pub line : Ran F parse-line-tail mid w′
   pub onward : Onward w w′
   pub past : Past F w w′
 

@@ -6,11 +6,11 @@ use mathlib.Core.List.{List}
 use Rattle.lexer.specs.Syntax.{Whitespace}
 use Rattle.grammar.specs.Words.{Sym, is}
 use Rattle.grammar.specs.Look.{at, at-kind, at-name-like, regular-trivia, non-comment-trivia}
-use Rattle.grammar.specs.Run.{Error, P, pure, inNode, _>>=_, _>>_, if_then_else_, take, err, Round, stop, go, scan}
+use Rattle.grammar.specs.Run.{Error, P, pure, inNode, _>>=_, _>>_, if_then_else_, take-token, err, Round, stop, go, scan}
 use Rattle.grammar.specs.Message.{Message, number}
 
 abbrev pub bump : P Bool
-bump = take
+bump = take-token
 
 -- error_at_eof is the same at the end of the file.
 abbrev pub error-here : Message → P Bool

@@ -60,5 +60,5 @@ unfolding encode bytes Last.last-from Width.width Chars.class Chars.punctuation 
     Look.line-break-starts-new-top-level-item Look.at-block-recovery-boundary Look.at-stray-else Look.at-terminator Look.at-bare-while
     Look.at-top-level-form-starter-in-block Look.is-top-level-starter Look.at-prefixed-keyword Look.next-token-after-visibility Look.past
     Look.skip Look.can-start-operation Look.starts-instruction Look.eof Look.at Look.name-like Look.oneOf Run._>>=_ Run.peek Run.pure
-    Run.inNode Run.take Run.err Run.scan Run.loop Run.repeat
+    Run.inNode Run.take-token Run.err Run.scan Run.loop Run.repeat
 again r = reading Block.MAX-CONTROL-FLOW-NESTING (r .source)

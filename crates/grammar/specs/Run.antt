@@ -1,5 +1,5 @@
 -- What a parser function does: it takes tokens from the front of what is left, and puts out trees and diagnostics.
--- Defines: start_node and finish_node (inNode), bump (take), error_here and error_at_eof (err), and the loops.
+-- Defines: start_node and finish_node (inNode), bump (take-token), error_here and error_at_eof (err), and the loops.
 -- Assumes nothing: these are definitions.
 use Prim.Native.Nat.{ℕ, zero, suc}
 use lib.ListN.{length}
@@ -95,9 +95,9 @@ abbrev pub if_then_else_ : {A : Type 0} → (List Sym → Bool) → P A → P A 
 if t then f else g = peek t >>= λ u. pick u f g
 
 -- bump
-unfoldable pub take : P Bool
-take [] = record { rest = []; out = nil; val = false }
-take (s ∷ r) = record { rest = r; out = leaf s nil; val = true }
+unfoldable pub take-token : P Bool
+take-token [] = record { rest = []; out = nil; val = false }
+take-token (s ∷ r) = record { rest = r; out = leaf s nil; val = true }
 
 -- error_here, error_at_eof, of the message's number
 unfoldable pub err : ℕ → P Bool

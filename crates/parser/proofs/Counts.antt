@@ -9,7 +9,7 @@ use lib.Dec.{eqb}
 use Rattle.lexer.specs.Syntax.{LBrace, LBracket, LParen, RBrace, RBracket, RParen}
 use Rattle.grammar.specs.Words.{Sym, File, from, is}
 use Rattle.grammar.specs.Look
-use Rattle.grammar.specs.Run.{pure, _>>=_, _>>_, take, Round, scan}
+use Rattle.grammar.specs.Run.{pure, _>>=_, _>>_, take-token, Round, scan}
 use Rattle.grammar.specs.declared.message.Message.{Message}
 use Rattle.grammar.specs.Message.{number}
 use Rattle.grammar.specs.declared.nesting.Closer.{Closer}
@@ -64,7 +64,7 @@ below-default b h = record { parens = h; brackets = h; braces = h }
 -- ---- scan
 module _ {L : Type 0} (step : L → List Sym → Round L) where
   counted-eq : (n : Nesting) (locals : Nesting → L) (x : Bumped) (l : L) (r : List Sym) → Look.eof r ≡ false → step l r ≡ counted n locals x
-      → scan step l r ≡ (reported x >> take >> scan step (locals (counts n x))) r
+      → scan step l r ≡ (reported x >> take-token >> scan step (locals (counts n x))) r
   unfolding counted reported counts pure _>>=_
   counted-eq n locals (Bumped.Counts n′) l r z e = scan-go-eq step l (locals n′) r z e
   counted-eq n locals (Bumped.Refused c) l r z e = scan-warn-eq step l (locals n) _ r z e
@@ -72,12 +72,12 @@ module _ {L : Type 0} (step : L → List Sym → Round L) where
   module _ {F : File} {ev dm ds dm′ ds′ : List ℕ} {c c′ : Cursor} {n n′ : Nesting} {k : Sym} where
     -- `locals` makes the loop's locals of the counts
     pub scan-counted : (locals : Nesting → L) (l : L) {l′ : L} {v w′ : World} {a : L} → k ≡ Look.current (from F (c .pos)) → Look.eof (from F (c .pos)) ≡ false
-        → step l (from F (c .pos)) ≡ bump-nesting n (Look.current (from F (c .pos))) locals → Counted n k dm ds c dm′ ds′ c′ n′ → Ran F take (world ev dm′ ds′ c′) v
+        → step l (from F (c .pos)) ≡ bump-nesting n (Look.current (from F (c .pos))) locals → Counted n k dm ds c dm′ ds′ c′ n′ → Ran F take-token (world ev dm′ ds′ c′) v
         → locals n′ ≡ l′ → RanTo F (scan step l′) v w′ a → RanTo F (scan step l) (world ev dm ds c) w′ a
     unfolding bump-nesting
     scan-counted locals l {v} {w′} {a} q z e m t i h =
         let x = bump-by n k in
-        like-to (reported x >> take >> scan step (locals (counts n x))) (counted-eq n locals x l _ z (e ∙ ap (λ j. counted n locals (bump-by n j)) (sym q)))
+        like-to (reported x >> take-token >> scan step (locals (counts n x))) (counted-eq n locals x l _ z (e ∙ ap (λ j. counted n locals (bump-by n j)) (sym q)))
         (m .ran F ev then-to t then-to subst (λ j. RanTo F (scan step j) v w′ a) (sym i ∙ ap locals (m .is)) h)
 
 -- ---- bump_nesting

@@ -9,7 +9,7 @@ use Rattle.grammar.specs.Words.{Sym}
 use Rattle.grammar.specs.Words.{File, from}
 use Rattle.grammar.specs.Look
 use Rattle.grammar.specs.Run
-use Rattle.grammar.specs.Run.{Kind, num, P, pure, peek, inNode, pick, _>>=_, _>>_, if_then_else_, take, scan, Round, stop, go, warn, turn}
+use Rattle.grammar.specs.Run.{Kind, num, P, pure, peek, inNode, pick, _>>=_, _>>_, if_then_else_, take-token, scan, Round, stop, go, warn, turn}
 use Rattle.grammar.specs.Bump.{bump-while}
 use Rattle.grammar.specs.Out.{ev, dg}
 use Rattle.grammar.specs.State.{State, after, run, write}
@@ -194,13 +194,13 @@ module _ {L : Type 0} (step : L → List Sym → Round L) where
   scan-end-eq l [] e = refl
   scan-end-eq l (s ∷ r) e = absurd (false≢true e)
 
-  pub scan-go-eq : (l l′ : L) (r : List Sym) → Look.eof r ≡ false → step l r ≡ go l′ → scan step l r ≡ (take >> scan step l′) r
-  unfolding scan _>>=_ take Look.eof
+  pub scan-go-eq : (l l′ : L) (r : List Sym) → Look.eof r ≡ false → step l r ≡ go l′ → scan step l r ≡ (take-token >> scan step l′) r
+  unfolding scan _>>=_ take-token Look.eof
   scan-go-eq l l′ [] h e = absurd (false≢true (sym h))
   scan-go-eq l l′ (s ∷ r) h e = ap (λ t. turn t l s r (λ l′. scan step l′ r)) e
 
-  pub scan-warn-eq : (l l′ : L) (m : ℕ) (r : List Sym) → Look.eof r ≡ false → step l r ≡ warn m l′ → scan step l r ≡ (Run.err m >> take >> scan step l′) r
-  unfolding scan _>>=_ take Run.err Look.eof
+  pub scan-warn-eq : (l l′ : L) (m : ℕ) (r : List Sym) → Look.eof r ≡ false → step l r ≡ warn m l′ → scan step l r ≡ (Run.err m >> take-token >> scan step l′) r
+  unfolding scan _>>=_ take-token Run.err Look.eof
   scan-warn-eq l l′ m [] h e = absurd (false≢true (sym h))
   scan-warn-eq l l′ m (s ∷ r) h e = ap (λ t. turn t l s r (λ l′. scan step l′ r)) e
 
@@ -211,5 +211,5 @@ module _ {L : Type 0} (step : L → List Sym → Round L) where
     pub scan-end : (l : L) → Look.eof (from F (w .c .pos)) ≡ true → RanTo F (scan step l) w w l
     scan-end l e = like-to (pure l) (scan-end-eq l _ e) (done-to l)
 
-    pub scan-go : (l l′ : L) {v w′ : World} {r : L} → Look.eof (from F (w .c .pos)) ≡ false → step l (from F (w .c .pos)) ≡ go l′ → Ran F take w v → RanTo F (scan step l′) v w′ r → RanTo F (scan step l) w w′ r
-    scan-go l l′ z e t h = like-to (take >> scan step l′) (scan-go-eq l l′ _ z e) (t then-to h)
+    pub scan-go : (l l′ : L) {v w′ : World} {r : L} → Look.eof (from F (w .c .pos)) ≡ false → step l (from F (w .c .pos)) ≡ go l′ → Ran F take-token w v → RanTo F (scan step l′) v w′ r → RanTo F (scan step l) w w′ r
+    scan-go l l′ z e t h = like-to (take-token >> scan step l′) (scan-go-eq l l′ _ z e) (t then-to h)

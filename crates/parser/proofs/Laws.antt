@@ -18,7 +18,7 @@ use Rattle.parser.specs.declared.cursor.Cursor.{Cursor}
 use Rattle.grammar.specs.Look.{at, skip}
 use Rattle.grammar.specs.Look
 use Rattle.grammar.specs.Look.{current}
-use Rattle.grammar.specs.Run.{P, take}
+use Rattle.grammar.specs.Run.{P, take-token}
 use Rattle.grammar.specs.Run
 use Rattle.grammar.specs.declared.message.Message.{Message}
 use Rattle.grammar.specs.Message.{number}
@@ -114,34 +114,34 @@ module _ (F : File) where
       go false e = sym (ap Look.eof (rest-cons p (leb-false _ _ e)))
 
 -- ---- a token is taken: its event is written, after a report where it is of no kind, and the cursor goes one on
-run-end : (s : State) → s .rest ≡ [] → run take s ≡ s
-unfolding run take
+run-end : (s : State) → s .rest ≡ [] → run take-token s ≡ s
+unfolding run take-token
 run-end s e = rw (e, append-nil (s .evs), append-nil (s .dgs)) (let z : s .pos + 0 ≡ s .pos = omega arith in ap (λ (n : ℕ). record { rest = []; pos = n; evs = s .evs; dgs = s .dgs }) z)
 
 abbrev one-on : List Sym → State → State
 one-on l s = record { rest = l; pos = s .pos + 1; evs = s .evs; dgs = s .dgs }
 
-run-plain : (x : Sym) (l : List Sym) (s : State) → s .rest ≡ x ∷ l → is Syntax.Error x ≡ false → run take s ≡ one-on l (write (kind x) s)
-unfolding run take
+run-plain : (x : Sym) (l : List Sym) (s : State) → s .rest ≡ x ∷ l → is Syntax.Error x ≡ false → run take-token s ≡ one-on l (write (kind x) s)
+unfolding run take-token
 run-plain x l s e n = rw (e, n, append-nil (s .dgs))
 
-run-bad : (x : Sym) (l : List Sym) (s : State) → s .rest ≡ x ∷ l → is Syntax.Error x ≡ true → run take s ≡ one-on l (write (kind x) (report unrecognized s))
-unfolding run take
+run-bad : (x : Sym) (l : List Sym) (s : State) → s .rest ≡ x ∷ l → is Syntax.Error x ≡ true → run take-token s ≡ one-on l (write (kind x) (report unrecognized s))
+unfolding run take-token
 run-bad x l s e n = rw (e, n)
 
 -- what w′ holds, one token on from w
 abbrev pub past : World → World → World
 past w w′ = record { ev = w′ .ev; dm = w′ .dm; ds = w′ .ds; c = record { pos = w .c .pos + 1; events = w′ .c .events; diags = w′ .c .diags } }
 
-take-nil : (r : List Sym) → r ≡ [] → take r .rest ≡ r
-unfolding take
-take-nil r e = ap (λ l. take l .rest) e ∙ sym e
+take-nil : (r : List Sym) → r ≡ [] → take-token r .rest ≡ r
+unfolding take-token
+take-nil r e = ap (λ l. take-token l .rest) e ∙ sym e
 
-take-cons : (r : List Sym) (x : Sym) (l : List Sym) → r ≡ x ∷ l → take r .rest ≡ l
-unfolding take
-take-cons r x l e = ap (λ l. take l .rest) e
+take-cons : (r : List Sym) (x : Sym) (l : List Sym) → r ≡ x ∷ l → take-token r .rest ≡ l
+unfolding take-token
+take-cons r x l e = ap (λ l. take-token l .rest) e
 
-pub take-end : {F : File} {w : World} → length F ≤ w .c .pos → Ran F take w w
+pub take-end : {F : File} {w : World} → length F ≤ w .c .pos → Ran F take-token w w
 take-end {F} {w} h = record {
   sim = λ b s r z. subst (Rep F b w) (sym (run-end s (r .rest ∙ rest-nil F (w .c .pos) h))) r;
   rest = take-nil _ (rest-nil F (w .c .pos) h);
@@ -163,7 +163,7 @@ small-here : {l : List Sym} {s : State} → Small (one-on l s) → Small s
 small-here z = record { pos = omega (arith, z .pos); events = z .events; diags = z .diags }
 
 module _ {F : File} {w w′ : World} (x : Sym) (h : w .c .pos < length F) (e : getD F (w .c .pos) 0 ≡ x) where
-  take-plain : is Syntax.Error x ≡ false → Wrote F (kind x) w w′ → Ran F take w (past w w′)
+  take-plain : is Syntax.Error x ≡ false → Wrote F (kind x) w w′ → Ran F take-token w (past w w′)
   take-plain n p = record {
     sim = λ b s r z.
         let q = run-plain x (from F (w .c .pos + 1)) s (head {F = F} {w = w} x h e r) n in
@@ -172,7 +172,7 @@ module _ {F : File} {w w′ : World} (x : Sym) (h : w .c .pos < length F) (e : g
     onward = on-past (p .onward);
   }
 
-  take-bad : {v : World} → is Syntax.Error x ≡ true → Ran F (Run.err unrecognized) w v → Wrote F (kind x) v w′ → Ran F take w (past w w′)
+  take-bad : {v : World} → is Syntax.Error x ≡ true → Ran F (Run.err unrecognized) w v → Wrote F (kind x) v w′ → Ran F take-token w (past w w′)
   take-bad n m p = record {
     sim = λ b s r z.
         let q = run-bad x (from F (w .c .pos + 1)) s (head {F = F} {w = w} x h e r) n in
@@ -199,12 +199,12 @@ module _ (F : File) (p : ℕ) {x : Bool} where
 
 -- ---- bump
 module _ {F : File} {w w′ : World} where
-  pub bump-bad : {v : World} → w .c .pos < length F → getD F (w .c .pos) 0 ≡ 1 → Ran F (Run.err unrecognized) w v → Wrote F 60 v w′ → Ran F take w (past w w′)
+  pub bump-bad : {v : World} → w .c .pos < length F → getD F (w .c .pos) 0 ≡ 1 → Ran F (Run.err unrecognized) w v → Wrote F 60 v w′ → Ran F take-token w (past w w′)
   bump-bad {v} h e m p =
       let s = getD F (w .c .pos) 0 in
       take-bad s h refl (ap (λ n. eqb 1 n) e) m (subst (λ n. Wrote F n v w′) (sym (ap kind e)) p)
 
-  pub bump-plain : (e : ℕ) → w .c .pos < length F → (getD F (w .c .pos) 0 ≡ 1 → ⊥) → e ≡ kind (getD F (w .c .pos) 0) → Wrote F e w w′ → Ran F take w (past w w′)
+  pub bump-plain : (e : ℕ) → w .c .pos < length F → (getD F (w .c .pos) 0 ≡ 1 → ⊥) → e ≡ kind (getD F (w .c .pos) 0) → Wrote F e w w′ → Ran F take-token w (past w w′)
   bump-plain e h n ee p = take-plain (getD F (w .c .pos) 0) h refl (ne-eqb 1 _ (λ z. n (sym z))) (subst (λ n. Wrote F n w w′) ee p)
 
 -- ---- what is left says where the cursor is

@@ -9,7 +9,7 @@ use lib.ListN.{length, getD}
 use Rattle.room.specs.Over.{over}
 use Rattle.lexer.specs.Syntax
 use Rattle.grammar.specs.Words.{File, from}
-use Rattle.grammar.specs.Run.{P, take}
+use Rattle.grammar.specs.Run.{P, take-token}
 use Rattle.grammar.specs.Run
 use Rattle.grammar.specs.Out.{kind}
 use Rattle.grammar.specs.State.{State, run, write}
@@ -96,7 +96,7 @@ pub record Plain (F : File) (p v : ℕ) : Type 0 where
   pub event : v ≡ kind (getD F p 0)
 
 pub record Bumped (F : File) (w w′ : World) : Type 0 where
-  pub ran : Ran F take w w′
+  pub ran : Ran F take-token w w′
   pub moved : w .c .pos < length F → w′ .c .pos ≡ w .c .pos + 1
 
 -- a token whose event is all that is written

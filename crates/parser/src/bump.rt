@@ -23,7 +23,7 @@ ghost use lib.ListN.{drop};
 ghost use Rattle.lexer.specs.Syntax.{Whitespace};
 ghost use Rattle.grammar.specs.Words.{is};
 ghost use Rattle.grammar.specs.Look.{at, regular-trivia, non-comment-trivia};
-ghost use Rattle.grammar.specs.Run.{if_then_else_, take};
+ghost use Rattle.grammar.specs.Run.{if_then_else_, take-token};
 ghost use Rattle.grammar.specs.Bump.{nop, bump-while, expect-kind, expect-name, error-token};
 ghost use Rattle.parser.specs.Sets.{trivia-to};
 ghost use Rattle.parser.specs.Rep.{entry, exit, Ran, RanTo, TookAll};
@@ -167,7 +167,7 @@ pub fn bump_at(
     c0: Cursor,
     k: u16,
 ) -> Cursor
-    ensures { λ r. ⌜ Ran (now (kinds .entry)) (if at (is k) then take else nop) (entry ev dm ds c0) (exit ev dm ds r) ⌝ }
+    ensures { λ r. ⌜ Ran (now (kinds .entry)) (if at (is k) then take-token else nop) (entry ev dm ds c0) (exit ev dm ds r) ⌝ }
 {
     if at_kind(kinds, c0.pos, k) {
         return bump(kinds, ev, dm, ds, c0);

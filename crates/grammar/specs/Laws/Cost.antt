@@ -9,7 +9,7 @@ use native.Mathlib.Omega.{arith}
 use Rattle.lexer.specs.Syntax.{Whitespace, Newline, Comment, Equal}
 use Rattle.grammar.specs.Words.{Sym, is, PUB}
 use Rattle.grammar.specs.Look.{oneOf, regular-trivia, at, skip, eof, at-terminator}
-use Rattle.grammar.specs.Run.{Kind, Forest, nil, leaf, node, say, _<>_, Res, P, pure, peek, inNode, pick, _>>=_, _>>_, if_then_else_, take, err, Round, stop, go, warn, turn, scan, repeat, loop}
+use Rattle.grammar.specs.Run.{Kind, Forest, nil, leaf, node, say, _<>_, Res, P, pure, peek, inNode, pick, _>>=_, _>>_, if_then_else_, take-token, err, Round, stop, go, warn, turn, scan, repeat, loop}
 use Rattle.grammar.specs.Message.{Message, number, ExpectedConstantName, ExpectedConstantEqual}
 use Rattle.grammar.specs.Bump.{bump-while, expect-kind, expect-name}
 use Rattle.grammar.specs.Line.{parse-expr-until-line-end, parse-line-tail}
@@ -74,28 +74,28 @@ module _ {p : Price} where
   unfolding err
   cost-err m = record { cost = λ r k. omega arith }
 
-  pub cost-take-any : Cost p any 0 0 take
-  unfolding take
+  pub cost-take-any : Cost p any 0 0 take-token
+  unfolding take-token
   cost-take-any = record { cost = c }
     where
-      c : (r : List Sym) → any r ≡ true → weigh p (take r .out) + p .pay * length (take r .rest) + 0 ≤ p .pay * length r + 0
+      c : (r : List Sym) → any r ≡ true → weigh p (take-token r .out) + p .pay * length (take-token r .rest) + 0 ≤ p .pay * length r + 0
       c [] k = omega arith
       c (s ∷ r) k = omega (arith, p .fits s)
 
   -- A token whose price is known.
-  pub cost-take-at : (t : Sym → Bool) (e : ℕ) → ((s : Sym) → t s ≡ true → p .ofLeaf s + e ≤ p .pay) → Cost p (at t) 0 e take
-  unfolding take at
+  pub cost-take-at : (t : Sym → Bool) (e : ℕ) → ((s : Sym) → t s ≡ true → p .ofLeaf s + e ≤ p .pay) → Cost p (at t) 0 e take-token
+  unfolding take-token at
   cost-take-at t e h = record { cost = c }
     where
-      c : (r : List Sym) → at t r ≡ true → weigh p (take r .out) + p .pay * length (take r .rest) + e ≤ p .pay * length r + 0
+      c : (r : List Sym) → at t r ≡ true → weigh p (take-token r .out) + p .pay * length (take-token r .rest) + e ≤ p .pay * length r + 0
       c [] k = absurd (false≢true k)
       c (s ∷ r) k = omega (arith, h s k)
 
-  pub cost-take : (e : ℕ) → ((s : Sym) → p .ofLeaf s + e ≤ p .pay) → Cost p some 0 e take
-  unfolding take some
+  pub cost-take : (e : ℕ) → ((s : Sym) → p .ofLeaf s + e ≤ p .pay) → Cost p some 0 e take-token
+  unfolding take-token some
   cost-take e h = record { cost = c }
     where
-      c : (r : List Sym) → some r ≡ true → weigh p (take r .out) + p .pay * length (take r .rest) + e ≤ p .pay * length r + 0
+      c : (r : List Sym) → some r ≡ true → weigh p (take-token r .out) + p .pay * length (take-token r .rest) + e ≤ p .pay * length r + 0
       c [] k = absurd (false≢true k)
       c (s ∷ r) k = omega (arith, h s)
 
@@ -274,17 +274,17 @@ module _ {p : Price} {c : ℕ} {f : P Bool} (F : Rounds p c f) (E : Truly f) whe
 -- ---- Expect, by its answer: it took a token that leaves e, or it reports.
 module _ (p : Price) (k : Sym) (m : Message) (e : ℕ) (h : (s : Sym) → is k s ≡ true → p .ofLeaf s + e ≤ p .pay) where
   pub expect-true : (r : List Sym) → expect-kind k m r .val ≡ true → weigh p (expect-kind k m r .out) + p .pay * length (expect-kind k m r .rest) + e ≤ p .pay * length r
-  unfolding expect-kind _>>=_ peek at take err pure
+  unfolding expect-kind _>>=_ peek at take-token err pure
   expect-true r i = c (bump-while regular-trivia r .rest) (cost-while regular-trivia .cost r refl) i
     where
       key : List Sym → Res Bool
-      key l = pick (at (is k) l) (take >> pure true) (err (number m) >> pure false) l
+      key l = pick (at (is k) l) (take-token >> pure true) (err (number m) >> pure false) l
 
       c : (l : List Sym) → weigh p (bump-while regular-trivia r .out) + p .pay * length l + 0 ≤ p .pay * length r + 0 → key l .val ≡ true → weigh p (bump-while regular-trivia r .out <> key l .out) + p .pay * length (key l .rest) + e ≤ p .pay * length r
       c [] g i = absurd (false≢true i)
       c (s ∷ l) g i = d (is k s) refl i
         where
-          d : (u : Bool) → is k s ≡ u → pick u (take >> pure true) (err (number m) >> pure false) (s ∷ l) .val ≡ true → weigh p (bump-while regular-trivia r .out <> pick u (take >> pure true) (err (number m) >> pure false) (s ∷ l) .out) + p .pay * length (pick u (take >> pure true) (err (number m) >> pure false) (s ∷ l) .rest) + e ≤ p .pay * length r
+          d : (u : Bool) → is k s ≡ u → pick u (take-token >> pure true) (err (number m) >> pure false) (s ∷ l) .val ≡ true → weigh p (bump-while regular-trivia r .out <> pick u (take-token >> pure true) (err (number m) >> pure false) (s ∷ l) .out) + p .pay * length (pick u (take-token >> pure true) (err (number m) >> pure false) (s ∷ l) .rest) + e ≤ p .pay * length r
           d true j i = omega (arith, g, h s j, weigh-app p (bump-while regular-trivia r .out) (leaf s nil))
           d false j i = absurd (false≢true i)
 

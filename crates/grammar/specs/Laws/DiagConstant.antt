@@ -12,7 +12,7 @@ use Rattle.lexer.specs.Syntax
 use Rattle.lexer.specs.Syntax.{Newline, Comment, DocComment, Equal}
 use Rattle.grammar.specs.Words.{Sym, is, CONST, PUB}
 use Rattle.grammar.specs.Look.{current, oneOf, name-like, regular-trivia, is-trivia, at, skip, at-prefixed-keyword}
-use Rattle.grammar.specs.Run.{Expr, nil, node, Res, P, pure, peek, inNode, pick, _>>=_, _>>_, take, err, Round, stop, go, warn, turn, scan}
+use Rattle.grammar.specs.Run.{Expr, nil, node, Res, P, pure, peek, inNode, pick, _>>=_, _>>_, take-token, err, Round, stop, go, warn, turn, scan}
 use Rattle.grammar.specs.Message.{Message, number, ExpectedConst}
 use Rattle.grammar.specs.Nesting.{Nesting, Bumped, default, is-root, bump-by, counted, bump-nesting}
 use Rattle.grammar.specs.Bump.{bump-while, expect-kind, expect-name}
@@ -78,11 +78,11 @@ left-solid r e = rw (while-rest regular-trivia r) (c (skip regular-trivia r) e (
     c (s ∷ l) e h = rw h
 
 owes-name : (m : Message) → {b c d e o : ℕ} {A : Type 0} {g : Bool → P A} → ((a : Bool) → Owes any b e (g a)) → ((a : Bool) → Owes left c o (g a)) → b ≤ d + e + 2 → suc c ≤ d + o → Owes (at solid) d 0 (expect-name m >>= g)
-unfolding expect-name _>>=_ peek take err at name-like oneOf
+unfolding expect-name _>>=_ peek take-token err at name-like oneOf
 owes-name m {b} {c} {d} {e} {o} {A} {g} F G i j = record { owes = f }
   where
     K : Bool → List Sym → Res A
-    K u r = (pick u take (err (number m)) >>= g) r
+    K u r = (pick u take-token (err (number m)) >>= g) r
 
     f : (r : List Sym) → at solid r ≡ true → weigh diags-price ((expect-name m >>= g) r .out) + 2 * length ((expect-name m >>= g) r .rest) + 0 ≤ 2 * length r + d + credit ((expect-name m >>= g) r .rest)
     f [] h = absurd (false≢true h)

@@ -11,7 +11,7 @@ use Rattle.lexer.specs.Syntax
 use Rattle.lexer.specs.Syntax.{Whitespace, Newline, Comment, DocComment, Dot, LBracket, LParen, RBracket, RParen}
 use Rattle.grammar.specs.Words.{Sym, is, BEGIN, DO, ELSE, END, IF, REPEAT, WHILE}
 use Rattle.grammar.specs.Look.{oneOf, name-like, regular-trivia, control-flow, starts-instruction, at, at-terminator, at-stray-else, at-top-level-form-starter-in-block}
-use Rattle.grammar.specs.Run.{Kind, Block, P, pure, inNode, pick, _>>=_, _>>_, if_then_else_, take, err, loop}
+use Rattle.grammar.specs.Run.{Kind, Block, P, pure, inNode, pick, _>>=_, _>>_, if_then_else_, take-token, err, loop}
 use Rattle.grammar.specs.Message.{Message}
 use Rattle.grammar.specs.Bump.{expect-kind, expect-name, error-token}
 use Rattle.grammar.specs.Path.{path-segment, path-round, parse-path-with-message, parse-balanced-group}
@@ -50,7 +50,7 @@ said m = cost-err m
 pub no-error : (t : Sym → Bool) → t Syntax.Error ≡ false → (s : Sym) → t s ≡ true → errors s + 2 ≤ 2
 no-error t h s e = rw (is-not t Syntax.Error s h e) (lit≤ tt)
 
-pub good-token : (t : Sym → Bool) → t Syntax.Error ≡ false → Cost2 (at t) 0 2 take
+pub good-token : (t : Sym → Bool) → t Syntax.Error ≡ false → Cost2 (at t) 0 2 take-token
 good-token t h = cost-take-at t 2 (no-error t h)
 
 ruleset zero·rules = (cost-pure, cost-take-any, cost-pick, cost-if, cost-then, cost-while, cost-scan)
@@ -150,7 +150,7 @@ module _ {blk : Blocks} (h : (w : BlockOwner) (t : Terminators) (d : ℕ) → Co
   unfolding closing at-terminator oneOf
   cost-closed w d = cost-outcome (closing w) (h w Terminators.End d) (s w Terminators.End d) (cost-le (expects-at END _ refl refl) (lit≤ tt)) (cost-pure true) (cost-pure true)
 
-  cost-else : (d : ℕ) (o : BlockParseOutcome) → Cost2 any 0 0 (if at (is ELSE) then (take >> parse-line-tail >> blk BlockOwner.If Terminators.End d) else pure o)
+  cost-else : (d : ℕ) (o : BlockParseOutcome) → Cost2 any 0 0 (if at (is ELSE) then (take-token >> parse-line-tail >> blk BlockOwner.If Terminators.End d) else pure o)
   cost-else d o = cost-case (at (is ELSE)) (cost-le (cost-bind (good-token (is ELSE) refl) (λ a. cost-then cost-tail (λ a. h BlockOwner.If Terminators.End d))) (lit≤ tt)) (cost-pure o)
 
   -- A form's last block.

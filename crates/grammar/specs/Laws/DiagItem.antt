@@ -10,7 +10,7 @@ use native.Mathlib.Omega.{arith}
 use Rattle.lexer.specs.Syntax.{At, LParen}
 use Rattle.grammar.specs.Words.{Sym, is, ADV-MAP, CONST, ENUM, MOD, NAMESPACE, PROC, PUB, TYPE}
 use Rattle.grammar.specs.Look.{oneOf, regular-trivia, at, next-relevant-top-level-token}
-use Rattle.grammar.specs.Run.{P, pure, peek, pick, _>>=_, _>>_, take, loop}
+use Rattle.grammar.specs.Run.{P, pure, peek, pick, _>>=_, _>>_, take-token, loop}
 use Rattle.grammar.specs.Message.{Message, ExpectedProc}
 use Rattle.grammar.specs.Bump.{bump-while, expect-kind, expect-name}
 use Rattle.grammar.specs.Line.{parse-type-body, parse-line-tail}
@@ -93,7 +93,7 @@ cost-type-name : Cost2 any 2 0 type-name-and-body
 unfolding type-name-and-body parse-type-body
 cost-type-name = cost-then (cost-while _) (λ a. cost-any (cost-bind (cost-name _) (λ a. cost-then (cost-while _) (λ a. cost-if _ (cost-any (cost-after (cost-node {c = 0} _ (cost-scan _ _)) (λ a. cost-pure true)) (lit≤ tt)) (said _)))) (lit≤ tt))
 
-cost-type-key : Cost2 (at (oneOf (TYPE ∷ ENUM ∷ []))) 0 0 (take >> type-name-and-body)
+cost-type-key : Cost2 (at (oneOf (TYPE ∷ ENUM ∷ []))) 0 0 (take-token >> type-name-and-body)
 unfolding oneOf
 cost-type-key = cost-le (cost-bind (good-token (oneOf (TYPE ∷ ENUM ∷ [])) refl) (λ a. cost-type-name)) (lit≤ tt)
 

@@ -8,7 +8,7 @@ use native.Mathlib.Omega.{arith}
 use Rattle.lexer.specs.Syntax.{Newline, DocComment, LParen, RParen}
 use Rattle.grammar.specs.Words.{Sym, is, ADV-MAP, BEGIN, CONST, END, ENUM, MOD, NAMESPACE, TYPE}
 use Rattle.grammar.specs.Look.{oneOf, regular-trivia, at, next-relevant-top-level-token}
-use Rattle.grammar.specs.Run.{Kind, Block, Procedure, BeginBlock, Doc, nil, leaf, leaves, Res, P, pure, peek, inNode, pick, _>>=_, _>>_, if_then_else_, take, err, stop, go, turn, scan}
+use Rattle.grammar.specs.Run.{Kind, Block, Procedure, BeginBlock, Doc, nil, leaf, leaves, Res, P, pure, peek, inNode, pick, _>>=_, _>>_, if_then_else_, take-token, err, stop, go, turn, scan}
 use Rattle.grammar.specs.Message.{Message, number}
 use Rattle.grammar.specs.Bump.{while-round, bump-while, bump-regular-trivia, expect-kind, error-token}
 use Rattle.grammar.specs.Block.{BlockOwner, Terminators, BlockParseOutcome, closing, parse-block}
@@ -88,28 +88,28 @@ nil-nl {s} {l} e = let z : _≡_ {A = ℕ} 0 1 = cc in omega arith
 
 -- What expect does behind the trivia.
 abbrev key : Sym → Message → P Bool
-key k m l = pick (at (is k) l) (take >> pure true) (err (number m) >> pure false) l
+key k m l = pick (at (is k) l) (take-token >> pure true) (err (number m) >> pure false) l
 
 -- Where expect leaves the newline, it takes what it asks for: only that and the newline stand behind the trivia.
 expect-left : (k : Sym) (m : Message) (r : List Sym) → LeftNl (expect-kind k m r) → bump-regular-trivia r .rest ≡ k ∷ Newline ∷ []
-unfolding expect-kind _>>=_ peek take err pure at oneOf
+unfolding expect-kind _>>=_ peek take-token err pure at oneOf
 expect-left k m r e = c (bump-regular-trivia r .rest) (trivia-stop r) e
   where
     c : (l : List Sym) → at regular-trivia l ≡ false → LeftNl (key k m l) → l ≡ k ∷ Newline ∷ []
     c [] h e = absurd (nil-nl e)
     c (s ∷ l) h e = d (is k s) refl e
       where
-        d : (u : Bool) → is k s ≡ u → LeftNl (pick u (take >> pure true) (err (number m) >> pure false) (s ∷ l)) → _≡_ {A = List Sym} (s ∷ l) (k ∷ Newline ∷ [])
+        d : (u : Bool) → is k s ≡ u → LeftNl (pick u (take-token >> pure true) (err (number m) >> pure false) (s ∷ l)) → _≡_ {A = List Sym} (s ∷ l) (k ∷ Newline ∷ [])
         d true q e = ap₂ _∷_ (is-same k s q) e
         d false q e = absurd (false≢true (sym h ∙ ap (at regular-trivia) e))
 
 -- expect_keyword("end", ..) then ends in that `end`, and does the same in a file that goes on.
 expect-word : (m : Message) (r : List Sym) → LeftNl (expect-kind END m r) → endsEnd (expect-kind END m r .out) ≡ true
-unfolding expect-kind _>>=_ peek take err pure at
+unfolding expect-kind _>>=_ peek take-token err pure at
 expect-word m r e = rw (expect-left END m r e) (ends-app (bump-regular-trivia r .out) (leaf END nil) refl)
 
 expect-end : (b : List Sym) (m : Message) (r : List Sym) → LeftNl (expect-kind END m r) → Calm stray (expect-kind END m r .out) → expect-kind END m (r ++ b) ≡ ext b (expect-kind END m r)
-unfolding expect-kind _>>=_ peek take err pure at
+unfolding expect-kind _>>=_ peek take-token err pure at
 expect-end b m r e calm =
     let z : Res Bool = bump-regular-trivia r in
     let q : z .rest ≡ END ∷ Newline ∷ [] = expect-left END m r e in
@@ -139,7 +139,7 @@ ends-block {b} j w {f} {f′} F = record { good = good-bind (good-node j F) (λ 
 
 -- expect that fails leaves something else.
 expect-fails : (k : Sym) (m : Message) (r : List Sym) → is k k ≡ true → expect-kind k m r .val ≡ false → LeftNl (expect-kind k m r) → ⊥
-unfolding expect-kind _>>=_ peek take err pure at
+unfolding expect-kind _>>=_ peek take-token err pure at
 expect-fails k m r h e n = true≢false (rw (expect-left k m r n, h) at e)
 
 closes-node : {b : List Sym} (j : Kind) {A : Type 0} {f f′ : P A} → top j ≡ true → Ends b f f′ → Closes b (inNode j f) (inNode j f′)
@@ -194,7 +194,7 @@ module _ (b : List Sym) (side : at (is RParen) (next-relevant-top-level-token b)
       ]))))))))))
 
   pub closes-item : Closes b (parse-source-item (parse-block lim)) (parse-source-item (parse-block lim))
-  unfolding parse-source-item parse-namespace parse-submodule parse-constant parse-type-decl parse-advice-map error-token inNode take
+  unfolding parse-source-item parse-namespace parse-submodule parse-constant parse-type-decl parse-advice-map error-token inNode take-token
   closes-item =
       closes-if (at (is DocComment)) (test-at (is DocComment)) (closes-never (good-node Doc good-take) (λ r. (refl, refl)))
       (closes-if (at regular-trivia) (test-at regular-trivia) (closes-never good-take take-never)
@@ -207,6 +207,6 @@ module _ (b : List Sym) (side : at (is RParen) (next-relevant-top-level-token b)
       (closes-if (at (is ADV-MAP)) (test-at (is ADV-MAP)) (closes-never (good-advice-map b side) (λ r. (refl, refl)))
       (closes-never (good-error-token _) (λ r. (refl, refl)))))))))))
     where
-      take-never : (r : List Sym) → (shuts (take r .out) ≡ false) × (shutsLeaf (take r .out) ≡ false)
+      take-never : (r : List Sym) → (shuts (take-token r .out) ≡ false) × (shutsLeaf (take-token r .out) ≡ false)
       take-never [] = (refl, refl)
       take-never (s ∷ r) = (refl, refl)

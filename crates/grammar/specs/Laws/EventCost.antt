@@ -10,7 +10,7 @@ use native.Mathlib.Omega.{arith}
 use Rattle.lexer.specs.Syntax.{DocComment, At, LParen, RParen}
 use Rattle.grammar.specs.Words.{Sym, is, ADV-MAP, BEGIN, CONST, DO, ELSE, ENUM, IF, MOD, NAMESPACE, PROC, PUB, REPEAT, TYPE, WHILE}
 use Rattle.grammar.specs.Look.{oneOf, regular-trivia, control-flow, starts-instruction, at, at-terminator, at-stray-else, at-top-level-form-starter-in-block}
-use Rattle.grammar.specs.Run.{Kind, Block, SourceFile, nil, node, P, pure, inNode, pick, _>>=_, _>>_, if_then_else_, take, err, loop}
+use Rattle.grammar.specs.Run.{Kind, Block, SourceFile, nil, node, P, pure, inNode, pick, _>>=_, _>>_, if_then_else_, take-token, err, loop}
 use Rattle.grammar.specs.Message.{Message, ExpectedProc}
 use Rattle.grammar.specs.Bump.{bump-while, expect-kind, expect-name, error-token}
 use Rattle.grammar.specs.Path.{path-segment, path-round, parse-path-with-message, parse-balanced-group}
@@ -36,7 +36,7 @@ Cost7 q lack over f = Cost events-price q lack over f
 quiet : (m : ℕ) → Cost7 any 0 0 (err m)
 quiet m = cost-err m
 
-one-token : (t : Sym → Bool) → Cost7 (at t) 0 6 take
+one-token : (t : Sym → Bool) → Cost7 (at t) 0 6 take-token
 one-token t = cost-take-at t 6 (λ s e. lit≤ tt)
 
 ruleset zero·rules = (cost-pure, quiet, cost-take-any, cost-pick, cost-if, cost-then, cost-while, cost-scan)
@@ -108,7 +108,7 @@ cost-key : (k : Sym) → regular-trivia k ≡ false → (j : Kind) (m : Message)
 cost-key k t j m G = cost-le (cost-node j (cost-bind (expects-at k m t) G)) (lit≤ tt)
 
 module _ {blk : Blocks} (h : (w : BlockOwner) (t : Terminators) (d : ℕ) → Cost7 any 4 0 (blk w t d)) (s : (w : BlockOwner) (t : Terminators) (d : ℕ) → Stops t (blk w t d)) where
-  cost-else : (d : ℕ) (o : BlockParseOutcome) → Cost7 any 0 0 (if at (is ELSE) then (take >> parse-line-tail >> blk BlockOwner.If Terminators.End d) else pure o)
+  cost-else : (d : ℕ) (o : BlockParseOutcome) → Cost7 any 0 0 (if at (is ELSE) then (take-token >> parse-line-tail >> blk BlockOwner.If Terminators.End d) else pure o)
   cost-else d o = cost-case (at (is ELSE)) (cost-le (cost-bind (one-token (is ELSE)) (λ a. cost-then cost-tail (λ a. h BlockOwner.If Terminators.End d))) (lit≤ tt)) (cost-pure o)
 
   cost-if-form : (d : ℕ) → Cost7 (at (is IF)) 0 0 (parse-if blk d)
@@ -229,7 +229,7 @@ unfolding type-name-and-body parse-type-body
 cost-type-name = cost-then (cost-while _) (λ a. cost-then (cost-name _) (λ a. cost-then (cost-while _) (λ a. cost-if _ (cost-after (cost-node {c = 0} _ (cost-scan _ _)) (λ a. cost-pure true)) (cost-any (quiet _) (lit≤ tt)))))
 
 -- parse_type_decl, behind its visibility.
-cost-type-key : Cost7 (at (oneOf (TYPE ∷ ENUM ∷ []))) 0 4 (take >> type-name-and-body)
+cost-type-key : Cost7 (at (oneOf (TYPE ∷ ENUM ∷ []))) 0 4 (take-token >> type-name-and-body)
 cost-type-key = cost-le (cost-bind (one-token _) (λ a. cost-type-name)) (lit≤ tt)
 
 cost-type : Cost7 (at (opens (TYPE ∷ ENUM ∷ []))) 0 0 parse-type-decl

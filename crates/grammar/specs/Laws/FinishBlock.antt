@@ -9,7 +9,7 @@ use lib.ListN.{length}
 use Rattle.lexer.specs.Syntax.{DocComment}
 use Rattle.grammar.specs.Words.{Sym, is, ELSE, END, DO, IF, WHILE}
 use Rattle.grammar.specs.Look.{oneOf, regular-trivia, control-flow, starts-instruction, at, eof, at-terminator, at-stray-else, at-top-level-form-starter-in-block}
-use Rattle.grammar.specs.Run.{Kind, Block, IfOp, WhileOp, DoWhileOp, RepeatOp, Forest, nil, node, say, _<>_, P, pure, peek, inNode, pick, _>>=_, _>>_, if_then_else_, take, err, scan}
+use Rattle.grammar.specs.Run.{Kind, Block, IfOp, WhileOp, DoWhileOp, RepeatOp, Forest, nil, node, say, _<>_, P, pure, peek, inNode, pick, _>>=_, _>>_, if_then_else_, take-token, err, scan}
 use Rattle.grammar.specs.Message.{Message, number, missingEndNumber}
 use Rattle.grammar.specs.Line.{parse-line-tail}
 use Rattle.grammar.specs.Block.{BlockOwner, Terminators, BlockParseOutcome, Blocks, all-round, reject-excessive-control-flow-nesting, reached-eof, ended, parse-if, parse-while, do-condition, parse-do-while, parse-repeat, parse-control-flow, block-round, block-loop, block-in, parse-block}
@@ -77,18 +77,18 @@ module _ {blk : Blocks} (h : (w : BlockOwner) (t : Terminators) (d : ℕ) → En
 
   -- The then-block's outcome, where no `else` follows; else that of the block behind it.
   else-part : ℕ → BlockParseOutcome → P Bool
-  else-part d o = (if at (is ELSE) then (take >> parse-line-tail >> blk BlockOwner.If Terminators.End d) else pure o) >>= ended BlockOwner.If
+  else-part d o = (if at (is ELSE) then (take-token >> parse-line-tail >> blk BlockOwner.If Terminators.End d) else pure o) >>= ended BlockOwner.If
 
   else-finish : (d : ℕ) (o : BlockParseOutcome) (r : List Sym) → (at (is ELSE) r ≡ false → Final (LastBlock IfOp) true (ended BlockOwner.If o r)) → Final (LastBlock IfOp) true (else-part d o r)
   unfolding else-part _>>=_ peek pure
   else-finish d o r n = c (at (is ELSE) r) refl
     where
       else-block : P BlockParseOutcome
-      else-block = take >> parse-line-tail >> blk BlockOwner.If Terminators.End d
+      else-block = take-token >> parse-line-tail >> blk BlockOwner.If Terminators.End d
 
       c : (u : Bool) → at (is ELSE) r ≡ u → Final (LastBlock IfOp) true ((pick u else-block (pure o) >>= ended BlockOwner.If) r)
       c true e = finishes-ended BlockOwner.If (finishes-after tame-take (λ a. finishes-after tame-tail (λ a. h BlockOwner.If Terminators.End d)))
-          (stops-bind take (λ a. stops-bind parse-line-tail (λ a. s BlockOwner.If Terminators.End d))) .finish r
+          (stops-bind take-token (λ a. stops-bind parse-line-tail (λ a. s BlockOwner.If Terminators.End d))) .finish r
       c false e = n e
 
   -- An `else` or `end` that is no `else`.

@@ -5,7 +5,7 @@ use mathlib.Core.Path.{_≡_, refl, sym, _∙_, ap, subst}
 use mathlib.Core.Bool.{Bool, true, false}
 use mathlib.Core.List.{List, [], _∷_, _++_, append-nil, append-assoc}
 use Rattle.grammar.specs.Words.{Sym}
-use Rattle.grammar.specs.Run.{Kind, Forest, nil, leaf, node, say, _<>_, leaves, Res, P, pure, peek, inNode, pick, _>>=_, _>>_, if_then_else_, take, err, Round, stop, go, warn, turn, scan, mNever, repeat, loop}
+use Rattle.grammar.specs.Run.{Kind, Forest, nil, leaf, node, say, _<>_, leaves, Res, P, pure, peek, inNode, pick, _>>=_, _>>_, if_then_else_, take-token, err, Round, stop, go, warn, turn, scan, mNever, repeat, loop}
 use mathlib.Core.Bool.{true≢false}
 use lib.ListN.{length, length-append}
 use native.Mathlib.Omega.{arith}
@@ -67,15 +67,15 @@ module _ {b : List Sym} {bad : ℕ → Bool} where
   unfolding peek
   good-peek t h = record { split = λ r. refl; goes = λ r c k. rw (h r c) }
 
-  pub good-take : Good b bad take take
-  unfolding take
+  pub good-take : Good b bad take-token take-token
+  unfolding take-token
   good-take = record { split = s; goes = g }
     where
-      s : (r : List Sym) → leaves (take r .out) ++ take r .rest ≡ r
+      s : (r : List Sym) → leaves (take-token r .out) ++ take-token r .rest ≡ r
       s [] = refl
       s (x ∷ r) = refl
 
-      g : (r : List Sym) → Cond b (take r .rest) → Calm bad (take r .out) → take (r ++ b) ≡ ext b (take r)
+      g : (r : List Sym) → Cond b (take-token r .rest) → Calm bad (take-token r .out) → take-token (r ++ b) ≡ ext b (take-token r)
       g [] (same e) k = rw e
       g [] (more t) k = absurd (tail-nil t)
       g (x ∷ r) c k = refl

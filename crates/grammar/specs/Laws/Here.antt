@@ -6,7 +6,7 @@ use mathlib.Core.List.{List, [], _∷_}
 use lib.Dec.{eqb→eq, T}
 use Rattle.grammar.specs.Words.{Sym, is}
 use Rattle.grammar.specs.Look.{oneOf, regular-trivia, at, skip}
-use Rattle.grammar.specs.Run.{nil, leaf, _<>_, Res, P, pure, peek, _>>=_, take, stop, go, turn, scan}
+use Rattle.grammar.specs.Run.{nil, leaf, _<>_, Res, P, pure, peek, _>>=_, take-token, stop, go, turn, scan}
 use Rattle.grammar.specs.Message.{Message}
 use Rattle.grammar.specs.Laws.Good.{app-assoc}
 use Rattle.grammar.specs.Bump.{while-round, bump-while, expect-kind}
@@ -65,7 +65,7 @@ taken s r = record { rest = r; out = leaf s nil; val = true }
 
 -- At its kind, expect takes it, and nothing else.
 pub expect-here : (k : Sym) (m : Message) → regular-trivia k ≡ false → (s : Sym) (r : List Sym) → is k s ≡ true → expect-kind k m (s ∷ r) ≡ taken s r
-unfolding expect-kind bump-while scan while-round at _>>=_ peek take pure
+unfolding expect-kind bump-while scan while-round at _>>=_ peek take-token pure
 expect-here k m h s r e = let t : regular-trivia s ≡ false = rw (is-same k s e) h in rw (t, scan, e)
 
 -- ---- Classes that share no token.

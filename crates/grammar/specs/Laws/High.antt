@@ -10,7 +10,7 @@ use native.Mathlib.Omega.{arith}
 use Rattle.lexer.specs.Syntax.{DocComment}
 use Rattle.grammar.specs.Words.{Sym, is}
 use Rattle.grammar.specs.Look.{regular-trivia, control-flow, starts-instruction, at, eof, at-terminator, at-stray-else, at-top-level-form-starter-in-block}
-use Rattle.grammar.specs.Run.{Kind, Block, SourceFile, Forest, nil, leaf, node, say, _<>_, Res, P, pure, peek, inNode, pick, _>>=_, _>>_, if_then_else_, take, err, Round, stop, go, warn, turn, scan, mNever, repeat, loop}
+use Rattle.grammar.specs.Run.{Kind, Block, SourceFile, Forest, nil, leaf, node, say, _<>_, Res, P, pure, peek, inNode, pick, _>>=_, _>>_, if_then_else_, take-token, err, Round, stop, go, warn, turn, scan, mNever, repeat, loop}
 use Rattle.grammar.specs.Message.{Message}
 use Rattle.grammar.specs.Bump.{bump-while, expect-kind, expect-name, error-token}
 use Rattle.grammar.specs.Path.{path-segment, path-round, parse-path-with-message, parse-balanced-group}
@@ -47,11 +47,11 @@ module _ {h : ℕ} where
   unfolding err
   high-err m = record { high = λ r. omega arith }
 
-  high-take : High h take
-  unfolding take
+  high-take : High h take-token
+  unfolding take-token
   high-take = record { high = c }
     where
-      c : (r : List Sym) → height (take r .out) ≤ h
+      c : (r : List Sym) → height (take-token r .out) ≤ h
       c [] = omega arith
       c (s ∷ r) = omega arith
 

@@ -9,7 +9,7 @@ use native.Mathlib.Omega.{arith}
 use Rattle.lexer.specs.Syntax.{Newline, RParen}
 use Rattle.grammar.specs.Words.{Sym, is}
 use Rattle.grammar.specs.Look.{oneOf, at, skip, eof, next-relevant-top-level-token}
-use Rattle.grammar.specs.Run.{Kind, Forest, nil, leaf, node, _<>_, leaves, Res, P, pure, peek, inNode, pick, _>>=_, if_then_else_, take, mNever}
+use Rattle.grammar.specs.Run.{Kind, Forest, nil, leaf, node, _<>_, leaves, Res, P, pure, peek, inNode, pick, _>>=_, if_then_else_, take-token, mNever}
 use Rattle.grammar.specs.Bump.{error-token}
 use Rattle.grammar.specs.Block.{Blocks, parse-block}
 use Rattle.grammar.specs.Item.{parse-procedure, parse-begin-block, parse-namespace, parse-submodule, parse-constant, parse-type-decl, parse-advice-map, parse-source-item, items, items-in, parse}
@@ -51,11 +51,11 @@ one-node : (j : Kind) {A : Type 0} (f : P A) → One (inNode j f)
 unfolding inNode
 one-node j f = record { one = λ r. branch }
 
-one-take : One take
-unfolding take
+one-take : One take-token
+unfolding take-token
 one-take = record { one = c }
   where
-    c : (r : List Sym) → Single (take r .out)
+    c : (r : List Sym) → Single (take-token r .out)
     c [] = none
     c (s ∷ r) = token
 
@@ -83,7 +83,7 @@ items-leaves n lim r h =
     ∙ good-items [] refl stray refl lim lim (equal refl) n n (omega arith) .split r
 
 nl-item : (n lim : ℕ) (r : List Sym) → items (suc n) lim (Newline ∷ r) .out ≡ leaf Newline (items n lim r .out)
-unfolding items parse-source-item oneOf _>>=_ peek eof at take
+unfolding items parse-source-item oneOf _>>=_ peek eof at take-token
 nl-item n lim r = refl
 
 nil-items : (n lim : ℕ) → items (suc n) lim [] .out ≡ nil

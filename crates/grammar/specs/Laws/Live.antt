@@ -9,7 +9,7 @@ use lib.ListN.{length, length-append}
 use native.Mathlib.Omega.{arith}
 use Rattle.grammar.specs.Words.{Sym}
 use Rattle.grammar.specs.Look.{at, eof}
-use Rattle.grammar.specs.Run.{Kind, Forest, nil, leaf, node, say, _<>_, P, pure, peek, inNode, pick, _>>=_, if_then_else_, take, err, Round, stop, go, warn, turn, scan, repeat, loop}
+use Rattle.grammar.specs.Run.{Kind, Forest, nil, leaf, node, say, _<>_, P, pure, peek, inNode, pick, _>>=_, if_then_else_, take-token, err, Round, stop, go, warn, turn, scan, repeat, loop}
 use Rattle.grammar.specs.Laws.Good.{Calm, scan-split}
 use Rattle.grammar.specs.Laws.Hush.{Hush, scan-calm}
 use Rattle.grammar.specs.Laws.Numbers.{stray}
@@ -44,15 +44,15 @@ module _ {n : ℕ} where
   unfolding pure
   live-pure a = record { calm = λ r e h. tt; less = λ r. omega arith }
 
-  pub live-take : Live any n take
-  unfolding take
+  pub live-take : Live any n take-token
+  unfolding take-token
   live-take = record { calm = c; less = l }
     where
-      c : (r : List Sym) → any r ≡ true → length r < n → Calm stray (take r .out)
+      c : (r : List Sym) → any r ≡ true → length r < n → Calm stray (take-token r .out)
       c [] e h = tt
       c (s ∷ r) e h = tt
 
-      l : (r : List Sym) → length (take r .rest) ≤ length r
+      l : (r : List Sym) → length (take-token r .rest) ≤ length r
       l [] = omega arith
       l (s ∷ r) = omega arith
 
@@ -139,11 +139,11 @@ pub eats-node : {A : Type 0} {q : List Sym → Bool} {f : P A} (k : Kind) → Ea
 unfolding inNode
 eats-node k E = record { eats = E .eats }
 
-pub eats-take : Eats some take
-unfolding some take
+pub eats-take : Eats some take-token
+unfolding some take-token
 eats-take = record { eats = g }
   where
-    g : (r : List Sym) → some r ≡ true → length (take r .rest) < length r
+    g : (r : List Sym) → some r ≡ true → length (take-token r .rest) < length r
     g [] e = absurd (false≢true e)
     g (s ∷ r) e = omega arith
 

@@ -9,7 +9,7 @@ use native.Mathlib.Omega.{arith}
 use Rattle.lexer.specs.Syntax.{Whitespace, Newline, Comment, DocComment, Dot}
 use Rattle.grammar.specs.Words.{Sym, is}
 use Rattle.grammar.specs.Look.{oneOf, name-like, regular-trivia, starts-instruction, at}
-use Rattle.grammar.specs.Run.{Kind, P, pure, inNode, _>>=_, _>>_, take, err, loop}
+use Rattle.grammar.specs.Run.{Kind, P, pure, inNode, _>>=_, _>>_, take-token, err, loop}
 use Rattle.grammar.specs.Message.{Message, number}
 use Rattle.grammar.specs.Nesting.{Nesting, Bumped, bump-by, counted, bump-nesting}
 use Rattle.grammar.specs.Bump.{while-round, bump-while, expect-kind, expect-name, error-token}
@@ -73,11 +73,11 @@ module _ {n : ℕ} where
   live-instruction = live-node _ (live-scan instruction-round (hush-instruction quiet-closer) _)
 
 -- ---- Loops whose rounds take a token.
-pub eats-at : (p : Sym → Bool) → Eats (at p) take
+pub eats-at : (p : Sym → Bool) → Eats (at p) take-token
 eats-at p = eats-weak (at-some p) eats-take
 
 -- A token that is taken, and true.
-eats-true : (p : Sym → Bool) → Eats (at p) (take >> pure true)
+eats-true : (p : Sym → Bool) → Eats (at p) (take-token >> pure true)
 eats-true p = eats-bind 0 (eats-at p) (λ a. live-pure true)
 
 truly-said : (m : ℕ) → Truly (err m >> pure false)

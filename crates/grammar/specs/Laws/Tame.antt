@@ -6,7 +6,7 @@ use mathlib.Core.Bool.{Bool, true, false}
 use mathlib.Core.List.{List, [], _∷_}
 use lib.ListN.{length}
 use Rattle.grammar.specs.Words.{Sym}
-use Rattle.grammar.specs.Run.{Kind, P, pure, peek, inNode, pick, _>>=_, if_then_else_, take, err, Round, scan, repeat, loop}
+use Rattle.grammar.specs.Run.{Kind, P, pure, peek, inNode, pick, _>>=_, if_then_else_, take-token, err, Round, scan, repeat, loop}
 use Rattle.grammar.specs.Message.{Message, number, missingEndNumber}
 use Rattle.grammar.specs.Bump.{while-round, bump-while, expect-kind, expect-name, error-token}
 use Rattle.grammar.specs.Path.{path-segment, path-round, parse-path-with-message, group-round, parse-balanced-group}
@@ -27,11 +27,11 @@ pub tame-pure : {A : Type 0} (a : A) → Tame (pure a)
 unfolding pure
 tame-pure a = record { tame = λ r. tt }
 
-pub tame-take : Tame take
-unfolding take
+pub tame-take : Tame take-token
+unfolding take-token
 tame-take = record { tame = c }
   where
-    c : (r : List Sym) → Calm ending (take r .out)
+    c : (r : List Sym) → Calm ending (take-token r .out)
     c [] = tt
     c (s ∷ r) = tt
 

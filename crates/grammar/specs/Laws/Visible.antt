@@ -6,7 +6,7 @@ use mathlib.Core.List.{List, [], _∷_}
 use Rattle.lexer.specs.Syntax.{LParen, RParen}
 use Rattle.grammar.specs.Words.{Sym, is, PACKAGE, PUB}
 use Rattle.grammar.specs.Look.{oneOf, regular-trivia, at, skip, past, anyone, next-relevant-top-level-token, next-token-after-visibility, at-prefixed-keyword}
-use Rattle.grammar.specs.Run.{pure, peek, inNode, pick, _>>=_, _>>_, take, err}
+use Rattle.grammar.specs.Run.{pure, peek, inNode, pick, _>>=_, _>>_, take-token, err}
 use Rattle.grammar.specs.Message.{Message, number}
 use Rattle.grammar.specs.Bump.{bump-while, expect-kind}
 use Rattle.grammar.specs.Item.{package-in-parens, parse-visibility}
@@ -37,29 +37,29 @@ unfolding skip at
 skip-at p [] e = refl
 skip-at p (s ∷ r) e = rw (e, skip)
 
-expect-key : (k : Sym) (m : Message) (l : List Sym) → pick (at (is k) l) (take >> pure true) (err (number m) >> pure false) l .rest ≡ onward k l
-unfolding at _>>=_ take pure err onward
+expect-key : (k : Sym) (m : Message) (l : List Sym) → pick (at (is k) l) (take-token >> pure true) (err (number m) >> pure false) l .rest ≡ onward k l
+unfolding at _>>=_ take-token pure err onward
 expect-key k m [] = refl
 expect-key k m (s ∷ l) = c (is k s)
   where
-    c : (u : Bool) → pick u (take >> pure true) (err (number m) >> pure false) (s ∷ l) .rest ≡ elim u [ true ↦ l | false ↦ s ∷ l ]
+    c : (u : Bool) → pick u (take-token >> pure true) (err (number m) >> pure false) (s ∷ l) .rest ≡ elim u [ true ↦ l | false ↦ s ∷ l ]
     c true = refl
     c false = refl
 
 expect-rest : (k : Sym) (m : Message) (r : List Sym) → expect-kind k m r .rest ≡ onward k (skip regular-trivia r)
 unfolding expect-kind _>>=_ peek
-expect-rest k m r = ap (λ l. pick (at (is k) l) (take >> pure true) (err (number m) >> pure false) l .rest) (while-rest regular-trivia r) ∙ expect-key k m (skip regular-trivia r)
+expect-rest k m r = ap (λ l. pick (at (is k) l) (take-token >> pure true) (err (number m) >> pure false) l .rest) (while-rest regular-trivia r) ∙ expect-key k m (skip regular-trivia r)
 
 -- Where expect says false it is behind the trivia.
 pub expect-false : (k : Sym) (m : Message) (r : List Sym) → expect-kind k m r .val ≡ false → expect-kind k m r .rest ≡ skip regular-trivia r
-unfolding expect-kind _>>=_ peek at take pure err
+unfolding expect-kind _>>=_ peek at take-token pure err
 expect-false k m r e = c (bump-while regular-trivia r .rest) (while-rest regular-trivia r) e
   where
-    d : (u : Bool) (l : List Sym) → pick u (take >> pure true) (err (number m) >> pure false) l .val ≡ false → pick u (take >> pure true) (err (number m) >> pure false) l .rest ≡ l
+    d : (u : Bool) (l : List Sym) → pick u (take-token >> pure true) (err (number m) >> pure false) l .val ≡ false → pick u (take-token >> pure true) (err (number m) >> pure false) l .rest ≡ l
     d true l e = absurd (false≢true (sym e))
     d false l e = refl
 
-    c : (l : List Sym) → l ≡ skip regular-trivia r → pick (at (is k) l) (take >> pure true) (err (number m) >> pure false) l .val ≡ false → pick (at (is k) l) (take >> pure true) (err (number m) >> pure false) l .rest ≡ skip regular-trivia r
+    c : (l : List Sym) → l ≡ skip regular-trivia r → pick (at (is k) l) (take-token >> pure true) (err (number m) >> pure false) l .val ≡ false → pick (at (is k) l) (take-token >> pure true) (err (number m) >> pure false) l .rest ≡ skip regular-trivia r
     c l q e = d (at (is k) l) l e ∙ q
 
 -- Inside the parentheses; m starts at the one token that lookahead leaves out.
@@ -84,12 +84,12 @@ after-package ks (x ∷ n) h e = c (skip regular-trivia n) refl e
         d true i e = f i (at-some (oneOf ks) (skip regular-trivia o) e) (is PACKAGE x)
         d false i e = absurd (false≢true e)
 
-take-past : (k : Sym) (l : List Sym) → at (is k) l ≡ true → past (is k) l ≡ take l .rest
-unfolding past take at
+take-past : (k : Sym) (l : List Sym) → at (is k) l ≡ true → past (is k) l ≡ take-token l .rest
+unfolding past take-token at
 take-past k [] e = refl
 take-past k (s ∷ l) e = rw (e, past)
 
-package-rest : (r : List Sym) → package-in-parens r .rest ≡ onward RParen (skip regular-trivia (onward PACKAGE (skip regular-trivia (take (skip regular-trivia r) .rest))))
+package-rest : (r : List Sym) → package-in-parens r .rest ≡ onward RParen (skip regular-trivia (onward PACKAGE (skip regular-trivia (take-token (skip regular-trivia r) .rest))))
 unfolding package-in-parens _>>=_
 package-rest r = rw (while-rest regular-trivia r, expect-rest RParen, expect-rest PACKAGE)
 
@@ -103,7 +103,7 @@ behind ks r e = c (at (is LParen) (next-relevant-top-level-token r)) refl e
 
     c : (u : Bool) → at (is LParen) n ≡ u →
         at (oneOf ks) (elim u [ true ↦ skip regular-trivia (past (is RParen) (skip regular-trivia (past anyone (skip regular-trivia (past (is LParen) n))))) | false ↦ n ]) ≡ true → left (pick u package-in-parens (pure true) r .rest) ≡ true
-    c true i e = rw (package-rest r) (after-package ks (skip regular-trivia (take n .rest)) (skip-at regular-trivia _ (skip-no regular-trivia (take n .rest))) (rw (take-past LParen n i) at e))
+    c true i e = rw (package-rest r) (after-package ks (skip regular-trivia (take-token n .rest)) (skip-at regular-trivia _ (skip-no regular-trivia (take-token n .rest))) (rw (take-past LParen n i) at e))
     c false i e = at-some (oneOf ks) n e
 
 pub visible : (ks r : List Sym) → at-prefixed-keyword ks r ≡ true → left (parse-visibility r .rest) ≡ true

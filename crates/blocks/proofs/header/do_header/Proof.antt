@@ -35,7 +35,7 @@ returns c =
     let c₂ = after-put c₁ in
     let c₃ = start c₂ in
     opened (c₂ .put .ensures .wrote (c₃ .args .kinds .now) _ _)
-    (λ next u r h. c₁ .keyword-line .ensures .key then-to c₁ .keyword-line .ensures .tail then-to h)
+    (λ next u r h. c₁ .keyword-line .ensures .key then-to c₁ .keyword-line .ensures .line then-to h)
     (c₁ .keyword-line .ensures .onward)
     (c₁ .keyword-line .ensures .past)
 

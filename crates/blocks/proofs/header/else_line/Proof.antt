@@ -31,7 +31,7 @@ returns c =
     let c₁ = after-keyword-line c in
     let c₂ = start c₁ in
     let taken = take-expected ELSE Message.Unreached refl (c₂ .pre) (c₁ .keyword-line .ensures .key) in
-    record { on = λ next v r h. taken then-to c₁ .keyword-line .ensures .tail then-to h; onward = c₁ .keyword-line .ensures .onward; past = c₁ .keyword-line .ensures .past }
+    record { on = λ next v r h. taken then-to c₁ .keyword-line .ensures .line then-to h; onward = c₁ .keyword-line .ensures .onward; past = c₁ .keyword-line .ensures .past }
 
 pub else-line-spec : {M : Type 1} → statement M
 else-line-spec = tie.close (tie.spec keyword-line-requires (λ c. returns c .onward .ev) (λ c. returns c .onward .dm) (λ c. returns c .onward .ds) returns)

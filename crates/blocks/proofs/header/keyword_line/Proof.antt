@@ -34,7 +34,7 @@ returns c =
     record {
       mid = _;
       key = c₂ .expect .ensures .ran;
-      tail = c₁ .parse-line-tail .ensures;
+      line = c₁ .parse-line-tail .ensures;
       onward = c₂ .expect .ensures .ran .onward farther c₁ .parse-line-tail .ensures .onward;
       past = record { on = omega (arith, moved, c₁ .parse-line-tail .ensures .onward); within = moved .within };
     }

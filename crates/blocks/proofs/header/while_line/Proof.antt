@@ -22,7 +22,7 @@ keyword-line-requires c κs =
 returns : tie.Need-returns
 returns c =
     let c₁ = after-keyword-line c in
-    record { on = λ next v r h. c₁ .keyword-line .ensures .key then-to c₁ .keyword-line .ensures .tail then-to h; onward = c₁ .keyword-line .ensures .onward; past = c₁ .keyword-line .ensures .past }
+    record { on = λ next v r h. c₁ .keyword-line .ensures .key then-to c₁ .keyword-line .ensures .line then-to h; onward = c₁ .keyword-line .ensures .onward; past = c₁ .keyword-line .ensures .past }
 
 pub while-line-spec : {M : Type 1} → statement M
 while-line-spec = tie.close (tie.spec keyword-line-requires (λ c. returns c .onward .ev) (λ c. returns c .onward .dm) (λ c. returns c .onward .ds) returns)

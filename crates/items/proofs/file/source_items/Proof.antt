@@ -12,7 +12,7 @@ use Rattle.lexer.specs.Syntax.{DocComment}
 use Rattle.grammar.specs.Bump.{bump-while, while-round}
 use Rattle.grammar.specs.Laws.Here.{is-not}
 use Rattle.grammar.specs.Look.{oneOf, at, eof, regular-trivia}
-use Rattle.grammar.specs.Run.{leaf, pure, peek, take, scan, _>>=_, _>>_, if_then_else_, P}
+use Rattle.grammar.specs.Run.{leaf, pure, peek, take-token, scan, _>>=_, _>>_, if_then_else_, P}
 use Rattle.grammar.specs.Theorems.NoFuel.{items-eq}
 use Rattle.grammar.specs.Theorems.Rounds.{round-takes}
 use Rattle.grammar.specs.Words.{File, from, Sym, is}
@@ -45,7 +45,7 @@ not-doc s e = is-not regular-trivia DocComment s refl e
 
 -- trivia is an item by itself
 trivia-round : (s : Sym) (r : List Sym) → regular-trivia s ≡ true → round (s ∷ r) ≡ record { rest = items-in limit r .rest; out = leaf s (items-in limit r .out); val = items-in limit r .val }
-unfolding parse-source-item _>>=_ peek at eof take
+unfolding parse-source-item _>>=_ peek at eof take-token
 trivia-round s r e = rw (not-doc s e, e)
 
 trivia-first : (r : List Sym) → items-in limit r ≡ (bump-while regular-trivia >> items-in limit) r
