@@ -59,13 +59,15 @@ same-requires-2 c κs = search needs
 
 returns-2 : tie.Need-returns-2
 returns-2 c =
-    let a = c .before .before .before .before .before .before .before .before .before .args in
-    rw (c .before .before .before .if1 .left, c .if2 .taken) at (named (a .from) _ (drop (a .from) (a .source .now)) (c .before .before .before .before .same .result) (c .before .same2 .result) (c .before .before .before .before .before .before .before .word-end .ensures) (c .before .before .before .before .same .ensures) (c .before .same2 .ensures))
+    let s = c .before .before .before .before in
+    let a = s .before .before .before .before .before .args in
+    rw (c .before .before .before .if1 .left, c .if2 .taken) at (named (a .from) _ (drop (a .from) (a .source .now)) (s .same .result) (c .before .same2 .result) (s .before .before .before .word-end .ensures) (s .same .ensures) (c .before .same2 .ensures))
 
 returns-3 : tie.Need-returns-3
 returns-3 c =
-    let a = c .before .before .before .before .before .before .before .before .before .args in
-    rw (c .before .before .before .if1 .left, c .if2 .left) at (named (a .from) _ (drop (a .from) (a .source .now)) (c .before .before .before .before .same .result) (c .before .same2 .result) (c .before .before .before .before .before .before .before .word-end .ensures) (c .before .before .before .before .same .ensures) (c .before .same2 .ensures))
+    let s = c .before .before .before .before in
+    let a = s .before .before .before .before .before .args in
+    rw (c .before .before .before .if1 .left, c .if2 .left) at (named (a .from) _ (drop (a .from) (a .source .now)) (s .same .result) (c .before .same2 .result) (s .before .before .before .word-end .ensures) (s .same .ensures) (c .before .same2 .ensures))
 
 pub special-spec : {M : Type 1} → statement M
 special-spec =

@@ -7,6 +7,16 @@ use borrow.Author.Needs.{needs}
 use Rattle.lexer.proofs.lexer.tokenize.Statement.{statement}
 use Rattle.lexer.proofs.lexer.tokenize.Tie as tie
 
+-- places
+abbrev after-tokens : tie.After-slice-known4 → tie.After-tokens
+after-tokens c = c .before .before .before .before
+
+abbrev after-least : tie.After-tokens → tie.After-least
+after-least c = c .before .before .before
+
+abbrev start : tie.After-least → tie.Start
+start c = c .before .before .before .before
+
 least-requires : tie.Need-least-requires
 least-requires c κs = search needs
 
@@ -24,7 +34,7 @@ slice-aggregate-tokens-2 c = sym (length-take-le _ _ (omega arith))
 
 tokens-requires : tie.Need-tokens-requires
 tokens-requires c κs =
-    let a = c .before .before .before .before .before .before .args in
+    let a = start (c .before .before) .args in
     let room = c .before .before .least .result in
     (search needs, length-take-le room (a .kinds .now) (omega arith) ∙ sym (length-take-le room (a .ends .now) (omega arith)))
 
@@ -36,8 +46,8 @@ same-length-2 c = search needs
 
 returns : tie.Need-returns
 returns c =
-    let a = c .before .before .before .before .before .before .before .before .before .before .before .args in
-    lent (a .kinds .now) (a .ends .now) (c .before .before .before .before .before .before .before .least .ensures) (c .before .before .before .before .tokens .ensures)
+    let a = start (after-least (after-tokens c)) .args in
+    lent (a .kinds .now) (a .ends .now) (after-least (after-tokens c) .least .ensures) (after-tokens c .tokens .ensures)
 
 pub tokenize-spec : {M : Type 1} → statement M
 tokenize-spec =

@@ -18,6 +18,13 @@ after-88 = follow 98 (run Number binary) after-98
 abbrev after-120 : Lex
 after-120 = follow 88 (run Number hex) after-88
 
+-- places
+abbrev else3 : tie.After-run4 → tie.Else3
+else3 c = c .before .before .before
+
+abbrev else3-from-run5 : tie.After-run5 → tie.Else3
+else3-from-run5 c = c .before .before .before
+
 current-is-requires : tie.Need-current-is-requires
 current-is-requires c κs = search needs
 
@@ -85,24 +92,24 @@ run-requires-4 c κs =
 
 returns-4 : tie.Need-returns-4
 returns-4 c =
-    let a = c .before .before .before .before .before .before .before .before .before .before .args in
+    let a = else3 c .before .before .before .before .before .before .before .args in
     c .run4 .ensures
     ∙ placed-yes 66 (run Number binary) (run Number decimal) (a .source .now) (a .from) (sym (c .before .before .current-is4 .ensures) ∙ c .before .if4 .taken)
-    ∙ placed-no 98 (run Number binary) after-98 (a .from) _ (sym (c .before .before .before .before .current-is3 .ensures) ∙ c .before .before .before .if3 .left)
-    ∙ placed-no 88 (run Number hex) after-88 (a .from) _ (sym (c .before .before .before .before .before .before .current-is2 .ensures) ∙ c .before .before .before .before .before .if2 .left)
-    ∙ placed-no 120 (run Number hex) after-120 (a .from) _ (sym (c .before .before .before .before .before .before .before .before .current-is .ensures) ∙ c .before .before .before .before .before .before .before .if1 .left)
+    ∙ placed-no 98 (run Number binary) after-98 (a .from) _ (sym (else3 c .before .current-is3 .ensures) ∙ else3 c .if3 .left)
+    ∙ placed-no 88 (run Number hex) after-88 (a .from) _ (sym (else3 c .before .before .before .current-is2 .ensures) ∙ else3 c .before .before .if2 .left)
+    ∙ placed-no 120 (run Number hex) after-120 (a .from) _ (sym (else3 c .before .before .before .before .before .current-is .ensures) ∙ else3 c .before .before .before .before .if1 .left)
 
 run-requires-5 : tie.Need-run-requires-5
 run-requires-5 c κs = search needs
 
 returns-5 : tie.Need-returns-5
 returns-5 c =
-    let a = c .before .before .before .before .before .before .before .before .before .before .args in
+    let a = else3-from-run5 c .before .before .before .before .before .before .before .args in
     c .run5 .ensures
     ∙ placed-no 66 (run Number binary) (run Number decimal) (a .from) _ (sym (c .before .before .current-is4 .ensures) ∙ c .before .if4 .left)
-    ∙ placed-no 98 (run Number binary) after-98 (a .from) _ (sym (c .before .before .before .before .current-is3 .ensures) ∙ c .before .before .before .if3 .left)
-    ∙ placed-no 88 (run Number hex) after-88 (a .from) _ (sym (c .before .before .before .before .before .before .current-is2 .ensures) ∙ c .before .before .before .before .before .if2 .left)
-    ∙ placed-no 120 (run Number hex) after-120 (a .from) _ (sym (c .before .before .before .before .before .before .before .before .current-is .ensures) ∙ c .before .before .before .before .before .before .before .if1 .left)
+    ∙ placed-no 98 (run Number binary) after-98 (a .from) _ (sym (else3-from-run5 c .before .current-is3 .ensures) ∙ else3-from-run5 c .if3 .left)
+    ∙ placed-no 88 (run Number hex) after-88 (a .from) _ (sym (else3-from-run5 c .before .before .before .current-is2 .ensures) ∙ else3-from-run5 c .before .before .if2 .left)
+    ∙ placed-no 120 (run Number hex) after-120 (a .from) _ (sym (else3-from-run5 c .before .before .before .before .before .current-is .ensures) ∙ else3-from-run5 c .before .before .before .before .if1 .left)
 
 pub zero-led-spec : {M : Type 1} → statement M
 zero-led-spec =

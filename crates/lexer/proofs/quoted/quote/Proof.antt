@@ -53,6 +53,16 @@ Inv-loop source from at₀ taken₀ identifier-like₀ at taken identifier-like 
 abbrev μ-loop : tie.MeasureT-loop
 μ-loop source from at₀ taken₀ identifier-like₀ at taken identifier-like = length source - at
 
+-- places
+abbrev after-is-line-end : tie.After-keeps Inv-loop μ-loop → tie.After-is-line-end Inv-loop μ-loop
+after-is-line-end c = c .before .before .before
+
+abbrev after-ahead : tie.Else2 Inv-loop μ-loop → tie.After-ahead Inv-loop μ-loop
+after-ahead c = c .before .before .before
+
+abbrev after-ahead-from-then2 : tie.Then2 Inv-loop μ-loop → tie.After-ahead Inv-loop μ-loop
+after-ahead-from-then2 c = c .before .before .before
+
 loop-holds : tie.Need-loop-holds Inv-loop μ-loop
 loop-holds c = search needs
 
@@ -70,9 +80,9 @@ loop-less c = search needs
 
 loop-again : tie.Need-loop-again Inv-loop μ-loop
 loop-again c =
-    let a = c .before .before .before .ahead in
-    let l = c .before .before .before .before .loop in
-    let s = c .before .before .before .before .before .before .args .source .now in
+    let a = after-ahead-from-then2 c .ahead in
+    let l = after-ahead-from-then2 c .before .loop in
+    let s = after-ahead-from-then2 c .before .before .before .args .source .now in
     (search needs, l .inv .1 ∙ a .ensures .2 ∙ ap (λ (t : Bool). placed (a .result) (quoted t (l .identifier-like) (drop (a .result) s))) (c .if2 .taken) ∙ takes s (a .result) (l .identifier-like) (search needs))
 
 is-line-end-requires : tie.Need-is-line-end-requires Inv-loop μ-loop
@@ -92,13 +102,13 @@ loop-less-2 c = search needs
 
 loop-again-2 : tie.Need-loop-again-2 Inv-loop μ-loop
 loop-again-2 c =
-    let a = c .before .before .before .before .before .before .before .ahead in
-    let l = c .before .before .before .before .before .before .before .before .loop in
-    let s = c .before .before .before .before .before .before .before .before .before .before .args .source .now in (
+    let a = after-ahead (after-is-line-end c .before) .ahead in
+    let l = after-ahead (after-is-line-end c .before) .before .loop in
+    let s = after-ahead (after-is-line-end c .before) .before .before .before .args .source .now in (
       search needs,
       l .inv .1 ∙ a .ensures .2
-          ∙ ap (λ (t : Bool). placed (a .result) (quoted t (l .identifier-like) (drop (a .result) s))) (c .before .before .before .before .if2 .left)
-          ∙ goes s (a .result) (l .identifier-like) (search needs) (sym (c .before .before .before .is-line-end .ensures) ∙ c .before .before .if3 .left) (ne-eqb _ _ (c .before .if4 .left))
+          ∙ ap (λ (t : Bool). placed (a .result) (quoted t (l .identifier-like) (drop (a .result) s))) (after-is-line-end c .before .if2 .left)
+          ∙ goes s (a .result) (l .identifier-like) (search needs) (sym (after-is-line-end c .is-line-end .ensures) ∙ c .before .before .if3 .left) (ne-eqb _ _ (c .before .if4 .left))
           ∙ ap (λ (i : Bool). placed (a .result + 1) (quoted (eqb (getD s (a .result) 0) 92) i (drop (a .result + 1) s))) (sym (c .keeps .ensures)),
     )
 
@@ -118,9 +128,9 @@ returns c =
 
 returns-2 : tie.Need-returns-2 Inv-loop μ-loop
 returns-2 c =
-    let a = c .before .before .before .before .before .ahead in
-    let l = c .before .before .before .before .before .before .loop in
-    let s = c .before .before .before .before .before .before .before .before .args .source .now in
+    let a = after-ahead (c .before .before) .ahead in
+    let l = after-ahead (c .before .before) .before .loop in
+    let s = after-ahead (c .before .before) .before .before .before .args .source .now in
     let e =
     ends-with s _ (a .result) false (l .identifier-like) _
     (l .inv .1 ∙ a .ensures .2 ∙ ap (λ (t : Bool). placed (a .result) (quoted t (l .identifier-like) (drop (a .result) s))) (c .before .before .if2 .left))
@@ -129,9 +139,9 @@ returns-2 c =
 
 returns-3 : tie.Need-returns-3 Inv-loop μ-loop
 returns-3 c =
-    let a = c .before .before .before .before .before .before .ahead in
-    let l = c .before .before .before .before .before .before .before .loop in
-    let s = c .before .before .before .before .before .before .before .before .before .args .source .now in
+    let a = after-ahead (c .before .before .before) .ahead in
+    let l = after-ahead (c .before .before .before) .before .loop in
+    let s = after-ahead (c .before .before .before) .before .before .before .args .source .now in
     let e =
     ends-with s _ (a .result) false (l .identifier-like) _
     (l .inv .1 ∙ a .ensures .2 ∙ ap (λ (t : Bool). placed (a .result) (quoted t (l .identifier-like) (drop (a .result) s))) (c .before .before .before .if2 .left))
