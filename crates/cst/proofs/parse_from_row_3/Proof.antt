@@ -1,4 +1,4 @@
--- `cst::parse_valid` meets its contract, by whether the tokens have room. Assumes nothing.
+-- `cst::parse_from_row_3` meets its contract, by whether the tokens have room. Assumes nothing.
 use Prim.Native.Nat.{ℕ, _≤_, _<_}
 use mathlib.Core.Path.{_≡_, refl, sym, ap, ap₂, _∙_}
 use mathlib.Core.List.{List, _++_, map}
@@ -18,12 +18,11 @@ use Rattle.marks.specs.Code.{mark}
 use Rattle.marks.specs.Laws.{marks-unmarked}
 use Rattle.answer.specs.declared.Answer.{Answer}
 use Rattle.answer.specs.declared.Answer.the-variants.{TokenRoom}
-use Rattle.answer.specs.Answer.{slices, outcome, grown, kept, lexed}
-use Rattle.cst.specs.Parts.{Left}
-use Rattle.cst.specs.Laws.{refit}
+use Rattle.answer.specs.Answer.{Slices, slices, Outcome, outcome, from-row-3, from-row-4, from-row-5}
+use Rattle.cst.specs.Laws.{refit, kinds-all}
 use borrow.Author.Needs.{needs}
-use Rattle.cst.proofs.parse_valid.Statement.{statement}
-use Rattle.cst.proofs.parse_valid.Tie as tie
+use Rattle.cst.proofs.parse_from_row_3.Statement.{statement}
+use Rattle.cst.proofs.parse_from_row_3.Tie as tie
 
 module _ (source kinds ends ev dm ds de : List ℕ) (t : ℕ) (kinds₁ ends₁ : List ℕ) (lex : Written mark source kinds ends t kinds₁ ends₁) where
   abbrev r : ℕ
@@ -44,8 +43,8 @@ module _ (source kinds ends ev dm ds de : List ℕ) (t : ℕ) (kinds₁ ends₁ 
       ∙ ap (λ (vs : List ℕ). fit r vs kinds) (marks-unmarked source)
 
   too-many : (n : ℕ) {kinds₂ : List ℕ} → n ≡ r → n < t → kinds₂ ≡ map kindOf (take n kinds₁)
-      → outcome (TokenRoom t) (slices (kinds₂ ++ drop n kinds₁) ends₁ ev dm ds de) ≡ lexed source (slices kinds ends ev dm ds de)
-  unfolding lexed
+      → outcome (TokenRoom t) (slices (kinds₂ ++ drop n kinds₁) ends₁ ev dm ds de) ≡ from-row-3 source (slices kinds ends ev dm ds de)
+  unfolding from-row-3
   too-many n e h k =
       rw (taken-off n (length-take-le r marks (omega (arith, count-is)) ∙ sym e) k, sym (lex .count-is), lt-ltb r t (omega arith), lex .ends-are) refl
 
@@ -62,22 +61,43 @@ module _ (source kinds ends ev dm ds de : List ℕ) (t : ℕ) (kinds₁ ends₁ 
         taken-off t (ap length (take-all r marks (omega (arith, count-is))) ∙ count-is)
         (k ∙ sym (ap (map kindOf) all-marks ∙ marks-unmarked source))
 
-    by-refusal : (q : Refusal) (k e : List ℕ) {a : Answer} {kinds₂ ev′ dm′ ds′ de′ : List ℕ}
-        → Left source (kept q source (slices k e ev dm ds de)) a kinds₂ ev′ dm′ ds′ de′
-        → outcome a (slices (kinds₂ ++ drop t kinds₁) ends₁ ev′ dm′ ds′ de′) ≡ kept q source (slices kinds ends ev dm ds de)
-    unfolding kept grown
-    by-refusal Nothing k e l =
-        rw (plain-again (l .kinds-are), lex .ends-are, l .answer-is, l .events-are, l .messages-are, l .starts-are, l .stops-are) refl
-    by-refusal (At n) k e l =
-        rw (plain-again (l .kinds-are), lex .ends-are, l .answer-is, l .events-are, l .messages-are, l .starts-are, l .stops-are) refl
+    -- the same, of the part for the tokens
+    plain-part : fit (room (take t kinds₁) (take t ends₁)) (token-kinds source) (take t kinds₁) ≡ token-kinds source
+    plain-part = kinds-all source (take t kinds₁) (take t ends₁) (ap length all-marks ∙ length-map (tokenize source) mark) all-ends
 
-    enough : (k e : List ℕ) {a : Answer} {kinds₂ ev′ dm′ ds′ de′ : List ℕ}
-        → Left source (kept (first-refused 0 (tokenize source)) source (slices k e ev dm ds de)) a kinds₂ ev′ dm′ ds′ de′
-        → outcome a (slices (kinds₂ ++ drop t kinds₁) ends₁ ev′ dm′ ds′ de′) ≡ lexed source (slices kinds ends ev dm ds de)
-    unfolding lexed
-    enough k e l =
-        by-refusal (first-refused 0 (tokenize source)) k e l
-        ∙ rw (sym (lex .count-is), le-ltb r t h) refl
+    by-refusal : (q : Refusal) {a : Answer} {kinds₂ ends₂ ev′ dm′ ds′ de′ : List ℕ}
+        → outcome a (slices kinds₂ ends₂ ev′ dm′ ds′ de′) ≡ from-row-4 q source (slices (take t kinds₁) (take t ends₁) ev dm ds de)
+        → outcome a (slices (kinds₂ ++ drop t kinds₁) ends₁ ev′ dm′ ds′ de′) ≡ from-row-4 q source (slices kinds ends ev dm ds de)
+    unfolding from-row-4 from-row-5
+    by-refusal Nothing l =
+        rw (
+          plain-again (ap (λ (o : Outcome). o .slices .kinds) l ∙ plain-part),
+          lex .ends-are,
+          ap (λ (o : Outcome). o .answer) l,
+          ap (λ (o : Outcome). o .slices .events) l,
+          ap (λ (o : Outcome). o .slices .messages) l,
+          ap (λ (o : Outcome). o .slices .starts) l,
+          ap (λ (o : Outcome). o .slices .stops) l,
+        )
+        refl
+    by-refusal (At n) l =
+        rw (
+          plain-again (ap (λ (o : Outcome). o .slices .kinds) l ∙ plain-part),
+          lex .ends-are,
+          ap (λ (o : Outcome). o .answer) l,
+          ap (λ (o : Outcome). o .slices .events) l,
+          ap (λ (o : Outcome). o .slices .messages) l,
+          ap (λ (o : Outcome). o .slices .starts) l,
+          ap (λ (o : Outcome). o .slices .stops) l,
+        )
+        refl
+
+    enough : {a : Answer} {kinds₂ ends₂ ev′ dm′ ds′ de′ : List ℕ}
+        → outcome a (slices kinds₂ ends₂ ev′ dm′ ds′ de′)
+        ≡ from-row-4 (first-refused 0 (tokenize source)) source (slices (take t kinds₁) (take t ends₁) ev dm ds de)
+        → outcome a (slices (kinds₂ ++ drop t kinds₁) ends₁ ev′ dm′ ds′ de′) ≡ from-row-3 source (slices kinds ends ev dm ds de)
+    unfolding from-row-3
+    enough l = by-refusal (first-refused 0 (tokenize source)) l ∙ rw (sym (lex .count-is), le-ltb r t h) refl
 
 tokenize-requires : tie.Need-tokenize-requires
 tokenize-requires c κs = search needs
@@ -107,20 +127,20 @@ returns c =
     let a = c₂ .before .before .before .before .before .before .before .before .before .before .args in
     too-many (a .source .now) (a .kinds .now) (a .ends .now) (a .events .now) (a .messages .now) (a .starts .now) (a .stops .now) _ _ _ (c₂ .tokenize .ensures .written) (c₁ .least .result) (omega (arith, c₁ .least .ensures, c₂ .tokenize .kept)) (c .before .before .before .before .if1 .taken) (c .before .before .unmark .ensures)
 
-slice-relend-prefix-parse-tokens : tie.Need-slice-relend-prefix-parse-tokens
-slice-relend-prefix-parse-tokens c = search needs
+slice-relend-prefix-parse-from-row-4 : tie.Need-slice-relend-prefix-parse-from-row-4
+slice-relend-prefix-parse-from-row-4 c = search needs
 
-slice-aggregate-parse-tokens : tie.Need-slice-aggregate-parse-tokens
-slice-aggregate-parse-tokens c = sym (length-take-le _ _ (omega (arith, c .before .if1 .left, c .before .before .least .ensures)))
+slice-aggregate-parse-from-row-4 : tie.Need-slice-aggregate-parse-from-row-4
+slice-aggregate-parse-from-row-4 c = sym (length-take-le _ _ (omega (arith, c .before .if1 .left, c .before .before .least .ensures)))
 
-slice-reshare-prefix-parse-tokens : tie.Need-slice-reshare-prefix-parse-tokens
-slice-reshare-prefix-parse-tokens c = search needs
+slice-reshare-prefix-parse-from-row-4 : tie.Need-slice-reshare-prefix-parse-from-row-4
+slice-reshare-prefix-parse-from-row-4 c = search needs
 
-slice-aggregate-parse-tokens-2 : tie.Need-slice-aggregate-parse-tokens-2
-slice-aggregate-parse-tokens-2 c = sym (length-take-le _ _ (omega (arith, c .before .before .if1 .left, c .before .before .before .least .ensures)))
+slice-aggregate-parse-from-row-4-2 : tie.Need-slice-aggregate-parse-from-row-4-2
+slice-aggregate-parse-from-row-4-2 c = sym (length-take-le _ _ (omega (arith, c .before .before .if1 .left, c .before .before .before .least .ensures)))
 
-parse-tokens-requires : tie.Need-parse-tokens-requires
-parse-tokens-requires c κs =
+parse-from-row-4-requires : tie.Need-parse-from-row-4-requires
+parse-from-row-4-requires c κs =
     let c₁ = c .before .before .before .before .before .before in
     let c₂ = c₁ .before in
     let c₃ = c₂ .before .before .before .before .before in
@@ -156,10 +176,10 @@ returns-2 c =
     let c₃ = c₂ .before in
     let c₄ = c₃ .before .before .before .before .before in
     let a = c₄ .before .before .before .before .before .before .before .before .before .before .args in
-    enough (a .source .now) (a .kinds .now) (a .ends .now) (a .events .now) (a .messages .now) (a .starts .now) (a .stops .now) _ _ _ (c₄ .tokenize .ensures .written) (omega (arith, c₂ .if1 .left, c₃ .least .ensures, c₄ .tokenize .kept)) _ _ (c₁ .parse-tokens .ensures)
+    enough (a .source .now) (a .kinds .now) (a .ends .now) (a .events .now) (a .messages .now) (a .starts .now) (a .stops .now) _ _ _ (c₄ .tokenize .ensures .written) (omega (arith, c₂ .if1 .left, c₃ .least .ensures, c₄ .tokenize .kept)) (c₁ .parse-from-row-4 .ensures)
 
-pub parse-valid-spec : {M : Type 1} → statement M
-parse-valid-spec =
+pub parse-from-row-3-spec : {M : Type 1} → statement M
+parse-from-row-3-spec =
     tie.close
     (tie.spec
     tokenize-requires
@@ -170,11 +190,11 @@ parse-valid-spec =
     same-length
     same-length-2
     returns
-    slice-relend-prefix-parse-tokens
-    slice-aggregate-parse-tokens
-    slice-reshare-prefix-parse-tokens
-    slice-aggregate-parse-tokens-2
-    parse-tokens-requires
+    slice-relend-prefix-parse-from-row-4
+    slice-aggregate-parse-from-row-4
+    slice-reshare-prefix-parse-from-row-4
+    slice-aggregate-parse-from-row-4-2
+    parse-from-row-4-requires
     same-length-3
     same-length-4
     same-length-5
