@@ -111,8 +111,8 @@ module _
           k ∙ ap (map kindOf) symbols-are ∙ source-unmarked s,
           p .ev ∙ over-fit (b .ev) (events-of s),
           p .dm
-          ∙ ap (over (b .dm) 0) (sym (messages-of-places (token-ends s) (last-char s) said))
-          ∙ over-room room (b .dm) (map (λ p. p .msg) (places-of s)) (omega arith),
+              ∙ ap (over (b .dm) 0) (sym (messages-of-places (token-ends s) (last-char s) said))
+              ∙ over-room room (b .dm) (map (λ p. p .msg) (places-of s)) (omega arith),
           written .0 ∙ over-room room (b .ds) (map (λ p. p .start) (places-of s)) (omega arith),
           written .1 ∙ over-room room de (map (λ p. p .stop) (places-of s)) (omega arith),
         )

@@ -38,15 +38,14 @@ pub places-over : (ends : List ℕ) (anchor : ℕ) (l : List Diag) (starts stops
     × (stops′ ≡ over stops 0 (map (λ p. p .stop) (places ends anchor l)))
 places-over ends anchor l starts stops starts′ stops′ h p =
     let vs : List ℕ = indices l in
-    let n : length l ≡ length vs = sym (length-map l _) in
-    (
+    let n : length l ≡ length vs = sym (length-map l _) in (
       p .starts-are
-      ∙ ap (λ (k : ℕ). map (start-of ends anchor) (take k (over starts 0 vs)) ++ drop k (over starts 0 vs)) n
-      ∙ ap (λ (r : List ℕ). map (start-of ends anchor) (take (length vs) (over starts 0 vs)) ++ r) (rest-over starts vs)
-      ∙ by-each (start-of ends anchor) starts starts vs refl
-      ∙ ap (over starts 0) (sym (starts-of-places ends anchor l)),
+          ∙ ap (λ (k : ℕ). map (start-of ends anchor) (take k (over starts 0 vs)) ++ drop k (over starts 0 vs)) n
+          ∙ ap (λ (r : List ℕ). map (start-of ends anchor) (take (length vs) (over starts 0 vs)) ++ r) (rest-over starts vs)
+          ∙ by-each (start-of ends anchor) starts starts vs refl
+          ∙ ap (over starts 0) (sym (starts-of-places ends anchor l)),
       p .stops-are
-      ∙ ap (λ (k : ℕ). map (stop-of ends anchor) (take k (over starts 0 vs)) ++ drop k stops) n
-      ∙ by-each (stop-of ends anchor) starts stops vs h
-      ∙ ap (over stops 0) (sym (stops-of-places ends anchor l)),
+          ∙ ap (λ (k : ℕ). map (stop-of ends anchor) (take k (over starts 0 vs)) ++ drop k stops) n
+          ∙ by-each (stop-of ends anchor) starts stops vs h
+          ∙ ap (over stops 0) (sym (stops-of-places ends anchor l)),
     )

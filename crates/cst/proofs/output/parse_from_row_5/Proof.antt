@@ -41,7 +41,7 @@ module _ (source kinds ends ev dm ds de : List ℕ) where
       let ls : length (take n ds) ≡ n = length-take-le n ds (omega arith) in
       let le : length (take n de) ≡ n = length-take-le n de (omega arith) in
       let answer-is : r ≡ from-row-5 source (slices kinds ends ev dm ds de) .answer =
-          a ∙ rw (tokens, event-room, m, event-count, diagnostic-count) refl in
+      a ∙ rw (tokens, event-room, m, event-count, diagnostic-count) refl in
       rw (
         answer-is,
         ap (λ (s : Slices). s .kinds) output,
