@@ -13,7 +13,7 @@ use Rattle.utf8.specs.declared.Utf8.the-variants.{Valid, At}
 use Rattle.utf8.specs.Validate.{validate}
 use Rattle.lexer.specs.Lexer.{tokenize}
 use Rattle.room.specs.Over.{fit-first}
-use Rattle.lexer.specs.Tokens.{kindOf, token-kinds, token-ends}
+use Rattle.lexer.specs.Tokens.{MAX-SOURCE, kindOf, token-kinds, token-ends}
 use Rattle.lexer.specs.Laws.{length-ends}
 use Rattle.marks.specs.declared.Refusal.{Refusal}
 use Rattle.marks.specs.declared.Refusal.the-variants as refusal
@@ -21,7 +21,8 @@ use Rattle.marks.specs.Marks.{first-refused}
 use Rattle.answer.specs.declared.Answer.{Answer}
 use Rattle.answer.specs.declared.Answer.the-variants.{OutputRoom}
 use Rattle.answer.specs.declared.Answer.the-variants as answer
-use Rattle.answer.specs.Answer.{Slices, token-room, diagnostic-room, events-of, places-of, with-all, from-row-5, from-row-4, from-row-3, from-row-2, parse-text}
+use Rattle.answer.specs.Answer.{Slices, token-room, diagnostic-room, events-of, places-of, with-all}
+use Rattle.answer.specs.Answer.{from-row-5, from-row-4, from-row-3, from-row-2, parse-text}
 use Rattle.answer.specs.Numbers.{numbers}
 use Rattle.answer.specs.Call.{Reply, reply, call, MasmParseText}
 use Rattle.answer.specs.Given.{token-count, event-count, diagnostic-count, given}
@@ -29,7 +30,7 @@ use Rattle.answer.specs.Given.{token-count, event-count, diagnostic-coun
 -- No row above the last holds.
 pub record LastRow (source : List ℕ) (s : Slices) (counts : List ℕ) : Type 0 where
   pub words : 3 ≤ length counts
-  pub small : length source ≤ 1048576
+  pub small : length source ≤ MAX-SOURCE
   pub utf8 : validate source ≡ Valid
   pub tokens : length (tokenize source) ≤ token-room s
   pub no-refusal : first-refused 0 (tokenize source) ≡ refusal.Nothing
@@ -65,7 +66,8 @@ module _ (source : List ℕ) (s : Slices) where
   is-valid Valid h = (refl, h)
   is-valid (At n) h = absurd (omega arith)
 
-  by-tokens : status-of (from-row-3 source s .answer) ≡ 0 → (t ≤ token-room s) × (status-of (from-row-4 (first-refused 0 (tokenize source)) source s .answer) ≡ 0)
+  by-tokens : status-of (from-row-3 source s .answer) ≡ 0
+      → (t ≤ token-room s) × (status-of (from-row-4 (first-refused 0 (tokenize source)) source s .answer) ≡ 0)
   unfolding from-row-3
   by-tokens = by-test (ltb (token-room s) t) refl
     where
@@ -74,20 +76,22 @@ module _ (source : List ℕ) (s : Slices) where
       by-test true k h = absurd (omega (arith, rw k at h))
       by-test false k h = (ltb-false (token-room s) t k, rw k at h)
 
-  by-length : status-of (parse-text source s .answer) ≡ 0 → (length source ≤ 1048576) × (status-of (from-row-2 (validate source) source s .answer) ≡ 0)
+  by-length : status-of (parse-text source s .answer) ≡ 0
+      → (length source ≤ MAX-SOURCE) × (status-of (from-row-2 (validate source) source s .answer) ≡ 0)
   unfolding parse-text
-  by-length = by-test (ltb 1048576 (length source)) refl
+  by-length = by-test (ltb MAX-SOURCE (length source)) refl
     where
-      by-test : (u : Bool) → ltb 1048576 (length source) ≡ u → status-of (parse-text source s .answer) ≡ 0
-          → (length source ≤ 1048576) × (status-of (from-row-2 (validate source) source s .answer) ≡ 0)
+      by-test : (u : Bool) → ltb MAX-SOURCE (length source) ≡ u → status-of (parse-text source s .answer) ≡ 0
+          → (length source ≤ MAX-SOURCE) × (status-of (from-row-2 (validate source) source s .answer) ≡ 0)
       by-test true k h = absurd (omega (arith, rw k at h))
-      by-test false k h = (ltb-false 1048576 (length source) k, rw k at h)
+      by-test false k h = (ltb-false MAX-SOURCE (length source) k, rw k at h)
 
   by-words : (counts : List ℕ) → call source s counts .status ≡ 0 → (3 ≤ length counts) × (status-of (parse-text source s .answer) ≡ 0)
   unfolding call
   by-words counts = by-test (ltb (length counts) 3) refl
     where
-      by-test : (u : Bool) → ltb (length counts) 3 ≡ u → call source s counts .status ≡ 0 → (3 ≤ length counts) × (status-of (parse-text source s .answer) ≡ 0)
+      by-test : (u : Bool) → ltb (length counts) 3 ≡ u → call source s counts .status ≡ 0
+          → (3 ≤ length counts) × (status-of (parse-text source s .answer) ≡ 0)
       by-test true k h = absurd (omega (arith, rw k at h))
       by-test false k h = (ltb-false (length counts) 3 k, rw k at h)
 
@@ -115,7 +119,7 @@ module _ (source : List ℕ) (s : Slices) where
   reply-of-last-row counts a =
       rw (
         le-ltb (length counts) 3 (a .words),
-        le-ltb 1048576 (length source) (a .small),
+        le-ltb MAX-SOURCE (length source) (a .small),
         a .utf8,
         le-ltb (token-room s) t (a .tokens),
         a .no-refusal,
@@ -156,7 +160,8 @@ module _ (source : List ℕ) (s : Slices) (counts : List ℕ) (a : LastRow sourc
       )
       refl
 
-  pub reading-of-call : {r : ℕ} {s′ : Slices} {counts′ : List ℕ} → MasmParseText source s counts r s′ counts′ → (r ≡ 0) × GivesReading source s′ counts′
+  pub reading-of-call : {r : ℕ} {s′ : Slices} {counts′ : List ℕ} → MasmParseText source s counts r s′ counts′
+      → (r ≡ 0) × GivesReading source s′ counts′
   reading-of-call c =
       let k = reply-of-last-row source s counts a in
       let h = c .counts-are ∙ ap (λ (x : Reply). x .counts) k in (

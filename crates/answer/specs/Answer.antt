@@ -12,7 +12,7 @@ use Rattle.utf8.specs.declared.Utf8.the-variants.{Valid, At}
 use Rattle.utf8.specs.Validate.{validate}
 use Rattle.lexer.specs.Lexer.{tokenize}
 use Rattle.room.specs.Over.{fit}
-use Rattle.lexer.specs.Tokens.{token-kinds, token-ends}
+use Rattle.lexer.specs.Tokens.{MAX-SOURCE, token-kinds, token-ends}
 use Rattle.grammar.specs.Out.{Place}
 use Rattle.grammar.specs.Source.{source-events, source-places}
 use Rattle.grammar.specs.Block.{MAX-CONTROL-FLOW-NESTING as limit}
@@ -98,14 +98,14 @@ outcome a s = record { answer = a; slices = s }
 abbrev pub short : List ℕ → Slices → Bool
 short source s = ltb (length (s .events)) (length (events-of source)) || ltb (diagnostic-room s) (length (places-of source))
 
--- Document 01's table from row 5 up to row 1: what each row and those below it say where no row above holds.
--- Row 5: no room for the events or the diagnostics; else the source is accepted.
+-- Document 01's table from its end up. A row is called by the number that it returns; `from-row-5` is the answer where no row above row 5 holds.
+-- Row 5: no room for the events or the diagnostics. Else row 0: the source is accepted.
 unfoldable pub from-row-5 : List ℕ → Slices → Outcome
 from-row-5 source s =
     outcome (cond (short source s) OutputRoom Accepted (length (tokenize source)) (length (events-of source)) (length (places-of source)))
     (with-all source s)
 
--- Row 4: an Ident `use` or `extern`.
+-- Row 4: an Ident `use` or `extern`, the first of them at n.
 unfoldable pub from-row-4 : Refusal → List ℕ → Slices → Outcome
 from-row-4 refusal.Nothing source s = from-row-5 source s
 from-row-4 (refusal.At n) source s = outcome (Refused n) (with-tokens source s)
@@ -117,11 +117,11 @@ from-row-3 source s =
     (outcome (TokenRoom (length (tokenize source))) (with-tokens source s))
     (from-row-4 (first-refused 0 (tokenize source)) source s)
 
--- Row 2: not UTF-8.
+-- Row 2: not UTF-8, the longest valid start ends at n.
 unfoldable pub from-row-2 : Utf8 → List ℕ → Slices → Outcome
 from-row-2 Valid source s = from-row-3 source s
 from-row-2 (At n) source s = outcome (NotUtf8 n) s
 
 -- Row 1, too long, and so the whole: the reading of any bytes into any slices.
 unfoldable pub parse-text : List ℕ → Slices → Outcome
-parse-text source s = cond (ltb 1048576 (length source)) (outcome TooLong s) (from-row-2 (validate source) source s)
+parse-text source s = cond (ltb MAX-SOURCE (length source)) (outcome TooLong s) (from-row-2 (validate source) source s)

@@ -26,7 +26,7 @@ row-reply n s counts = reply (n .status) s (n .first ∷ n .second ∷ n .third 
 abbrev pub answer-reply : Outcome → List ℕ → Reply
 answer-reply o counts = row-reply (numbers (o .answer)) (o .slices) counts
 
--- Document 01's table, its first row before the others.
+-- Document 01's table: row 6, its first, and then the others.
 unfoldable pub call : List ℕ → Slices → List ℕ → Reply
 call source s counts = cond (ltb (length counts) 3) (reply 6 s counts) (answer-reply (parse-text source s) counts)
 

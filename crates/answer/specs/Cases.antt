@@ -8,6 +8,7 @@ use lib.Dec.{eqb}
 use lib.ListN.{length, replicate}
 use Rattle.utf8.specs.Table
 use Rattle.utf8.specs.Validate
+use Rattle.lexer.specs.Tokens.{MAX-SOURCE}
 use Rattle.lexer.specs.Syntax.{Newline, RParen}
 use Rattle.lexer.specs.Laws.{last}
 use Rattle.grammar.specs.Words.{is}
@@ -42,7 +43,7 @@ loan-slices l =
 -- The call on a source with these lent. To unfold `made` is to unfold what its line names: all that computes.
 unfoldable pub made : List ℕ → Loan → Reply
 unfolding again call parse-text from-row-2 from-row-3 from-row-4 from-row-5
-    Marks.first-refused Marks.is-refused Validate.from Table.lengthIn Table.table Table.agree
+    Marks.first-refused Marks.is-refused Validate.validate-from Table.lengthIn Table.table Table.agree
 made source l = call source (loan-slices l) (zeros (l .words))
 
 pub called : (source : List ℕ) (l : Loan)
@@ -96,7 +97,7 @@ module _ (c : Case) where
   abbrev pub Holds : Premise → Type 0
   Holds first-accepted = on-a .status ≡ 0
   Holds second-accepted = on-b .status ≡ 0
-  Holds within-limit = length (c .a ++ c .b) ≤ 1048576
+  Holds within-limit = length (c .a ++ c .b) ≤ MAX-SOURCE
   Holds room-for-tokens = token-count (on-a .counts) + token-count (on-b .counts) ≤ token-room (loan-slices (c .for-join))
   Holds room-for-events = event-count (on-a .counts) + event-count (on-b .counts) ≤ length (loan-slices (c .for-join) .events) + 2
   Holds room-for-diagnostics = diagnostic-count (on-a .counts) + diagnostic-count (on-b .counts) ≤ diagnostic-room (loan-slices (c .for-join))
@@ -133,7 +134,7 @@ module _ (c : Case) where
       (record { tokens = tokens; events = events; diagnostics = diagnostics; words = words })
       (record { newline = newline; line-feed = line-feed; word = word; closes = closes; starts = starts })
 
-  pub premises-are : on-a .status ≡ 0 → on-b .status ≡ 0 → length (c .a ++ c .b) ≤ 1048576
+  pub premises-are : on-a .status ≡ 0 → on-b .status ≡ 0 → length (c .a ++ c .b) ≤ MAX-SOURCE
       → Fits (loan-slices (c .for-join)) (zeros (c .for-join .words)) (on-a .counts) (on-b .counts) → CallsJoin (c .a) given-a given-b → AllBut 12
   premises-are first second within f j =
       (first, second, within, f .tokens, f .events, f .diagnostics, f .words, j .newline, j .line-feed, j .word, j .closes, j .starts)

@@ -8,7 +8,7 @@ use lib.ListN.{length, length-map}
 use Rattle.utf8.specs.WellFormed.{WellFormed}
 use Rattle.utf8.specs.Laws.{accepts as valid}
 use Rattle.lexer.specs.Lexer.{tokenize}
-use Rattle.lexer.specs.Tokens.{token-kinds}
+use Rattle.lexer.specs.Tokens.{MAX-SOURCE, token-kinds}
 use Rattle.lexer.specs.Tokens
 use Rattle.lexer.specs.Laws.{Every, bytes, lossless, few-tokens, length-ends}
 use Rattle.grammar.specs.Words.{Sym, kindOf, eventOf}
@@ -24,7 +24,7 @@ use Rattle.grammar.specs.Theorems.FewOpen.{peak, few-open}
 use Rattle.grammar.specs.Theorems.FewEvents.{few-events}
 use Rattle.grammar.specs.Theorems.FewDiagnostics.{few-diagnostics}
 use Rattle.grammar.specs.Block.{MAX-CONTROL-FLOW-NESTING as limit}
-use Rattle.marks.specs.Laws.{Kept, all-kept, source-unmarked}
+use Rattle.marks.specs.Laws.{NotRefused, none-refused, source-unmarked}
 use Rattle.answer.specs.Answer.{Slices, token-room, diagnostic-room, events-of, places-of}
 use Rattle.answer.specs.Call.{MasmParseText}
 use Rattle.answer.specs.Given.{token-count, event-count, diagnostic-count, given, cut}
@@ -66,7 +66,8 @@ diagnostics-few source =
 events-few : (source : List ℕ) → length (events-of source) ≤ 7 * length (tokenize source) + 2
 events-few source = omega (arith, few-events limit (symbols source), length-map (tokenize source) Source.sym)
 
-of-reading : (source : List ℕ) (counts : List ℕ) → token-count counts ≡ length (tokenize source) → event-count counts ≡ length (events-of source) → diagnostic-count counts ≡ length (places-of source)
+of-reading : (source : List ℕ) (counts : List ℕ) → token-count counts ≡ length (tokenize source)
+    → event-count counts ≡ length (events-of source) → diagnostic-count counts ≡ length (places-of source)
     → Facts source (reading-slices source) counts
 of-reading source counts t e d =
     record {
@@ -88,8 +89,8 @@ facts source s counts c z =
     rw (g .given-is) (of-reading source _ (g .t-is) (g .e-is) (g .d-is))
 
 -- For n bytes: n tokens, 7 * n + 2 events and 2 * n diagnostics.
-pub enough-room : (source : List ℕ) (s : Slices) (counts : List ℕ) {r : ℕ} {s′ : Slices} {counts′ : List ℕ} → MasmParseText source s counts r s′ counts′
-    → length source ≤ 1048576 → WellFormed source → Every Kept (tokenize source)
+pub enough-room : (source : List ℕ) (s : Slices) (counts : List ℕ) {r : ℕ} {s′ : Slices} {counts′ : List ℕ}
+    → MasmParseText source s counts r s′ counts′ → length source ≤ MAX-SOURCE → WellFormed source → Every NotRefused (tokenize source)
     → length source ≤ token-room s → 7 * length source + 2 ≤ length (s .events) → 2 * length source ≤ diagnostic-room s → 3 ≤ length counts → r ≡ 0
 enough-room source s counts c small well plain token-room event-room diagnostic-room words =
     let f = few-tokens source in
@@ -98,7 +99,7 @@ enough-room source s counts c small well plain token-room event-room diagnostic-
       small = small;
       utf8 = valid source well;
       tokens = omega arith;
-      no-refusal = all-kept 0 (tokenize source) plain;
+      no-refusal = none-refused 0 (tokenize source) plain;
       events = omega (arith, events-few source);
       places = omega (arith, diagnostics-few source);
     }) c .0

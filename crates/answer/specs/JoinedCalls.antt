@@ -7,9 +7,9 @@ use native.Mathlib.Omega.{arith}
 use lib.ListN.{length, length-append, length-map}
 use Rattle.utf8.specs.WellFormed.{WellFormed}
 use Rattle.utf8.specs.Last.{last-char, last-append}
-use Rattle.utf8.specs.Laws.{accepted as well-formed, joined as valid-join}
+use Rattle.utf8.specs.Laws.{accepted as well-formed, valid-join}
 use Rattle.lexer.specs.Lexer.{tokenize}
-use Rattle.lexer.specs.Tokens.{token-ends}
+use Rattle.lexer.specs.Tokens.{MAX-SOURCE, token-ends}
 use Rattle.lexer.specs.Laws.{last-end, length-ends, tokenize-nil}
 use Rattle.lexer.specs.Join.{join, join-kinds, join-ends}
 use Rattle.grammar.specs.Look.{at}
@@ -21,7 +21,7 @@ use Rattle.grammar.specs.Joins
 use Rattle.grammar.specs.Theorems.Joined.{end-follows, joined, joined-events}
 use Rattle.grammar.specs.Theorems.JoinedBytes.{joined-bytes}
 use Rattle.grammar.specs.Block.{MAX-CONTROL-FLOW-NESTING as limit}
-use Rattle.marks.specs.Laws.{join-syms, join-kept}
+use Rattle.marks.specs.Laws.{join-syms, join-none-refused}
 use Rattle.answer.specs.Answer.{Slices, events-of, places-of}
 use Rattle.answer.specs.Call.{MasmParseText}
 use Rattle.answer.specs.Given.{token-count, event-count, diagnostic-count, given, CallsJoin, Fits, JoinReply}
@@ -71,7 +71,8 @@ module _ (a b : List ℕ) (j : CallsJoin a (reading-slices a) (reading-slices b)
         ∙ ap (λ (n : ℕ). length (places-of a) + n) (length-map (places-of b) (shift (length a)))
 
     -- a number of the diagnostics, B's moved on by f
-    by-place : (f : Place → ℕ) (g : ℕ → ℕ) → ((p : Place) → f (shift (length a) p) ≡ g (f p)) → map f (places-of (a ++ b)) ≡ map f (places-of a) ++ map g (map f (places-of b))
+    by-place : (f : Place → ℕ) (g : ℕ → ℕ) → ((p : Place) → f (shift (length a) p) ≡ g (f p))
+        → map f (places-of (a ++ b)) ≡ map f (places-of a) ++ map g (map f (places-of b))
     by-place f g h =
         ap (map f) places-are
         ∙ map-append f (places-of a) (map (shift (length a)) (places-of b))
@@ -86,7 +87,8 @@ module _ (a b : List ℕ) (j : CallsJoin a (reading-slices a) (reading-slices b)
         by-place (λ p. p .msg) (λ n. n) (λ p. refl)
         ∙ ap (λ (l : List ℕ). map (λ (p : Place). p .msg) (places-of a) ++ l) (map-id (map (λ p. p .msg) (places-of b)))
 
-    pub for-readings : {ca cb cj : List ℕ} {r : ℕ} → r ≡ 0 → token-count cj ≡ token-count ca + token-count cb → event-count cj + 2 ≡ event-count ca + event-count cb → diagnostic-count cj ≡ diagnostic-count ca + diagnostic-count cb
+    pub for-readings : {ca cb cj : List ℕ} {r : ℕ} → r ≡ 0 → token-count cj ≡ token-count ca + token-count cb
+        → event-count cj + 2 ≡ event-count ca + event-count cb → diagnostic-count cj ≡ diagnostic-count ca + diagnostic-count cb
         → JoinReply (length a) (reading-slices a) (reading-slices b) (reading-slices (a ++ b)) ca cb cj r
     for-readings z t e d = record {
       returned = z;
@@ -107,7 +109,7 @@ module _
     (a b : List ℕ) (sa sb sj : Slices) (ca cb cj : List ℕ) {ra rb rj : ℕ} {sa′ sb′ sj′ : Slices} {ca′ cb′ cj′ : List ℕ}
     (on-a : MasmParseText a sa ca ra sa′ ca′) (on-b : MasmParseText b sb cb rb sb′ cb′) (on-join : MasmParseText (a ++ b) sj cj rj sj′ cj′)
   where
-    pub joined-calls : ra ≡ 0 → rb ≡ 0 → length (a ++ b) ≤ 1048576 → Fits sj cj ca′ cb′ → CallsJoin a (given sa′ ca′) (given sb′ cb′)
+    pub joined-calls : ra ≡ 0 → rb ≡ 0 → length (a ++ b) ≤ MAX-SOURCE → Fits sj cj ca′ cb′ → CallsJoin a (given sa′ ca′) (given sb′ cb′)
         → JoinReply (length a) (given sa′ ca′) (given sb′ cb′) (given sj′ cj′) ca′ cb′ cj′ rj
     joined-calls za zb small fits joins =
         let pa = last-row-of-call a sa ca on-a za in
@@ -121,7 +123,7 @@ module _
           small = small;
           utf8 = valid-join a b (pa .utf8) (pb .utf8);
           tokens = omega (arith, tokens-add a b j, ga .t-is, gb .t-is, fits .tokens);
-          no-refusal = join-kept a b (j .newline) (j .line-feed) (pa .no-refusal) (pb .no-refusal);
+          no-refusal = join-none-refused a b (j .newline) (j .line-feed) (pa .no-refusal) (pb .no-refusal);
           events = omega (arith, events-add a b j, ga .e-is, gb .e-is, fits .events);
           places = omega (arith, places-add a b j well, ga .d-is, gb .d-is, fits .diagnostics);
         } in
@@ -134,7 +136,9 @@ module _
         (omega (arith, places-add a b j well, ga .d-is, gb .d-is, gj .d-is)))
 
 -- Slices that just fit do fit.
-pub just-fit : (s : Slices) (counts ca cb : List ℕ) → length (s .kinds) ≡ token-count ca + token-count cb → length (s .ends) ≡ token-count ca + token-count cb
-    → length (s .events) + 2 ≡ event-count ca + event-count cb → length (s .messages) ≡ diagnostic-count ca + diagnostic-count cb → length (s .starts) ≡ diagnostic-count ca + diagnostic-count cb → length (s .stops) ≡ diagnostic-count ca + diagnostic-count cb
+pub just-fit : (s : Slices) (counts ca cb : List ℕ)
+    → length (s .kinds) ≡ token-count ca + token-count cb → length (s .ends) ≡ token-count ca + token-count cb
+    → length (s .events) + 2 ≡ event-count ca + event-count cb → length (s .messages) ≡ diagnostic-count ca + diagnostic-count cb
+    → length (s .starts) ≡ diagnostic-count ca + diagnostic-count cb → length (s .stops) ≡ diagnostic-count ca + diagnostic-count cb
     → length counts ≡ 3 → Fits s counts ca cb
 just-fit s counts ca cb k e v m b d w = record { tokens = omega arith; events = omega arith; diagnostics = omega arith; words = omega arith }

@@ -84,4 +84,6 @@ of-source source =
 
 pub missing-ends : (source : List ℕ) (s : Slices) (counts : List ℕ) {r : ℕ} {s′ : Slices} {counts′ : List ℕ}
     → MasmParseText source s counts r s′ counts′ → r ≡ 0 → MissingEnds source (given s′ counts′)
-missing-ends source s counts c z = subst (MissingEnds source) (sym (reading-of-call source s counts (last-row-of-call source s counts c z) c .1 .given-is)) (of-source source)
+missing-ends source s counts c z =
+    let g = reading-of-call source s counts (last-row-of-call source s counts c z) c .1 in
+    subst (MissingEnds source) (sym (g .given-is)) (of-source source)

@@ -15,7 +15,7 @@ use Rattle.grammar.specs.Source.{symbols}
 use Rattle.grammar.specs.Joins.{shutBy}
 use Rattle.grammar.specs.Theorems.Joined.{end-follows}
 use Rattle.grammar.specs.Compute.{bytes}
-use Rattle.marks.specs.Kinds.{low-kinds}
+use Rattle.lexer.specs.Kinds.{low-kinds}
 use Rattle.answer.specs.Answer.{Slices}
 use Rattle.answer.specs.Call.{MasmParseText}
 use Rattle.answer.specs.Given.{given, cut, end-before-last}

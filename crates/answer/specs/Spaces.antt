@@ -8,11 +8,11 @@ use mathlib.Core.List.{List, [], _∷_, _++_}
 use native.Mathlib.Omega.{arith}
 use lib.ListN.{length, take, replicate, length-replicate}
 use Rattle.utf8.specs.declared.Utf8.the-variants.{Valid}
-use Rattle.utf8.specs.Validate.{from}
+use Rattle.utf8.specs.Validate.{validate-from}
 use Rattle.lexer.specs.Syntax.{Whitespace, RParen}
 use Rattle.lexer.specs.Chars.{blank}
 use Rattle.lexer.specs.Lexer.{advance-while, tokens, tokenize}
-use Rattle.lexer.specs.Tokens.{token-kinds}
+use Rattle.lexer.specs.Tokens.{MAX-SOURCE, token-kinds}
 use Rattle.grammar.specs.Words.{is}
 use Rattle.grammar.specs.Look.{at, next-relevant-block-token}
 use Rattle.grammar.specs.Compute.{bytes}
@@ -30,7 +30,7 @@ many : (n : ℕ) → length (spaces n) ≡ n
 unfolding spaces
 many n = length-replicate n 32
 
-well : (m n : ℕ) → from 0 m (spaces n) ≡ Valid
+well : (m n : ℕ) → validate-from 0 m (spaces n) ≡ Valid
 unfolding spaces made
 well m zero = refl
 well m (suc n) = well (m + 1) n
@@ -69,7 +69,7 @@ not-refused n = rw (one-token n)
 abbrev one-space : Loan
 one-space = loan 1 3 0
 
-taken : (n : ℕ) → suc n ≤ 1048576
+taken : (n : ℕ) → suc n ≤ MAX-SOURCE
     → (made (spaces (suc n)) one-space .status ≡ 0)
     × GivesReading (spaces (suc n)) (made (spaces (suc n)) one-space .slices) (made (spaces (suc n)) one-space .counts)
 taken n h =

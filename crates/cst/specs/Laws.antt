@@ -118,6 +118,6 @@ module _
         )
         refl
 
-    pub output-is : (w .c .events ≡ length (events-of s)) × (w .c .diags ≡ length (places-of s))
+    pub reading-is : (w .c .events ≡ length (events-of s)) × (w .c .diags ≡ length (places-of s))
         × (slices kinds′ ends (w .ev) (w .dm) ds′ de′ ≡ with-all s (slices F ends (b .ev) (b .dm) (b .ds) de))
-    output-is = (p .events, p .diags ∙ sym (length-map said _), all)
+    reading-is = (p .events, p .diags ∙ sym (length-map said _), all)

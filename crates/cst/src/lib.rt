@@ -1,18 +1,17 @@
 // The reading of a source into lent slices: UTF-8, lexer, words, grammar, places.
 use answer::Answer;
 use answer::numbers;
+use lexer::MAX_SOURCE;
 use utf8::Utf8;
 ghost use mathlib.Core.Path.{_≡_};
 ghost use Prim.Native.Nat.{_≤_};
 ghost use lib.ListN.{length};
 ghost use Rattle.utf8.specs.WellFormed.{WellFormed};
+ghost use Rattle.lexer.specs.Tokens.{MAX-SOURCE};
 ghost use Rattle.answer.specs.Answer.{entry-slices, exit-slices, outcome, from-row-3, parse-text};
 ghost use Rattle.answer.specs.Call.{MasmParseText};
 
-mod output;
-
-// The most bytes that a source may have.
-const LIMIT: usize = 1048576;
+mod rows;
 
 // From the lexer on: row 3. The marks in the kinds are taken off wherever the reading ends.
 fn parse_from_row_3(
@@ -24,11 +23,11 @@ fn parse_from_row_3(
     starts: &mut [u32],
     stops: &mut [u32],
 ) -> Answer
-    requires { ⌜ (length (now source) ≤ 1048576) × WellFormed (now source) ⌝ }
+    requires { ⌜ (length (now source) ≤ MAX-SOURCE) × WellFormed (now source) ⌝ }
     ensures { λ r. ⌜ outcome r (exit-slices kinds ends events messages starts stops)
         ≡ from-row-3 (now (source .entry)) (entry-slices kinds ends events messages starts stops) ⌝ }
 {
-    let read = marks::tokenize(source, kinds, ends);
+    let read = marks::mark_source(source, kinds, ends);
     let t = read.count;
     let refusal = read.refusal;
     let room = room::least(kinds.len(), ends.len());
@@ -36,7 +35,7 @@ fn parse_from_row_3(
         marks::unmark(&mut kinds[..room]);
         return Answer::TokenRoom(t);
     }
-    output::parse_from_row_4(
+    rows::parse_from_row_4(
         source,
         refusal,
         &mut kinds[..t],
@@ -61,7 +60,7 @@ pub fn parse_text(
     ensures { λ r. ⌜ outcome r (exit-slices kinds ends events messages starts stops)
         ≡ parse-text (now (source .entry)) (entry-slices kinds ends events messages starts stops) ⌝ }
 {
-    if LIMIT < source.len() {
+    if MAX_SOURCE < source.len() {
         return Answer::TooLong;
     }
     let found = utf8::validate(source);

@@ -1,6 +1,7 @@
 // The texts that the parser can report, in groups of at most 16.
 ghost use mathlib.Core.Path.{_≡_};
-ghost use Rattle.grammar.specs.Message.{itemNumber, procedureNumber, blockNumber, closerNumber, missingEndNumber, recoveryNumber, number as numberOf, Numbered};
+ghost use Rattle.grammar.specs.Message.{itemNumber, procedureNumber, blockNumber, closerNumber};
+ghost use Rattle.grammar.specs.Message.{missingEndNumber, recoveryNumber, number as numberOf, Numbered};
 use crate::block::BlockOwner;
 use crate::block::BlockRecoveryBoundary;
 use crate::nesting::Closer;

@@ -1,7 +1,8 @@
 // Delimiter counts: parser.rs's Nesting, and what its bump hands back.
 ghost use mathlib.Core.Path.{_≡_};
 ghost use Prim.Native.Nat.{_<_, _^_};
-ghost use Rattle.grammar.specs.Nesting.{default, is-root, open-paren, open-bracket, open-brace, close-paren, close-bracket, close-brace, bump-by, Below};
+ghost use Rattle.grammar.specs.Nesting.{default, is-root, open-paren, open-bracket, open-brace};
+ghost use Rattle.grammar.specs.Nesting.{close-paren, close-bracket, close-brace, bump-by, Below};
 
 pub enum Closer {
     Paren,

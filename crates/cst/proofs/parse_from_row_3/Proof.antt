@@ -8,7 +8,7 @@ use lib.ListN.{length, take, drop, length-map}
 use lib.Seq.{length-take-le, take-all}
 use Rattle.lexer.specs.Lexer.{tokenize}
 use Rattle.room.specs.Over.{fit, fit-first}
-use Rattle.lexer.specs.Tokens.{room, token-kinds, token-ends, Written}
+use Rattle.lexer.specs.Tokens.{room, token-kinds, token-ends, TokensFit}
 use Rattle.lexer.specs.Laws.{length-ends}
 use Rattle.grammar.specs.Words.{kindOf}
 use Rattle.marks.specs.declared.Refusal.{Refusal}
@@ -24,7 +24,7 @@ use borrow.Author.Needs.{needs}
 use Rattle.cst.proofs.parse_from_row_3.Statement.{statement}
 use Rattle.cst.proofs.parse_from_row_3.Tie as tie
 
-module _ (source kinds ends ev dm ds de : List ℕ) (t : ℕ) (kinds₁ ends₁ : List ℕ) (lex : Written mark source kinds ends t kinds₁ ends₁) where
+module _ (source kinds ends ev dm ds de : List ℕ) (t : ℕ) (kinds₁ ends₁ : List ℕ) (lex : TokensFit mark source kinds ends t kinds₁ ends₁) where
   abbrev r : ℕ
   r = room kinds ends
 
@@ -99,8 +99,8 @@ module _ (source kinds ends ev dm ds de : List ℕ) (t : ℕ) (kinds₁ ends₁ 
     unfolding from-row-3
     enough l = by-refusal (first-refused 0 (tokenize source)) l ∙ rw (sym (lex .count-is), le-ltb r t h) refl
 
-tokenize-requires : tie.Need-tokenize-requires
-tokenize-requires c κs = search needs
+mark-source-requires : tie.Need-mark-source-requires
+mark-source-requires c κs = search needs
 
 least-requires : tie.Need-least-requires
 least-requires c κs = search needs
@@ -125,7 +125,7 @@ returns c =
     let c₁ = c .before .before .before .before .before in
     let c₂ = c₁ .before .before .before .before .before in
     let a = c₂ .before .before .before .before .before .before .before .before .before .before .args in
-    too-many (a .source .now) (a .kinds .now) (a .ends .now) (a .events .now) (a .messages .now) (a .starts .now) (a .stops .now) _ _ _ (c₂ .tokenize .ensures .written) (c₁ .least .result) (omega (arith, c₁ .least .ensures, c₂ .tokenize .kept)) (c .before .before .before .before .if1 .taken) (c .before .before .unmark .ensures)
+    too-many (a .source .now) (a .kinds .now) (a .ends .now) (a .events .now) (a .messages .now) (a .starts .now) (a .stops .now) _ _ _ (c₂ .mark-source .ensures .fit) (c₁ .least .result) (omega (arith, c₁ .least .ensures, c₂ .mark-source .kept)) (c .before .before .before .before .if1 .taken) (c .before .before .unmark .ensures)
 
 slice-relend-prefix-parse-from-row-4 : tie.Need-slice-relend-prefix-parse-from-row-4
 slice-relend-prefix-parse-from-row-4 c = search needs
@@ -147,9 +147,9 @@ parse-from-row-4-requires c κs =
     let c₄ = c₃ .before .before .before .before .before .before .before .before .before .before in
     let a = c₄ .args in
     let pre = c₄ .pre in
-    let k = c₃ .tokenize .ensures in
-    let h : c₃ .tokenize .result .count ≤ room (a .kinds .now) (a .ends .now) = omega (arith, c₁ .if1 .left, c₂ .least .ensures, c₃ .tokenize .kept) in
-    (pre .0, pre .1, k .refusal-is, all-marks (a .source .now) (a .kinds .now) (a .ends .now) (a .events .now) (a .messages .now) (a .starts .now) (a .stops .now) _ _ _ (k .written) h, all-ends (a .source .now) (a .kinds .now) (a .ends .now) (a .events .now) (a .messages .now) (a .starts .now) (a .stops .now) _ _ _ (k .written) h)
+    let k = c₃ .mark-source .ensures in
+    let h : c₃ .mark-source .result .count ≤ room (a .kinds .now) (a .ends .now) = omega (arith, c₁ .if1 .left, c₂ .least .ensures, c₃ .mark-source .kept) in
+    (pre .0, pre .1, k .refusal-is, all-marks (a .source .now) (a .kinds .now) (a .ends .now) (a .events .now) (a .messages .now) (a .starts .now) (a .stops .now) _ _ _ (k .fit) h, all-ends (a .source .now) (a .kinds .now) (a .ends .now) (a .events .now) (a .messages .now) (a .starts .now) (a .stops .now) _ _ _ (k .fit) h)
 
 same-length-3 : tie.Need-same-length-3
 same-length-3 c = search needs
@@ -176,13 +176,13 @@ returns-2 c =
     let c₃ = c₂ .before in
     let c₄ = c₃ .before .before .before .before .before in
     let a = c₄ .before .before .before .before .before .before .before .before .before .before .args in
-    enough (a .source .now) (a .kinds .now) (a .ends .now) (a .events .now) (a .messages .now) (a .starts .now) (a .stops .now) _ _ _ (c₄ .tokenize .ensures .written) (omega (arith, c₂ .if1 .left, c₃ .least .ensures, c₄ .tokenize .kept)) (c₁ .parse-from-row-4 .ensures)
+    enough (a .source .now) (a .kinds .now) (a .ends .now) (a .events .now) (a .messages .now) (a .starts .now) (a .stops .now) _ _ _ (c₄ .mark-source .ensures .fit) (omega (arith, c₂ .if1 .left, c₃ .least .ensures, c₄ .mark-source .kept)) (c₁ .parse-from-row-4 .ensures)
 
 pub parse-from-row-3-spec : {M : Type 1} → statement M
 parse-from-row-3-spec =
     tie.close
     (tie.spec
-    tokenize-requires
+    mark-source-requires
     least-requires
     slice-relend-prefix-unmark
     slice-aggregate-unmark

@@ -4,6 +4,7 @@ use mathlib.Core.Path.{_≡_, refl, sym, _∙_}
 use mathlib.Core.List.{List}
 use borrow.Author.Tests.{lt-ltb, le-ltb}
 use lib.ListN.{length}
+use Rattle.lexer.specs.Tokens.{MAX-SOURCE}
 use Rattle.utf8.specs.declared.Utf8.the-variants.{Valid, At}
 use Rattle.utf8.specs.Validate.{validate}
 use Rattle.utf8.specs.Laws.{accepted}
@@ -14,18 +15,18 @@ use Rattle.cst.proofs.parse_text.Statement.{statement}
 use Rattle.cst.proofs.parse_text.Tie as tie
 
 module _ (source : List ℕ) (s : Slices) where
-  too-long : 1048576 < length source → outcome TooLong s ≡ parse-text source s
+  too-long : MAX-SOURCE < length source → outcome TooLong s ≡ parse-text source s
   unfolding parse-text
-  too-long h = rw (lt-ltb 1048576 (length source) h) refl
+  too-long h = rw (lt-ltb MAX-SOURCE (length source) h) refl
 
-  module _ (h : length source ≤ 1048576) where
+  module _ (h : length source ≤ MAX-SOURCE) where
     not-utf8 : (n : ℕ) → validate source ≡ At n → outcome (NotUtf8 n) s ≡ parse-text source s
     unfolding parse-text from-row-2
-    not-utf8 n v = rw (le-ltb 1048576 (length source) h, v) refl
+    not-utf8 n v = rw (le-ltb MAX-SOURCE (length source) h, v) refl
 
     goes-on : {o : Outcome} → validate source ≡ Valid → o ≡ from-row-3 source s → o ≡ parse-text source s
     unfolding parse-text from-row-2
-    goes-on v e = e ∙ rw (le-ltb 1048576 (length source) h, v) refl
+    goes-on v e = e ∙ rw (le-ltb MAX-SOURCE (length source) h, v) refl
 
 returns : tie.Need-returns
 returns c = too-long _ _ (c .if1 .taken)

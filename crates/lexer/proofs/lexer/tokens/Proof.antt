@@ -25,17 +25,17 @@ loop-holds c = begins _ _ _ (c .before .before .before .before .pre .0) (c .befo
 next-requires : tie.Need-next-requires Inv-loop μ-loop
 next-requires c κs = search needs
 
-cast-put : tie.Need-cast-put Inv-loop μ-loop
-cast-put c = search needs
+cast-put-token : tie.Need-cast-put-token Inv-loop μ-loop
+cast-put-token c = search needs
 
-cast-put-2 : tie.Need-cast-put-2 Inv-loop μ-loop
-cast-put-2 c =
+cast-put-token-2 : tie.Need-cast-put-token-2 Inv-loop μ-loop
+cast-put-token-2 c =
     let t = c .before .before .before .next in
     let g = c .before .before .before .before .before .before .loop .inv in
     omega (arith, g .size, ends-within g (c .before .before .before .before .before .loop-test .taken) (t .result) (t .ensures) .1)
 
-put-requires : tie.Need-put-requires Inv-loop μ-loop
-put-requires c κs = let g = c .before .before .before .before .before .before .loop .inv in g .kinds-len ∙ g .same-room ∙ sym (g .ends-len)
+put-token-requires : tie.Need-put-token-requires Inv-loop μ-loop
+put-token-requires c κs = let g = c .before .before .before .before .before .before .loop .inv in g .kinds-len ∙ g .same-room ∙ sym (g .ends-len)
 
 add-n : tie.Need-add-n Inv-loop μ-loop
 add-n c = search needs
@@ -49,7 +49,7 @@ loop-less c =
 loop-again : tie.Need-loop-again Inv-loop μ-loop
 loop-again c =
     let t = c .before .before .before .before .before .before .before .before .next in
-    let p = c .before .before .before .before .put in
+    let p = c .before .before .before .before .put-token in
     goes-on (c .before .before .before .before .before .before .before .before .before .before .before .loop .inv) (c .before .before .before .before .before .before .before .before .before .before .loop-test .taken) (t .result) (t .ensures) _ (ap (λ (x : Placed). x .kind) (t .ensures)) _ _ (p .ensures .0) (p .ensures .1)
 
 same-length : tie.Need-same-length Inv-loop μ-loop
@@ -70,9 +70,9 @@ tokens-spec =
     classes-requires
     loop-holds
     next-requires
-    cast-put
-    cast-put-2
-    put-requires
+    cast-put-token
+    cast-put-token-2
+    put-token-requires
     add-n
     loop-less
     loop-again

@@ -1,4 +1,4 @@
--- `cst::output::parse_from_row_4` meets its contract, by what is refused. Assumes nothing.
+-- `cst::rows::parse_from_row_4` meets its contract, by what is refused. Assumes nothing.
 use Prim.Native.Nat.{ℕ}
 use mathlib.Core.Path.{_≡_, refl, sym, ap, _∙_}
 use mathlib.Core.List.{List, [], map}
@@ -17,8 +17,8 @@ use Rattle.answer.specs.declared.Answer.the-variants.{Refused}
 use Rattle.answer.specs.Answer.{slices, Outcome, outcome, from-row-4, from-row-5}
 use Rattle.cst.specs.Laws.{kinds-all, ends-all}
 use borrow.Author.Needs.{needs}
-use Rattle.cst.proofs.output.parse_from_row_4.Statement.{statement}
-use Rattle.cst.proofs.output.parse_from_row_4.Tie as tie
+use Rattle.cst.proofs.rows.parse_from_row_4.Statement.{statement}
+use Rattle.cst.proofs.rows.parse_from_row_4.Tie as tie
 
 module _
     (source kinds ends ev dm ds de : List ℕ) (refusal : Refusal) (refusal-is : refusal ≡ first-refused 0 (tokenize source))

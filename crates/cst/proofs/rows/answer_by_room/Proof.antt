@@ -1,7 +1,7 @@
--- `cst::output::answer_by_room` meets its contract, by its two tests. Assumes nothing.
+-- `cst::rows::answer_by_room` meets its contract, by its two tests. Assumes nothing.
 use borrow.Author.Tests.{lt-ltb, le-ltb}
-use Rattle.cst.proofs.output.answer_by_room.Statement.{statement}
-use Rattle.cst.proofs.output.answer_by_room.Tie as tie
+use Rattle.cst.proofs.rows.answer_by_room.Statement.{statement}
+use Rattle.cst.proofs.rows.answer_by_room.Tie as tie
 
 returns : tie.Need-returns
 returns c = rw (lt-ltb _ _ (c .if1 .taken))

@@ -1,4 +1,4 @@
--- `cst::output::parse_from_row_5` meets its contract: the slices of diagnostics are lent as far as the shortest goes. Assumes nothing.
+-- `cst::rows::parse_from_row_5` meets its contract: the slices of diagnostics are lent as far as the shortest goes. Assumes nothing.
 use Prim.Native.Nat.{ℕ}
 use mathlib.Core.Path.{_≡_, refl, sym, ap, _∙_}
 use mathlib.Core.Bool.{cond, _||_}
@@ -10,14 +10,14 @@ use lib.Seq.{length-take-le}
 use Rattle.lexer.specs.Lexer.{tokenize}
 use Rattle.room.specs.Over.{over, length-over, over-fit}
 use Rattle.grammar.specs.Source.{sym as symOf, symbols}
-use Rattle.cst.specs.declared.output.Counts.{Counts}
+use Rattle.cst.specs.declared.rows.Counts.{Counts}
 use Rattle.answer.specs.declared.Answer.{Answer}
 use Rattle.answer.specs.declared.Answer.the-variants.{OutputRoom, Accepted}
 use Rattle.answer.specs.Answer.{Slices, slices, diagnostic-room, outcome, events-of, places-of, with-all, from-row-5}
 use Rattle.cst.specs.Laws.{fit-back}
 use borrow.Author.Needs.{needs}
-use Rattle.cst.proofs.output.parse_from_row_5.Statement.{statement}
-use Rattle.cst.proofs.output.parse_from_row_5.Tie as tie
+use Rattle.cst.proofs.rows.parse_from_row_5.Statement.{statement}
+use Rattle.cst.proofs.rows.parse_from_row_5.Tie as tie
 
 module _ (source kinds ends ev dm ds de : List ℕ) where
   abbrev room : ℕ
@@ -60,35 +60,35 @@ least-requires c κs = search needs
 least-requires-2 : tie.Need-least-requires-2
 least-requires-2 c κs = search needs
 
-slice-relend-prefix-write-output : tie.Need-slice-relend-prefix-write-output
-slice-relend-prefix-write-output c = search needs
+slice-relend-prefix-write-reading : tie.Need-slice-relend-prefix-write-reading
+slice-relend-prefix-write-reading c = search needs
 
-slice-aggregate-write-output : tie.Need-slice-aggregate-write-output
-slice-aggregate-write-output c =
+slice-aggregate-write-reading : tie.Need-slice-aggregate-write-reading
+slice-aggregate-write-reading c =
     let c₁ = c .before .before .before in
     let c₂ = c₁ .before in
     sym (length-take-le _ _ (omega (arith, c₂ .least .ensures, c₁ .least2 .ensures)))
 
-slice-relend-prefix-write-output-2 : tie.Need-slice-relend-prefix-write-output-2
-slice-relend-prefix-write-output-2 c = search needs
+slice-relend-prefix-write-reading-2 : tie.Need-slice-relend-prefix-write-reading-2
+slice-relend-prefix-write-reading-2 c = search needs
 
-slice-aggregate-write-output-2 : tie.Need-slice-aggregate-write-output-2
-slice-aggregate-write-output-2 c =
+slice-aggregate-write-reading-2 : tie.Need-slice-aggregate-write-reading-2
+slice-aggregate-write-reading-2 c =
     let c₁ = c .before .before .before .before in
     let c₂ = c₁ .before in
     sym (length-take-le _ _ (omega (arith, c₂ .least .ensures, c₁ .least2 .ensures)))
 
-slice-relend-prefix-write-output-3 : tie.Need-slice-relend-prefix-write-output-3
-slice-relend-prefix-write-output-3 c = search needs
+slice-relend-prefix-write-reading-3 : tie.Need-slice-relend-prefix-write-reading-3
+slice-relend-prefix-write-reading-3 c = search needs
 
-slice-aggregate-write-output-3 : tie.Need-slice-aggregate-write-output-3
-slice-aggregate-write-output-3 c =
+slice-aggregate-write-reading-3 : tie.Need-slice-aggregate-write-reading-3
+slice-aggregate-write-reading-3 c =
     let c₁ = c .before .before .before .before .before in
     let c₂ = c₁ .before in
     sym (length-take-le _ _ (omega (arith, c₂ .least .ensures, c₁ .least2 .ensures)))
 
-write-output-requires : tie.Need-write-output-requires
-write-output-requires c κs =
+write-reading-requires : tie.Need-write-reading-requires
+write-reading-requires c κs =
     let c₁ = c .before .before .before .before .before in
     let c₂ = c₁ .before in
     let c₃ = c₂ .before .before .before .before .before .before .before .before in
@@ -129,7 +129,7 @@ returns c =
     let a = c₄ .args in
     let pre = c₄ .pre in
     whole (a .source .now) (a .kinds .now) (a .ends .now) (a .events .now) (a .messages .now) (a .starts .now) (a .stops .now)
-    _ _ _ _ _ _ _ _ _ (pre .2) (omega (arith, c₃ .least .ensures, c₂ .least2 .ensures)) (c₁ .write-output .ensures) (c .answer-by-room .ensures)
+    _ _ _ _ _ _ _ _ _ (pre .2) (omega (arith, c₃ .least .ensures, c₂ .least2 .ensures)) (c₁ .write-reading .ensures) (c .answer-by-room .ensures)
 
 pub parse-from-row-5-spec : {M : Type 1} → statement M
 parse-from-row-5-spec =
@@ -137,13 +137,13 @@ parse-from-row-5-spec =
     (tie.spec
     least-requires
     least-requires-2
-    slice-relend-prefix-write-output
-    slice-aggregate-write-output
-    slice-relend-prefix-write-output-2
-    slice-aggregate-write-output-2
-    slice-relend-prefix-write-output-3
-    slice-aggregate-write-output-3
-    write-output-requires
+    slice-relend-prefix-write-reading
+    slice-aggregate-write-reading
+    slice-relend-prefix-write-reading-2
+    slice-aggregate-write-reading-2
+    slice-relend-prefix-write-reading-3
+    slice-aggregate-write-reading-3
+    write-reading-requires
     answer-by-room-requires
     same-length
     same-length-2

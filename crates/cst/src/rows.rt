@@ -10,7 +10,7 @@ ghost use lib.Dec.{ltb};
 ghost use lib.ListN.{length};
 ghost use Rattle.utf8.specs.WellFormed.{WellFormed};
 ghost use Rattle.lexer.specs.Lexer.{tokenize};
-ghost use Rattle.lexer.specs.Tokens.{token-ends};
+ghost use Rattle.lexer.specs.Tokens.{MAX-SOURCE, token-ends};
 ghost use Rattle.grammar.specs.Source.{symbols};
 ghost use Rattle.marks.specs.Marks.{first-refused};
 ghost use Rattle.marks.specs.Code.{mark};
@@ -37,7 +37,7 @@ fn answer_by_room(event_room: usize, diagnostic_room: usize, t: usize, e: usize,
 }
 
 // Events and diagnostics from marked kinds. The marks are taken off, and indices of tokens become places in bytes.
-fn write_output(
+fn write_reading(
     source: &[u8],
     kinds: &mut [u16],
     ends: &[u32],
@@ -46,7 +46,7 @@ fn write_output(
     starts: &mut [u32],
     stops: &mut [u32],
 ) -> Counts
-    requires { ⌜ (length (now source) ≤ 1048576) × (WellFormed (now source))
+    requires { ⌜ (length (now source) ≤ MAX-SOURCE) × (WellFormed (now source))
         × (now kinds ≡ symbols (now source)) × (now ends ≡ token-ends (now source))
         × (length (now messages) ≡ length (now starts)) × (length (now starts) ≡ length (now stops)) ⌝ }
     ensures { λ r. ⌜ (r .events ≡ length (events-of (now (source .entry))))
@@ -76,14 +76,14 @@ fn parse_from_row_5(
     starts: &mut [u32],
     stops: &mut [u32],
 ) -> Answer
-    requires { ⌜ (length (now source) ≤ 1048576) × (WellFormed (now source))
+    requires { ⌜ (length (now source) ≤ MAX-SOURCE) × (WellFormed (now source))
         × (now kinds ≡ symbols (now source)) × (now ends ≡ token-ends (now source)) ⌝ }
     ensures { λ r. ⌜ outcome r (exit-slices kinds ends events messages starts stops)
         ≡ from-row-5 (now (source .entry)) (entry-slices kinds ends events messages starts stops) ⌝ }
 {
     let t = kinds.len();
     let room = least(least(messages.len(), starts.len()), stops.len());
-    let counts = write_output(
+    let counts = write_reading(
         source,
         kinds,
         ends,
@@ -108,7 +108,7 @@ pub fn parse_from_row_4(
     starts: &mut [u32],
     stops: &mut [u32],
 ) -> Answer
-    requires { ⌜ (length (now source) ≤ 1048576) × (WellFormed (now source))
+    requires { ⌜ (length (now source) ≤ MAX-SOURCE) × (WellFormed (now source))
         × (refusal ≡ first-refused 0 (tokenize (now source)))
         × (now kinds ≡ map mark (tokenize (now source))) × (now ends ≡ token-ends (now source)) ⌝ }
     ensures { λ r. ⌜ outcome r (exit-slices kinds ends events messages starts stops)
