@@ -13,7 +13,7 @@ use Rattle.utf8.specs.declared.Utf8.the-variants.{Valid, At}
 use Rattle.utf8.specs.Validate.{validate}
 use Rattle.lexer.specs.Lexer.{tokenize}
 use Rattle.room.specs.Over.{fit-first}
-use Rattle.lexer.specs.Tokens.{kindOf, token-kinds, token-ends}
+use Rattle.lexer.specs.Tokens.{MAX-SOURCE, kindOf, token-kinds, token-ends}
 use Rattle.lexer.specs.Laws.{length-ends}
 use Rattle.marks.specs.declared.Refusal.{Refusal}
 use Rattle.marks.specs.declared.Refusal.the-variants as refusal
@@ -21,18 +21,19 @@ use Rattle.marks.specs.Marks.{first-refused}
 use Rattle.answer.specs.declared.Answer.{Answer}
 use Rattle.answer.specs.declared.Answer.the-variants.{OutputRoom}
 use Rattle.answer.specs.declared.Answer.the-variants as answer
-use Rattle.answer.specs.Answer.{Slices, token-room, diagnostic-room, events-of, places-of, with-all, grown, kept, lexed, checked, parse-text}
+use Rattle.answer.specs.Answer.{Slices, token-room, diagnostic-room, events-of, places-of, with-all}
+use Rattle.answer.specs.Answer.{from-row-5, from-row-4, from-row-3, from-row-2, parse-text}
 use Rattle.answer.specs.Numbers.{numbers}
-use Rattle.answer.specs.Call.{Reply, reply, call, Called}
-use Rattle.answer.specs.Given.{T, E, D, Given, given}
+use Rattle.answer.specs.Call.{Reply, reply, call, MasmParseText}
+use Rattle.answer.specs.Given.{token-count, event-count, diagnostic-count, given}
 
 -- No row above the last holds.
-pub record Accepted (source : List ℕ) (s : Slices) (counts : List ℕ) : Type 0 where
+pub record LastRow (source : List ℕ) (s : Slices) (counts : List ℕ) : Type 0 where
   pub words : 3 ≤ length counts
-  pub small : length source ≤ 1048576
+  pub small : length source ≤ MAX-SOURCE
   pub utf8 : validate source ≡ Valid
   pub tokens : length (tokenize source) ≤ token-room s
-  pub kept : first-refused 0 (tokenize source) ≡ refusal.Nothing
+  pub no-refusal : first-refused 0 (tokenize source) ≡ refusal.Nothing
   pub events : length (events-of source) ≤ length (s .events)
   pub places : length (places-of source) ≤ diagnostic-room s
 
@@ -55,45 +56,48 @@ module _ (source : List ℕ) (s : Slices) where
   fitted false true h = absurd (omega arith)
   fitted false false h = (refl, refl)
 
-  not-refused : (q : Refusal) → status-of (kept q source s .answer) ≡ 0 → (q ≡ refusal.Nothing) × (status-of (grown source s .answer) ≡ 0)
-  unfolding kept
+  not-refused : (q : Refusal) → status-of (from-row-4 q source s .answer) ≡ 0 → (q ≡ refusal.Nothing) × (status-of (from-row-5 source s .answer) ≡ 0)
+  unfolding from-row-4
   not-refused refusal.Nothing h = (refl, h)
   not-refused (refusal.At n) h = absurd (omega arith)
 
-  is-valid : (q : Utf8) → status-of (checked q source s .answer) ≡ 0 → (q ≡ Valid) × (status-of (lexed source s .answer) ≡ 0)
-  unfolding checked
+  is-valid : (q : Utf8) → status-of (from-row-2 q source s .answer) ≡ 0 → (q ≡ Valid) × (status-of (from-row-3 source s .answer) ≡ 0)
+  unfolding from-row-2
   is-valid Valid h = (refl, h)
   is-valid (At n) h = absurd (omega arith)
 
-  by-tokens : status-of (lexed source s .answer) ≡ 0 → (t ≤ token-room s) × (status-of (kept (first-refused 0 (tokenize source)) source s .answer) ≡ 0)
-  unfolding lexed
+  by-tokens : status-of (from-row-3 source s .answer) ≡ 0
+      → (t ≤ token-room s) × (status-of (from-row-4 (first-refused 0 (tokenize source)) source s .answer) ≡ 0)
+  unfolding from-row-3
   by-tokens = by-test (ltb (token-room s) t) refl
     where
-      by-test : (u : Bool) → ltb (token-room s) t ≡ u → status-of (lexed source s .answer) ≡ 0
-          → (t ≤ token-room s) × (status-of (kept (first-refused 0 (tokenize source)) source s .answer) ≡ 0)
+      by-test : (u : Bool) → ltb (token-room s) t ≡ u → status-of (from-row-3 source s .answer) ≡ 0
+          → (t ≤ token-room s) × (status-of (from-row-4 (first-refused 0 (tokenize source)) source s .answer) ≡ 0)
       by-test true k h = absurd (omega (arith, rw k at h))
       by-test false k h = (ltb-false (token-room s) t k, rw k at h)
 
-  by-length : status-of (parse-text source s .answer) ≡ 0 → (length source ≤ 1048576) × (status-of (checked (validate source) source s .answer) ≡ 0)
+  by-length : status-of (parse-text source s .answer) ≡ 0
+      → (length source ≤ MAX-SOURCE) × (status-of (from-row-2 (validate source) source s .answer) ≡ 0)
   unfolding parse-text
-  by-length = by-test (ltb 1048576 (length source)) refl
+  by-length = by-test (ltb MAX-SOURCE (length source)) refl
     where
-      by-test : (u : Bool) → ltb 1048576 (length source) ≡ u → status-of (parse-text source s .answer) ≡ 0
-          → (length source ≤ 1048576) × (status-of (checked (validate source) source s .answer) ≡ 0)
+      by-test : (u : Bool) → ltb MAX-SOURCE (length source) ≡ u → status-of (parse-text source s .answer) ≡ 0
+          → (length source ≤ MAX-SOURCE) × (status-of (from-row-2 (validate source) source s .answer) ≡ 0)
       by-test true k h = absurd (omega (arith, rw k at h))
-      by-test false k h = (ltb-false 1048576 (length source) k, rw k at h)
+      by-test false k h = (ltb-false MAX-SOURCE (length source) k, rw k at h)
 
   by-words : (counts : List ℕ) → call source s counts .status ≡ 0 → (3 ≤ length counts) × (status-of (parse-text source s .answer) ≡ 0)
   unfolding call
   by-words counts = by-test (ltb (length counts) 3) refl
     where
-      by-test : (u : Bool) → ltb (length counts) 3 ≡ u → call source s counts .status ≡ 0 → (3 ≤ length counts) × (status-of (parse-text source s .answer) ≡ 0)
+      by-test : (u : Bool) → ltb (length counts) 3 ≡ u → call source s counts .status ≡ 0
+          → (3 ≤ length counts) × (status-of (parse-text source s .answer) ≡ 0)
       by-test true k h = absurd (omega (arith, rw k at h))
       by-test false k h = (ltb-false (length counts) 3 k, rw k at h)
 
-  pub accepted : (counts : List ℕ) → call source s counts .status ≡ 0 → Accepted source s counts
-  unfolding grown
-  accepted counts h =
+  pub last-row-of-status : (counts : List ℕ) → call source s counts .status ≡ 0 → LastRow source s counts
+  unfolding from-row-5
+  last-row-of-status counts h =
       let p = by-words counts h in
       let q = by-length (p .1) in
       let v = is-valid (validate source) (q .1) in
@@ -105,28 +109,28 @@ module _ (source : List ℕ) (s : Slices) where
         small = q .0;
         utf8 = v .0;
         tokens = k .0;
-        kept = n .0;
+        no-refusal = n .0;
         events = ltb-false (length (s .events)) e (f .0);
         places = ltb-false (diagnostic-room s) d (f .1);
       }
 
-  pub accepts : (counts : List ℕ) → Accepted source s counts → call source s counts ≡ reply 0 (with-all source s) (t ∷ e ∷ d ∷ drop 3 counts)
-  unfolding call parse-text checked lexed kept grown
-  accepts counts a =
+  pub reply-of-last-row : (counts : List ℕ) → LastRow source s counts → call source s counts ≡ reply 0 (with-all source s) (t ∷ e ∷ d ∷ drop 3 counts)
+  unfolding call parse-text from-row-2 from-row-3 from-row-4 from-row-5
+  reply-of-last-row counts a =
       rw (
         le-ltb (length counts) 3 (a .words),
-        le-ltb 1048576 (length source) (a .small),
+        le-ltb MAX-SOURCE (length source) (a .small),
         a .utf8,
         le-ltb (token-room s) t (a .tokens),
-        a .kept,
+        a .no-refusal,
         le-ltb (length (s .events)) e (a .events),
         le-ltb (diagnostic-room s) d (a .places),
       )
       refl
 
 -- all that the definitions say of a source
-abbrev pub reading : List ℕ → Given
-reading source = record {
+abbrev pub reading-slices : List ℕ → Slices
+reading-slices source = record {
   kinds = token-kinds source;
   ends = token-ends source;
   events = events-of source;
@@ -136,14 +140,14 @@ reading source = record {
 }
 
 -- What stands in the slices and the counts: the source's reading.
-pub record Gave (source : List ℕ) (s : Slices) (counts : List ℕ) : Type 0 where
-  pub t-is : T counts ≡ length (tokenize source)
-  pub e-is : E counts ≡ length (events-of source)
-  pub d-is : D counts ≡ length (places-of source)
-  pub given-is : given s counts ≡ reading source
+pub record GivesReading (source : List ℕ) (s : Slices) (counts : List ℕ) : Type 0 where
+  pub t-is : token-count counts ≡ length (tokenize source)
+  pub e-is : event-count counts ≡ length (events-of source)
+  pub d-is : diagnostic-count counts ≡ length (places-of source)
+  pub given-is : given s counts ≡ reading-slices source
 
-module _ (source : List ℕ) (s : Slices) (counts : List ℕ) (a : Accepted source s counts) where
-  all-given : given (with-all source s) (t source s ∷ e source s ∷ d source s ∷ drop 3 counts) ≡ reading source
+module _ (source : List ℕ) (s : Slices) (counts : List ℕ) (a : LastRow source s counts) where
+  all-given : given (with-all source s) (t source s ∷ e source s ∷ d source s ∷ drop 3 counts) ≡ reading-slices source
   all-given =
       let ps = places-of source in
       rw (
@@ -156,9 +160,10 @@ module _ (source : List ℕ) (s : Slices) (counts : List ℕ) (a : Accepted sour
       )
       refl
 
-  pub gives : {r : ℕ} {s′ : Slices} {counts′ : List ℕ} → Called source s counts r s′ counts′ → (r ≡ 0) × Gave source s′ counts′
-  gives c =
-      let k = accepts source s counts a in
+  pub reading-of-call : {r : ℕ} {s′ : Slices} {counts′ : List ℕ} → MasmParseText source s counts r s′ counts′
+      → (r ≡ 0) × GivesReading source s′ counts′
+  reading-of-call c =
+      let k = reply-of-last-row source s counts a in
       let h = c .counts-are ∙ ap (λ (x : Reply). x .counts) k in (
         c .status-is ∙ ap (λ (x : Reply). x .status) k,
         record {
@@ -170,6 +175,6 @@ module _ (source : List ℕ) (s : Slices) (counts : List ℕ) (a : Accepted sour
       )
 
 -- A call that returned 0.
-pub accepting : (source : List ℕ) (s : Slices) (counts : List ℕ) {r : ℕ} {s′ : Slices} {counts′ : List ℕ}
-    → Called source s counts r s′ counts′ → r ≡ 0 → Accepted source s counts
-accepting source s counts c z = accepted source s counts (sym (c .status-is) ∙ z)
+pub last-row-of-call : (source : List ℕ) (s : Slices) (counts : List ℕ) {r : ℕ} {s′ : Slices} {counts′ : List ℕ}
+    → MasmParseText source s counts r s′ counts′ → r ≡ 0 → LastRow source s counts
+last-row-of-call source s counts c z = last-row-of-status source s counts (sym (c .status-is) ∙ z)

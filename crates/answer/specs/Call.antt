@@ -20,18 +20,18 @@ abbrev pub reply : ℕ → Slices → List ℕ → Reply
 reply status s counts = record { status = status; slices = s; counts = counts }
 
 -- an answer's numbers: the first is returned, the others are the first words of `counts`
-abbrev pub told : Row → Slices → List ℕ → Reply
-told n s counts = reply (n .status) s (n .first ∷ n .second ∷ n .third ∷ drop 3 counts)
+abbrev pub row-reply : Row → Slices → List ℕ → Reply
+row-reply n s counts = reply (n .status) s (n .first ∷ n .second ∷ n .third ∷ drop 3 counts)
 
-abbrev pub answered : Outcome → List ℕ → Reply
-answered o counts = told (numbers (o .answer)) (o .slices) counts
+abbrev pub answer-reply : Outcome → List ℕ → Reply
+answer-reply o counts = row-reply (numbers (o .answer)) (o .slices) counts
 
--- Document 01's table, its first row before the others.
+-- Document 01's table: row 6, its first, and then the others.
 unfoldable pub call : List ℕ → Slices → List ℕ → Reply
-call source s counts = cond (ltb (length counts) 3) (reply 6 s counts) (answered (parse-text source s) counts)
+call source s counts = cond (ltb (length counts) 3) (reply 6 s counts) (answer-reply (parse-text source s) counts)
 
 -- The contract of `masm_parse_text`.
-pub record Called (source : List ℕ) (s : Slices) (counts : List ℕ) (r : ℕ) (s′ : Slices) (counts′ : List ℕ) : Type 0 where
+pub record MasmParseText (source : List ℕ) (s : Slices) (counts : List ℕ) (r : ℕ) (s′ : Slices) (counts′ : List ℕ) : Type 0 where
   pub status-is : r ≡ call source s counts .status
   pub slices-are : s′ ≡ call source s counts .slices
   pub counts-are : counts′ ≡ call source s counts .counts

@@ -8,6 +8,7 @@ use lib.Dec.{eqb}
 use lib.ListN.{length, replicate}
 use Rattle.utf8.specs.Table
 use Rattle.utf8.specs.Validate
+use Rattle.lexer.specs.Tokens.{MAX-SOURCE}
 use Rattle.lexer.specs.Syntax.{Newline, RParen}
 use Rattle.lexer.specs.Laws.{last}
 use Rattle.grammar.specs.Words.{is}
@@ -15,47 +16,47 @@ use Rattle.grammar.specs.Look.{at, next-relevant-block-token}
 use Rattle.grammar.specs.Joins.{shutBy}
 use Rattle.grammar.specs.Compute.{again}
 use Rattle.marks.specs.Marks
-use Rattle.answer.specs.Answer.{Slices, slices, token-room, diagnostic-room, grown, kept, lexed, checked, parse-text}
-use Rattle.answer.specs.Call.{Reply, call, Called}
-use Rattle.answer.specs.Given.{T, E, D, Given, given, cut, end-before-last, Joins, Fits, Joined}
+use Rattle.answer.specs.Answer.{Slices, slices, token-room, diagnostic-room, from-row-5, from-row-4, from-row-3, from-row-2, parse-text}
+use Rattle.answer.specs.Call.{Reply, call, MasmParseText}
+use Rattle.answer.specs.Given.{token-count, event-count, diagnostic-count, given, cut, end-before-last, CallsJoin, Fits, JoinReply}
 use Rattle.answer.specs.JoinedCalls.{joined-calls}
 
 -- What is lent to a call: room for so many tokens, events and diagnostics, and so many words of counts.
-pub record Lent : Type 0 where
+pub record Loan : Type 0 where
   pub tokens : ℕ
   pub events : ℕ
   pub diagnostics : ℕ
   pub words : ℕ
 
-abbrev pub lent : ℕ → ℕ → ℕ → Lent
-lent tokens events diagnostics = record { tokens = tokens; events = events; diagnostics = diagnostics; words = 3 }
+abbrev pub loan : ℕ → ℕ → ℕ → Loan
+loan tokens events diagnostics = record { tokens = tokens; events = events; diagnostics = diagnostics; words = 3 }
 
 abbrev pub zeros : ℕ → List ℕ
 zeros n = replicate n 0
 
-abbrev pub lent-slices : Lent → Slices
-lent-slices l =
+abbrev pub loan-slices : Loan → Slices
+loan-slices l =
     let t = zeros (l .tokens) in
     let d = zeros (l .diagnostics) in
     slices t t (zeros (l .events)) d d d
 
 -- The call on a source with these lent. To unfold `made` is to unfold what its line names: all that computes.
-unfoldable pub made : List ℕ → Lent → Reply
-unfolding again call parse-text checked lexed kept grown
-    Marks.first-refused Marks.is-refused Validate.from Table.lengthIn Table.table Table.agree
-made source l = call source (lent-slices l) (zeros (l .words))
+unfoldable pub made : List ℕ → Loan → Reply
+unfolding again call parse-text from-row-2 from-row-3 from-row-4 from-row-5
+    Marks.first-refused Marks.is-refused Validate.validate-from Table.lengthIn Table.table Table.agree
+made source l = call source (loan-slices l) (zeros (l .words))
 
-pub called : (source : List ℕ) (l : Lent)
-    → Called source (lent-slices l) (zeros (l .words)) (made source l .status) (made source l .slices) (made source l .counts)
+pub called : (source : List ℕ) (l : Loan)
+    → MasmParseText source (loan-slices l) (zeros (l .words)) (made source l .status) (made source l .slices) (made source l .counts)
 unfolding made
 called source l = record { status-is = refl; slices-are = refl; counts-are = refl }
 
 pub record Case : Type 0 where
   pub a : List ℕ
   pub b : List ℕ
-  pub for-a : Lent
-  pub for-b : Lent
-  pub for-join : Lent
+  pub for-a : Loan
+  pub for-b : Loan
+  pub for-join : Loan
 
 -- The premises of `joined-calls`, in its order, and the rank of each.
 pub data Premise : Type 0 where
@@ -86,20 +87,20 @@ module _ (c : Case) where
   abbrev pub on-join : Reply
   on-join = made (c .a ++ c .b) (c .for-join)
 
-  abbrev pub given-a : Given
+  abbrev pub given-a : Slices
   given-a = given (on-a .slices) (on-a .counts)
 
-  abbrev pub given-b : Given
+  abbrev pub given-b : Slices
   given-b = given (on-b .slices) (on-b .counts)
 
   -- What a premise says.
   abbrev pub Holds : Premise → Type 0
   Holds first-accepted = on-a .status ≡ 0
   Holds second-accepted = on-b .status ≡ 0
-  Holds within-limit = length (c .a ++ c .b) ≤ 1048576
-  Holds room-for-tokens = T (on-a .counts) + T (on-b .counts) ≤ token-room (lent-slices (c .for-join))
-  Holds room-for-events = E (on-a .counts) + E (on-b .counts) ≤ length (lent-slices (c .for-join) .events) + 2
-  Holds room-for-diagnostics = D (on-a .counts) + D (on-b .counts) ≤ diagnostic-room (lent-slices (c .for-join))
+  Holds within-limit = length (c .a ++ c .b) ≤ MAX-SOURCE
+  Holds room-for-tokens = token-count (on-a .counts) + token-count (on-b .counts) ≤ token-room (loan-slices (c .for-join))
+  Holds room-for-events = event-count (on-a .counts) + event-count (on-b .counts) ≤ length (loan-slices (c .for-join) .events) + 2
+  Holds room-for-diagnostics = diagnostic-count (on-a .counts) + diagnostic-count (on-b .counts) ≤ diagnostic-room (loan-slices (c .for-join))
   Holds three-words = 3 ≤ length (zeros (c .for-join .words))
   Holds last-is-newline = last 0 (given-a .kinds) ≡ Newline
   Holds last-is-line-feed = last 0 (c .a) ≡ 10
@@ -121,20 +122,20 @@ module _ (c : Case) where
   -- What demand 3 concludes.
   abbrev pub Concluded : Type 0
   Concluded =
-      Joined (length (c .a)) given-a given-b (given (on-join .slices) (on-join .counts))
+      JoinReply (length (c .a)) given-a given-b (given (on-join .slices) (on-join .counts))
       (on-a .counts) (on-b .counts) (on-join .counts) (on-join .status)
 
   -- These are the premises and the conclusion of `joined-calls`.
   pub concluded : AllBut 12 → Concluded
   concluded (first, second, within, tokens, events, diagnostics, words, newline, line-feed, word, closes, starts) =
-      joined-calls (c .a) (c .b) (lent-slices (c .for-a)) (lent-slices (c .for-b)) (lent-slices (c .for-join))
+      joined-calls (c .a) (c .b) (loan-slices (c .for-a)) (loan-slices (c .for-b)) (loan-slices (c .for-join))
       (zeros (c .for-a .words)) (zeros (c .for-b .words)) (zeros (c .for-join .words))
       (called (c .a) (c .for-a)) (called (c .b) (c .for-b)) (called (c .a ++ c .b) (c .for-join)) first second within
       (record { tokens = tokens; events = events; diagnostics = diagnostics; words = words })
       (record { newline = newline; line-feed = line-feed; word = word; closes = closes; starts = starts })
 
-  pub premises-are : on-a .status ≡ 0 → on-b .status ≡ 0 → length (c .a ++ c .b) ≤ 1048576
-      → Fits (lent-slices (c .for-join)) (zeros (c .for-join .words)) (on-a .counts) (on-b .counts) → Joins (c .a) given-a given-b → AllBut 12
+  pub premises-are : on-a .status ≡ 0 → on-b .status ≡ 0 → length (c .a ++ c .b) ≤ MAX-SOURCE
+      → Fits (loan-slices (c .for-join)) (zeros (c .for-join .words)) (on-a .counts) (on-b .counts) → CallsJoin (c .a) given-a given-b → AllBut 12
   premises-are first second within f j =
       (first, second, within, f .tokens, f .events, f .diagnostics, f .words, j .newline, j .line-feed, j .word, j .closes, j .starts)
 

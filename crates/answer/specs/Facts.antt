@@ -8,7 +8,7 @@ use lib.ListN.{length, length-map}
 use Rattle.utf8.specs.WellFormed.{WellFormed}
 use Rattle.utf8.specs.Laws.{accepts as valid}
 use Rattle.lexer.specs.Lexer.{tokenize}
-use Rattle.lexer.specs.Tokens.{token-kinds}
+use Rattle.lexer.specs.Tokens.{MAX-SOURCE, token-kinds}
 use Rattle.lexer.specs.Tokens
 use Rattle.lexer.specs.Laws.{Every, bytes, lossless, few-tokens, length-ends}
 use Rattle.grammar.specs.Words.{Sym, kindOf, eventOf}
@@ -24,25 +24,25 @@ use Rattle.grammar.specs.Theorems.FewOpen.{peak, few-open}
 use Rattle.grammar.specs.Theorems.FewEvents.{few-events}
 use Rattle.grammar.specs.Theorems.FewDiagnostics.{few-diagnostics}
 use Rattle.grammar.specs.Block.{MAX-CONTROL-FLOW-NESTING as limit}
-use Rattle.marks.specs.Laws.{Kept, all-kept, source-unmarked}
+use Rattle.marks.specs.Laws.{NotRefused, none-refused, source-unmarked}
 use Rattle.answer.specs.Answer.{Slices, token-room, diagnostic-room, events-of, places-of}
-use Rattle.answer.specs.Call.{Called}
-use Rattle.answer.specs.Given.{T, E, D, Given, given, cut}
-use Rattle.answer.specs.Accepts.{reading, gives, accepting}
+use Rattle.answer.specs.Call.{MasmParseText}
+use Rattle.answer.specs.Given.{token-count, event-count, diagnostic-count, given, cut}
+use Rattle.answer.specs.Accepts.{reading-slices, reading-of-call, last-row-of-call}
 use Rattle.answer.specs.JoinedTokens.{cut-source}
 
 -- The counts are those of what is given. The leaves in order are the tokens, and their texts the source, byte for byte. At most 516 nodes are
 -- open together.
-pub record Facts (source : List ℕ) (g : Given) (counts : List ℕ) : Type 0 where
-  pub tokens : length (g .kinds) ≡ T counts
-  pub ends : length (g .ends) ≡ T counts
-  pub events : length (g .events) ≡ E counts
-  pub messages : length (g .messages) ≡ D counts
+pub record Facts (source : List ℕ) (g : Slices) (counts : List ℕ) : Type 0 where
+  pub tokens : length (g .kinds) ≡ token-count counts
+  pub ends : length (g .ends) ≡ token-count counts
+  pub events : length (g .events) ≡ event-count counts
+  pub messages : length (g .messages) ≡ diagnostic-count counts
   pub leaves-are : leaf-events (g .events) ≡ map eventOf (g .kinds)
   pub texts-are : bytes (cut 0 (g .kinds) (g .ends) source) ≡ source
   pub few-open : peak 0 (g .events) ≤ 516
-  pub few-events : E counts ≤ 7 * T counts + 2
-  pub few-diagnostics : D counts ≤ 2 * T counts
+  pub few-events : event-count counts ≤ 7 * token-count counts + 2
+  pub few-diagnostics : diagnostic-count counts ≤ 2 * token-count counts
 
 by-kinds : (ss : List Sym) → map kind ss ≡ map eventOf (map kindOf ss)
 by-kinds [] = refl
@@ -66,8 +66,9 @@ diagnostics-few source =
 events-few : (source : List ℕ) → length (events-of source) ≤ 7 * length (tokenize source) + 2
 events-few source = omega (arith, few-events limit (symbols source), length-map (tokenize source) Source.sym)
 
-of-reading : (source : List ℕ) (counts : List ℕ) → T counts ≡ length (tokenize source) → E counts ≡ length (events-of source) → D counts ≡ length (places-of source)
-    → Facts source (reading source) counts
+of-reading : (source : List ℕ) (counts : List ℕ) → token-count counts ≡ length (tokenize source)
+    → event-count counts ≡ length (events-of source) → diagnostic-count counts ≡ length (places-of source)
+    → Facts source (reading-slices source) counts
 of-reading source counts t e d =
     record {
       tokens = length-map (tokenize source) Tokens.kindOf ∙ sym t;
@@ -82,23 +83,23 @@ of-reading source counts t e d =
     }
 
 pub facts : (source : List ℕ) (s : Slices) (counts : List ℕ) {r : ℕ} {s′ : Slices} {counts′ : List ℕ}
-    → Called source s counts r s′ counts′ → r ≡ 0 → Facts source (given s′ counts′) counts′
+    → MasmParseText source s counts r s′ counts′ → r ≡ 0 → Facts source (given s′ counts′) counts′
 facts source s counts c z =
-    let g = gives source s counts (accepting source s counts c z) c .1 in
+    let g = reading-of-call source s counts (last-row-of-call source s counts c z) c .1 in
     rw (g .given-is) (of-reading source _ (g .t-is) (g .e-is) (g .d-is))
 
 -- For n bytes: n tokens, 7 * n + 2 events and 2 * n diagnostics.
-pub enough-room : (source : List ℕ) (s : Slices) (counts : List ℕ) {r : ℕ} {s′ : Slices} {counts′ : List ℕ} → Called source s counts r s′ counts′
-    → length source ≤ 1048576 → WellFormed source → Every Kept (tokenize source)
+pub enough-room : (source : List ℕ) (s : Slices) (counts : List ℕ) {r : ℕ} {s′ : Slices} {counts′ : List ℕ}
+    → MasmParseText source s counts r s′ counts′ → length source ≤ MAX-SOURCE → WellFormed source → Every NotRefused (tokenize source)
     → length source ≤ token-room s → 7 * length source + 2 ≤ length (s .events) → 2 * length source ≤ diagnostic-room s → 3 ≤ length counts → r ≡ 0
 enough-room source s counts c small well plain token-room event-room diagnostic-room words =
     let f = few-tokens source in
-    gives source s counts (record {
+    reading-of-call source s counts (record {
       words = words;
       small = small;
       utf8 = valid source well;
       tokens = omega arith;
-      kept = all-kept 0 (tokenize source) plain;
+      no-refusal = none-refused 0 (tokenize source) plain;
       events = omega (arith, events-few source);
       places = omega (arith, diagnostics-few source);
     }) c .0

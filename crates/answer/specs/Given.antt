@@ -15,32 +15,24 @@ use Rattle.grammar.specs.Joins.{shutBy}
 use Rattle.answer.specs.Answer.{Slices, token-room, diagnostic-room}
 
 -- The counts of tokens, events and diagnostics, as the call leaves them.
-abbrev pub T : List ℕ → ℕ
-T counts = getD counts 0 0
+abbrev pub token-count : List ℕ → ℕ
+token-count counts = getD counts 0 0
 
-abbrev pub E : List ℕ → ℕ
-E counts = getD counts 1 0
+abbrev pub event-count : List ℕ → ℕ
+event-count counts = getD counts 1 0
 
-abbrev pub D : List ℕ → ℕ
-D counts = getD counts 2 0
-
-pub record Given : Type 0 where
-  pub kinds : List ℕ
-  pub ends : List ℕ
-  pub events : List ℕ
-  pub messages : List ℕ
-  pub starts : List ℕ
-  pub stops : List ℕ
+abbrev pub diagnostic-count : List ℕ → ℕ
+diagnostic-count counts = getD counts 2 0
 
 -- The first T tokens, E events and D diagnostics in the slices.
-abbrev pub given : Slices → List ℕ → Given
+abbrev pub given : Slices → List ℕ → Slices
 given s counts = record {
-  kinds = take (T counts) (s .kinds);
-  ends = take (T counts) (s .ends);
-  events = take (E counts) (s .events);
-  messages = take (D counts) (s .messages);
-  starts = take (D counts) (s .starts);
-  stops = take (D counts) (s .stops);
+  kinds = take (token-count counts) (s .kinds);
+  ends = take (token-count counts) (s .ends);
+  events = take (event-count counts) (s .events);
+  messages = take (diagnostic-count counts) (s .messages);
+  starts = take (diagnostic-count counts) (s .starts);
+  stops = take (diagnostic-count counts) (s .stops);
 }
 
 -- The tokens of these kinds and ends, each with its text, cut from the bytes from offset n on.
@@ -64,7 +56,7 @@ end-before-last (t ∷ u ∷ v ∷ ts) = end-before-last (u ∷ v ∷ ts)
 
 -- A, the source a, and B may be joined: A's last token is a newline ending in LF, and the token before it is the `end` that closes a
 -- procedure or `begin` block under the root; B's first token that is no whitespace, newline or comment isn't `)`, or B has none.
-pub record Joins (a : List ℕ) (A B : Given) : Type 0 where
+pub record CallsJoin (a : List ℕ) (A B : Slices) : Type 0 where
   pub newline : last 0 (A .kinds) ≡ Newline
   pub line-feed : last 0 a ≡ 10
   pub word : end-before-last (cut 0 (A .kinds) (A .ends) a) ≡ true
@@ -73,17 +65,17 @@ pub record Joins (a : List ℕ) (A B : Given) : Type 0 where
 
 -- The join fits the slices s and counts lent for it, by the counts of A and B.
 pub record Fits (s : Slices) (counts ca cb : List ℕ) : Type 0 where
-  pub tokens : T ca + T cb ≤ token-room s
-  pub events : E ca + E cb ≤ length (s .events) + 2
-  pub diagnostics : D ca + D cb ≤ diagnostic-room s
+  pub tokens : token-count ca + token-count cb ≤ token-room s
+  pub events : event-count ca + event-count cb ≤ length (s .events) + 2
+  pub diagnostics : diagnostic-count ca + diagnostic-count cb ≤ diagnostic-room s
   pub words : 3 ≤ length counts
 
 -- What the call on the join returns and gives: n is A's length.
-pub record Joined (n : ℕ) (A B J : Given) (ca cb cj : List ℕ) (r : ℕ) : Type 0 where
+pub record JoinReply (n : ℕ) (A B J : Slices) (ca cb cj : List ℕ) (r : ℕ) : Type 0 where
   pub returned : r ≡ 0
-  pub t-is : T cj ≡ T ca + T cb
-  pub e-is : E cj + 2 ≡ E ca + E cb
-  pub d-is : D cj ≡ D ca + D cb
+  pub t-is : token-count cj ≡ token-count ca + token-count cb
+  pub e-is : event-count cj + 2 ≡ event-count ca + event-count cb
+  pub d-is : diagnostic-count cj ≡ diagnostic-count ca + diagnostic-count cb
   pub kinds-are : J .kinds ≡ A .kinds ++ B .kinds
   pub ends-are : J .ends ≡ A .ends ++ map (λ e. n + e) (B .ends)
   pub events-are : J .events ≡ dropLast (A .events) ++ tail (B .events)

@@ -20,9 +20,9 @@ use Rattle.grammar.specs.Source
 use Rattle.grammar.specs.Endings.{ending, endings, Endings}
 use Rattle.grammar.specs.Theorems.MissingEnds.{one-missing-end}
 use Rattle.answer.specs.Answer.{Slices, places-of}
-use Rattle.answer.specs.Call.{Called}
-use Rattle.answer.specs.Given.{Given, given}
-use Rattle.answer.specs.Accepts.{reading, gives, accepting}
+use Rattle.answer.specs.Call.{MasmParseText}
+use Rattle.answer.specs.Given.{given}
+use Rattle.answer.specs.Accepts.{reading-slices, reading-of-call, last-row-of-call}
 
 -- The diagnostics of these messages, starts and stops.
 abbrev pub diagnostics-of : List ℕ → List ℕ → List ℕ → List Place
@@ -40,7 +40,7 @@ pub data CallEnd (eof : ℕ) : List Place → Type 0 where
   at-file-end : (w : BlockOwner) → CallEnd eof (record { msg = missingEndNumber w; start = eof; stop = eof } ∷ [])
   at-limit : (start stop : ℕ) → CallEnd eof (record { msg = blockNumber BlockMessage.NestingTooDeep; start = start; stop = stop } ∷ [])
 
-abbrev pub MissingEnds : List ℕ → Given → Type 0
+abbrev pub MissingEnds : List ℕ → Slices → Type 0
 MissingEnds source g = CallEnd (last-char source) (place-endings (diagnostics-of (g .messages) (g .starts) (g .stops)))
 
 of-places : (ps : List Place) → diagnostics-of (map (λ p. p .msg) ps) (map (λ p. p .start) ps) (map (λ p. p .stop) ps) ≡ ps
@@ -76,12 +76,14 @@ module _ (es : List ℕ) (anchor : ℕ) where
       let p = place (blockNumber BlockMessage.NestingTooDeep) es 0 anchor i in
       subst (λ m. CallEnd anchor (record { msg = m; start = p .start; stop = p .stop } ∷ [])) (sym (place-msg (blockNumber BlockMessage.NestingTooDeep) es 0 anchor i)) (CallEnd.at-limit (p .start) (p .stop))
 
-of-source : (source : List ℕ) → MissingEnds source (reading source)
+of-source : (source : List ℕ) → MissingEnds source (reading-slices source)
 of-source source =
     let n : length (symbols source) ≡ length (token-ends source) = length-map (tokenize source) Source.sym ∙ sym (length-ends 0 (tokenize source)) in
     rw (of-places (places-of source), endings-places (token-ends source) (last-char source) (diags limit (symbols source)))
     (call-end (token-ends source) (last-char source) n (one-missing-end limit (symbols source)))
 
 pub missing-ends : (source : List ℕ) (s : Slices) (counts : List ℕ) {r : ℕ} {s′ : Slices} {counts′ : List ℕ}
-    → Called source s counts r s′ counts′ → r ≡ 0 → MissingEnds source (given s′ counts′)
-missing-ends source s counts c z = subst (MissingEnds source) (sym (gives source s counts (accepting source s counts c z) c .1 .given-is)) (of-source source)
+    → MasmParseText source s counts r s′ counts′ → r ≡ 0 → MissingEnds source (given s′ counts′)
+missing-ends source s counts c z =
+    let g = reading-of-call source s counts (last-row-of-call source s counts c z) c .1 in
+    subst (MissingEnds source) (sym (g .given-is)) (of-source source)

@@ -15,13 +15,13 @@ use Rattle.grammar.specs.Source.{symbols}
 use Rattle.grammar.specs.Joins.{shutBy}
 use Rattle.grammar.specs.Theorems.Joined.{end-follows}
 use Rattle.grammar.specs.Compute.{bytes}
-use Rattle.marks.specs.Kinds.{low-kinds}
+use Rattle.lexer.specs.Kinds.{low-kinds}
 use Rattle.answer.specs.Answer.{Slices}
-use Rattle.answer.specs.Call.{Called}
-use Rattle.answer.specs.Given.{Given, given, cut, end-before-last}
-use Rattle.answer.specs.Accepts.{reading, gives, accepting}
+use Rattle.answer.specs.Call.{MasmParseText}
+use Rattle.answer.specs.Given.{given, cut, end-before-last}
+use Rattle.answer.specs.Accepts.{reading-slices, reading-of-call, last-row-of-call}
 use Rattle.answer.specs.JoinedTokens.{cut-source, newline-last, word-before-last}
-use Rattle.answer.specs.Cases.{zeros, lent, lent-slices, made, called, Case, rank, AllBut, Concluded, concluded, Needed}
+use Rattle.answer.specs.Cases.{zeros, loan, loan-slices, made, called, Case, rank, AllBut, Concluded, concluded, Needed}
 use Rattle.answer.specs.Cases.{first-accepted, second-accepted, room-for-tokens, room-for-events, room-for-diagnostics, three-words}
 use Rattle.answer.specs.Cases.{last-is-newline, last-is-line-feed, end-is-word, end-closes, no-parenthesis}
 
@@ -29,7 +29,7 @@ use Rattle.answer.specs.Cases.{last-is-newline, last-is-line-feed, end-i
 pub first-accepted-needed : Needed first-accepted
 unfolding made
 first-accepted-needed = record {
-  case = record { a = bytes "begin end\n"; b = bytes ""; for-a = lent 4 9 0; for-b = lent 0 2 0; for-join = lent 4 10 0 };
+  case = record { a = bytes "begin end\n"; b = bytes ""; for-a = loan 4 9 0; for-b = loan 0 2 0; for-join = loan 4 10 0 };
   others = (tt, refl, omega arith, omega arith, omega arith, omega arith, omega arith, refl, refl, refl, refl, refl);
   otherwise = λ j. let z : _≡_ {A = ℕ} 10 9 = ap length (j .events-are) in omega arith;
 }
@@ -38,7 +38,7 @@ first-accepted-needed = record {
 pub second-accepted-needed : Needed second-accepted
 unfolding made
 second-accepted-needed = record {
-  case = record { a = bytes "begin end\n"; b = bytes "use"; for-a = lent 4 10 0; for-b = lent 1 5 1; for-join = lent 5 13 1 };
+  case = record { a = bytes "begin end\n"; b = bytes "use"; for-a = loan 4 10 0; for-b = loan 1 5 1; for-join = loan 5 13 1 };
   others = (refl, tt, omega arith, omega arith, omega arith, omega arith, omega arith, refl, refl, refl, refl, refl);
   otherwise = λ j. let z : _≡_ {A = ℕ} 4 0 = j .returned in omega arith;
 }
@@ -47,7 +47,7 @@ second-accepted-needed = record {
 pub token-room-needed : Needed room-for-tokens
 unfolding made
 token-room-needed = record {
-  case = record { a = bytes "begin end\n"; b = bytes "x"; for-a = lent 4 10 0; for-b = lent 1 5 1; for-join = lent 4 13 1 };
+  case = record { a = bytes "begin end\n"; b = bytes "x"; for-a = loan 4 10 0; for-b = loan 1 5 1; for-join = loan 4 13 1 };
   others = (refl, refl, omega arith, tt, omega arith, omega arith, omega arith, refl, refl, refl, refl, refl);
   otherwise = λ j. let z : _≡_ {A = ℕ} 3 0 = j .returned in omega arith;
 }
@@ -55,7 +55,7 @@ token-room-needed = record {
 pub event-room-needed : Needed room-for-events
 unfolding made
 event-room-needed = record {
-  case = record { a = bytes "begin end\n"; b = bytes "x"; for-a = lent 4 10 0; for-b = lent 1 5 1; for-join = lent 5 12 1 };
+  case = record { a = bytes "begin end\n"; b = bytes "x"; for-a = loan 4 10 0; for-b = loan 1 5 1; for-join = loan 5 12 1 };
   others = (refl, refl, omega arith, omega arith, tt, omega arith, omega arith, refl, refl, refl, refl, refl);
   otherwise = λ j. let z : _≡_ {A = ℕ} 5 0 = j .returned in omega arith;
 }
@@ -63,7 +63,7 @@ event-room-needed = record {
 pub diagnostic-room-needed : Needed room-for-diagnostics
 unfolding made
 diagnostic-room-needed = record {
-  case = record { a = bytes "begin end\n"; b = bytes "x"; for-a = lent 4 10 0; for-b = lent 1 5 1; for-join = lent 5 13 0 };
+  case = record { a = bytes "begin end\n"; b = bytes "x"; for-a = loan 4 10 0; for-b = loan 1 5 1; for-join = loan 5 13 0 };
   others = (refl, refl, omega arith, omega arith, omega arith, tt, omega arith, refl, refl, refl, refl, refl);
   otherwise = λ j. let z : _≡_ {A = ℕ} 5 0 = j .returned in omega arith;
 }
@@ -74,8 +74,8 @@ three-words-needed = record {
   case = record {
     a = bytes "begin end\n";
     b = bytes "x";
-    for-a = lent 4 10 0;
-    for-b = lent 1 5 1;
+    for-a = loan 4 10 0;
+    for-b = loan 1 5 1;
     for-join = record { tokens = 5; events = 13; diagnostics = 1; words = 2 };
   };
   others = (refl, refl, omega arith, omega arith, omega arith, omega arith, tt, refl, refl, refl, refl, refl);
@@ -86,7 +86,7 @@ three-words-needed = record {
 pub newline-needed : Needed last-is-newline
 unfolding made
 newline-needed = record {
-  case = record { a = bytes "begin end\"\\\n"; b = bytes "\""; for-a = lent 4 12 2; for-b = lent 1 5 2; for-join = lent 5 15 4 };
+  case = record { a = bytes "begin end\"\\\n"; b = bytes "\""; for-a = loan 4 12 2; for-b = loan 1 5 2; for-join = loan 5 15 4 };
   others = (refl, refl, omega arith, omega arith, omega arith, omega arith, omega arith, tt, refl, refl, refl, refl);
   otherwise = λ j. let z : _≡_ {A = ℕ} 4 5 = j .t-is in omega arith;
 }
@@ -95,7 +95,7 @@ newline-needed = record {
 pub line-feed-needed : Needed last-is-line-feed
 unfolding made
 line-feed-needed = record {
-  case = record { a = bytes "begin end\r"; b = bytes "\n"; for-a = lent 4 10 0; for-b = lent 1 3 0; for-join = lent 5 11 0 };
+  case = record { a = bytes "begin end\r"; b = bytes "\n"; for-a = loan 4 10 0; for-b = loan 1 3 0; for-join = loan 5 11 0 };
   others = (refl, refl, omega arith, omega arith, omega arith, omega arith, omega arith, refl, tt, refl, refl, refl);
   otherwise = λ j. let z : _≡_ {A = ℕ} 4 5 = j .t-is in omega arith;
 }
@@ -104,7 +104,7 @@ line-feed-needed = record {
 pub closing-needed : Needed end-closes
 unfolding made
 closing-needed = record {
-  case = record { a = bytes "type a = end\n"; b = bytes "x"; for-a = lent 8 14 0; for-b = lent 1 5 1; for-join = lent 9 17 1 };
+  case = record { a = bytes "type a = end\n"; b = bytes "x"; for-a = loan 8 14 0; for-b = loan 1 5 1; for-join = loan 9 17 1 };
   others = (refl, refl, omega arith, omega arith, omega arith, omega arith, omega arith, refl, refl, refl, tt, refl);
   otherwise = λ j. let z : _≡_ {A = ℕ} 17 19 = j .e-is in omega arith;
 }
@@ -116,27 +116,27 @@ parenthesis-needed = record {
   case = record {
     a = bytes "proc a pub ( end\n";
     b = bytes ") proc b end";
-    for-a = lent 10 20 2;
-    for-b = lent 7 15 1;
-    for-join = lent 17 37 6;
+    for-a = loan 10 20 2;
+    for-b = loan 7 15 1;
+    for-join = loan 17 37 6;
   };
   others = (refl, refl, omega arith, omega arith, omega arith, omega arith, omega arith, refl, refl, refl, refl, tt);
   otherwise = λ j. let z : _≡_ {A = ℕ} 39 35 = j .e-is in omega arith;
 }
 
 -- Of an accepted A whose last token is a newline, the token that closes a procedure or begin block under the root is the word.
-abbrev Word : List ℕ → Given → Type 0
+abbrev Word : List ℕ → Slices → Type 0
 Word a A = last 0 (A .kinds) ≡ Newline → shutBy [] (A .events) ≡ true → end-before-last (cut 0 (A .kinds) (A .ends) a) ≡ true
 
-of-reading : (a : List ℕ) → Word a (reading a)
+of-reading : (a : List ℕ) → Word a (reading-slices a)
 of-reading a newline closes = rw (cut-source a)
     (word-before-last (tokenize a) (low-kinds a) (end-follows limit (symbols a) (newline-last 0 (tokenize a) newline) closes))
 
 pub word-follows : (a : List ℕ) (s : Slices) (counts : List ℕ) {r : ℕ} {s′ : Slices} {counts′ : List ℕ}
-    → Called a s counts r s′ counts′ → r ≡ 0 → Word a (given s′ counts′)
-word-follows a s counts c z = subst (Word a) (sym (gives a s counts (accepting a s counts c z) c .1 .given-is)) (of-reading a)
+    → MasmParseText a s counts r s′ counts′ → r ≡ 0 → Word a (given s′ counts′)
+word-follows a s counts c z = subst (Word a) (sym (reading-of-call a s counts (last-row-of-call a s counts c z) c .1 .given-is)) (of-reading a)
 
 pub word-not-needed : (c : Case) → AllBut c (rank end-is-word) → Concluded c
 word-not-needed c (first, second, within, tokens, events, diagnostics, words, newline, line-feed, left-out, closes, starts) =
-    let word = word-follows (c .a) (lent-slices (c .for-a)) (zeros (c .for-a .words)) (called (c .a) (c .for-a)) first newline closes in
+    let word = word-follows (c .a) (loan-slices (c .for-a)) (zeros (c .for-a .words)) (called (c .a) (c .for-a)) first newline closes in
     concluded c (first, second, within, tokens, events, diagnostics, words, newline, line-feed, word, closes, starts)

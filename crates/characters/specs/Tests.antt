@@ -6,7 +6,7 @@ use mathlib.Core.Bool.{Bool, true, false, _||_}
 use native.Mathlib.Omega.{arith}
 use borrow.Author.Tests.{ne-eqb, ltb-true}
 use lib.Dec.{eqb, ltb}
-use Rattle.utf8.specs.TableLaws.{over}
+use Rattle.utf8.specs.TableLaws.{in-range-over}
 use Rattle.lexer.specs.Chars.{within, blank, line-end, decimal, hex, binary, letter, word, graphic}
 use Rattle.lexer.specs.Lexer.{Lex, pick, in-line}
 use Rattle.characters.specs.CharLexer.{char-match}
@@ -24,7 +24,7 @@ module _ (n : ℕ) (h : 0x80 ≤ n) where
   not-at k l = ne-eqb n k (λ e. omega (arith, ltb-true k 0x80 l))
 
   pub not-in : (a z : ℕ) → ltb z 0x80 ≡ true → within a z n ≡ false
-  not-in a z l = over a z n (omega (arith, ltb-true z 0x80 l))
+  not-in a z l = in-range-over a z n (omega (arith, ltb-true z 0x80 l))
 
   pub no-blank : blank n ≡ false
   no-blank = neither (eqb n 32) (eqb n 9) (not-at 32 refl) (not-at 9 refl)

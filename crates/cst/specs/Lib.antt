@@ -1,3 +1,2 @@
--- The steps of a reading, for the proofs of its functions.
-pub mod Parts
+-- Laws for the proofs of a reading's functions.
 pub mod Laws

@@ -1,21 +1,20 @@
 // The reading of a source into lent slices: UTF-8, lexer, words, grammar, places.
 use answer::Answer;
 use answer::numbers;
+use lexer::MAX_SOURCE;
 use utf8::Utf8;
 ghost use mathlib.Core.Path.{_≡_};
 ghost use Prim.Native.Nat.{_≤_};
 ghost use lib.ListN.{length};
 ghost use Rattle.utf8.specs.WellFormed.{WellFormed};
-ghost use Rattle.answer.specs.Answer.{slices, outcome, lexed, parse-text};
-ghost use Rattle.answer.specs.Call.{Called};
+ghost use Rattle.lexer.specs.Tokens.{MAX-SOURCE};
+ghost use Rattle.answer.specs.Answer.{entry-slices, exit-slices, outcome, from-row-3, parse-text};
+ghost use Rattle.answer.specs.Call.{MasmParseText};
 
-mod grow;
+mod rows;
 
-// The most bytes that a source may have.
-const LIMIT: usize = 1048576;
-
-// From the lexer on. The marks in the kinds are taken off wherever the reading ends.
-fn parse_valid(
+// From the lexer on: row 3. The marks in the kinds are taken off wherever the reading ends.
+fn parse_from_row_3(
     source: &[u8],
     kinds: &mut [u16],
     ends: &mut [u32],
@@ -24,10 +23,11 @@ fn parse_valid(
     starts: &mut [u32],
     stops: &mut [u32],
 ) -> Answer
-    requires { ⌜ (length (now source) ≤ 1048576) × WellFormed (now source) ⌝ }
-    ensures { λ r. ⌜ outcome r (slices (now (kinds .exit)) (now (ends .exit)) (now (events .exit)) (now (messages .exit)) (now (starts .exit)) (now (stops .exit))) ≡ lexed (now (source .entry)) (slices (now (kinds .entry)) (now (ends .entry)) (now (events .entry)) (now (messages .entry)) (now (starts .entry)) (now (stops .entry))) ⌝ }
+    requires { ⌜ (length (now source) ≤ MAX-SOURCE) × WellFormed (now source) ⌝ }
+    ensures { λ r. ⌜ outcome r (exit-slices kinds ends events messages starts stops)
+        ≡ from-row-3 (now (source .entry)) (entry-slices kinds ends events messages starts stops) ⌝ }
 {
-    let read = marks::tokenize(source, kinds, ends);
+    let read = marks::mark_source(source, kinds, ends);
     let t = read.count;
     let refusal = read.refusal;
     let room = room::least(kinds.len(), ends.len());
@@ -35,7 +35,7 @@ fn parse_valid(
         marks::unmark(&mut kinds[..room]);
         return Answer::TokenRoom(t);
     }
-    grow::parse_tokens(
+    rows::parse_from_row_4(
         source,
         refusal,
         &mut kinds[..t],
@@ -57,15 +57,16 @@ pub fn parse_text(
     starts: &mut [u32],
     stops: &mut [u32],
 ) -> Answer
-    ensures { λ r. ⌜ outcome r (slices (now (kinds .exit)) (now (ends .exit)) (now (events .exit)) (now (messages .exit)) (now (starts .exit)) (now (stops .exit))) ≡ parse-text (now (source .entry)) (slices (now (kinds .entry)) (now (ends .entry)) (now (events .entry)) (now (messages .entry)) (now (starts .entry)) (now (stops .entry))) ⌝ }
+    ensures { λ r. ⌜ outcome r (exit-slices kinds ends events messages starts stops)
+        ≡ parse-text (now (source .entry)) (entry-slices kinds ends events messages starts stops) ⌝ }
 {
-    if LIMIT < source.len() {
+    if MAX_SOURCE < source.len() {
         return Answer::TooLong;
     }
     let found = utf8::validate(source);
     match found {
         Utf8::At(n) => Answer::NotUtf8(n),
-        Utf8::Valid => parse_valid(source, kinds, ends, events, messages, starts, stops),
+        Utf8::Valid => parse_from_row_3(source, kinds, ends, events, messages, starts, stops),
     }
 }
 
@@ -81,7 +82,9 @@ pub extern "C" fn masm_parse_text(
     stops: &mut [u32],
     counts: &mut [u64],
 ) -> u64
-    ensures { λ r. ⌜ Called (now (source .entry)) (slices (now (kinds .entry)) (now (ends .entry)) (now (events .entry)) (now (messages .entry)) (now (starts .entry)) (now (stops .entry))) (now (counts .entry)) r (slices (now (kinds .exit)) (now (ends .exit)) (now (events .exit)) (now (messages .exit)) (now (starts .exit)) (now (stops .exit))) (now (counts .exit)) ⌝ }
+    ensures { λ r. ⌜ MasmParseText
+        (now (source .entry)) (entry-slices kinds ends events messages starts stops) (now (counts .entry))
+        r (exit-slices kinds ends events messages starts stops) (now (counts .exit)) ⌝ }
 {
     if counts.len() < 3 {
         return 6;

@@ -9,7 +9,7 @@ fn wide(b: u8) -> usize
 }
 
 // The number of four bytes from `at` on, low byte first.
-pub fn number(head: &[u8], at: usize) -> usize
+pub fn frame_number(head: &[u8], at: usize) -> usize
     requires { ⌜ at + 4 ≤ length (now head) ⌝ }
 {
     let low = wide(head[at]) + wide(head[at + 1]) * 256;

@@ -8,7 +8,7 @@ use lib.ListN.{length, getD, take, drop, set, length-set}
 use Rattle.lexer.specs.declared.lexer.Token.{Token as Placed}
 use Rattle.lexer.specs.Lexer.{Token, next, tokenize}
 use Rattle.room.specs.Over.{over, given-back}
-use Rattle.lexer.specs.Tokens.{ends, token-ends, room, Lexed, Written}
+use Rattle.lexer.specs.Tokens.{MAX-SOURCE, ends, token-ends, room, TokensOver, TokensFit}
 use Rattle.lexer.specs.Laws.{token}
 use Rattle.lexer.specs.Code.{placed}
 use Rattle.lexer.proofs.Laws.{next-byte}
@@ -16,7 +16,7 @@ use Rattle.lexer.proofs.Rest.{rest, rest-none, rest-more, ends-more, en
 
 pub record Going (f : Token → ℕ) (s kinds₀ ends₀ kinds ends′ : List ℕ) (at n : ℕ) : Type 0 where
   pub within : at ≤ length s
-  pub size : length s ≤ 1048576
+  pub size : length s ≤ MAX-SOURCE
   pub fewer : n ≤ at
   pub kinds-len : length kinds ≡ length kinds₀
   pub ends-len : length ends′ ≡ length ends₀
@@ -25,7 +25,7 @@ pub record Going (f : Token → ℕ) (s kinds₀ ends₀ kinds ends′ : List �
   pub kinds-are : over kinds₀ 0 (map f (tokenize s)) ≡ over kinds n (map f (rest s at))
   pub ends-are : over ends₀ 0 (token-ends s) ≡ over ends′ n (ends at (rest s at))
 
-pub begins : {f : Token → ℕ} (s kinds ends′ : List ℕ) → length s ≤ 1048576 → length kinds ≡ length ends′ → Going f s kinds ends′ kinds ends′ 0 0
+pub begins : {f : Token → ℕ} (s kinds ends′ : List ℕ) → length s ≤ MAX-SOURCE → length kinds ≡ length ends′ → Going f s kinds ends′ kinds ends′ 0 0
 begins s kinds ends′ h same = record {
   within = omega arith;
   size = h;
@@ -74,7 +74,7 @@ goes-on {f} {s} {kinds₀} {ends₀} {kinds} {ends′} {at} {n} g h t e v q kind
 })
 
 pub ended : {f : Token → ℕ} {s kinds₀ ends₀ kinds ends′ : List ℕ} {at n : ℕ} → Going f s kinds₀ ends₀ kinds ends′ at n → length s ≤ at
-    → Lexed f s kinds₀ ends₀ n kinds ends′
+    → TokensOver f s kinds₀ ends₀ n kinds ends′
 unfolding ends
 ended {f} {s} {kinds₀} {ends₀} {kinds} {ends′} {at} {n} g h =
     let m = rest-none s at h in
@@ -86,8 +86,8 @@ ended {f} {s} {kinds₀} {ends₀} {kinds} {ends′} {at} {n} g h =
 
 -- into the parts of two slices that have the room of the shorter one
 pub lent : {f : Token → ℕ} {s : List ℕ} (kinds ends′ : List ℕ) {n : ℕ} {kinds″ ends″ : List ℕ} {least : ℕ} → least ≡ room kinds ends′
-    → Lexed f s (take least kinds) (take least ends′) n kinds″ ends″
-    → Written f s kinds ends′ n (kinds″ ++ drop least kinds) (ends″ ++ drop least ends′)
+    → TokensOver f s (take least kinds) (take least ends′) n kinds″ ends″
+    → TokensFit f s kinds ends′ n (kinds″ ++ drop least kinds) (ends″ ++ drop least ends′)
 lent {f} {s} kinds ends′ e l = record {
   count-is = l .count-is;
   kinds-are = given-back kinds _ (map f (tokenize s)) _ _ (l .kinds-are) e (omega arith);

@@ -15,7 +15,7 @@ pub use Rattle.utf8.proofs.Laws.{next-byte}
 use Rattle.lexer.specs.declared.lexer.Token.{Token}
 use Rattle.lexer.specs.Chars.{tabulate}
 use Rattle.lexer.specs.Lexer.{Lex, later, follow, advance-while}
-use Rattle.lexer.specs.Code.{placed, starts, AllHold}
+use Rattle.lexer.specs.Code.{placed, starts-with, AllHold}
 
 from : (f : ℕ → ℕ) (i n k : ℕ) → k < n → getD (tabulate f i n) k 0 ≡ f (i + k)
 from f i zero k h = absurd (not-suc-le-zero h)
@@ -58,36 +58,36 @@ module _ {p : ℕ → Bool} {s : List ℕ} {a at : ℕ} (g : Reaches p s a at) (
 
 -- current_char, at the end and before it
 module _ (x : ℕ) (s : List ℕ) (at : ℕ) where
-  pub starts-none : length s ≤ at → starts x (drop at s) ≡ false
-  unfolding starts
+  pub starts-none : length s ≤ at → starts-with x (drop at s) ≡ false
+  unfolding starts-with
   starts-none h = rw (drop-of-length-le s h)
 
-  pub starts-here : at < length s → starts x (drop at s) ≡ eqb (getD s at 0) x
-  unfolding starts
+  pub starts-here : at < length s → starts-with x (drop at s) ≡ eqb (getD s at 0) x
+  unfolding starts-with
   starts-here h = rw (next-byte s at h)
 
 -- the byte x follows, or not
 module _ (x : ℕ) (f g : Lex) where
-  yes : (r : List ℕ) → starts x r ≡ true → follow x f g r ≡ later (f (drop 1 r))
-  unfolding starts follow
+  yes : (r : List ℕ) → starts-with x r ≡ true → follow x f g r ≡ later (f (drop 1 r))
+  unfolding starts-with follow
   yes [] e = absurd (false≢true e)
   yes (b ∷ r) e = rw e
 
-  pub follow-no : (r : List ℕ) → starts x r ≡ false → follow x f g r ≡ g r
-  unfolding starts follow
+  pub follow-no : (r : List ℕ) → starts-with x r ≡ false → follow x f g r ≡ g r
+  unfolding starts-with follow
   follow-no [] e = refl
   follow-no (b ∷ r) e = rw e
 
-  pub follow-yes : (s : List ℕ) (at : ℕ) → starts x (drop at s) ≡ true → follow x f g (drop at s) ≡ later (f (drop (at + 1) s))
+  pub follow-yes : (s : List ℕ) (at : ℕ) → starts-with x (drop at s) ≡ true → follow x f g (drop at s) ≡ later (f (drop (at + 1) s))
   follow-yes s at e = yes (drop at s) e ∙ ap (λ (r : List ℕ). later (f r)) (drop-drop 1 at s)
 
   -- the same, as a token in its place
-  pub placed-yes : (s : List ℕ) (at : ℕ) → starts x (drop at s) ≡ true → placed (at + 1) (f (drop (at + 1) s)) ≡ placed at (follow x f g (drop at s))
+  pub placed-yes : (s : List ℕ) (at : ℕ) → starts-with x (drop at s) ≡ true → placed (at + 1) (f (drop (at + 1) s)) ≡ placed at (follow x f g (drop at s))
   placed-yes s at e =
       ap (λ (n : ℕ). record { kind = f (drop (at + 1) s) .kind; end = n }) (omega arith)
       ∙ ap (placed at) (sym (follow-yes s at e))
 
-pub starts-within : (x : ℕ) (s : List ℕ) (at : ℕ) → starts x (drop at s) ≡ true → at + 1 ≤ length s
+pub starts-within : (x : ℕ) (s : List ℕ) (at : ℕ) → starts-with x (drop at s) ≡ true → at + 1 ≤ length s
 starts-within x s at e = go (ltb at (length s)) refl
   where
     go : (t : Bool) → ltb at (length s) ≡ t → at + 1 ≤ length s
@@ -98,7 +98,7 @@ starts-within x s at e = go (ltb at (length s)) refl
 pub one-here : (k n : ℕ) → _≡_ {A = Token} (record { kind = k; end = n }) (placed n (record { kind = k; more = 0 }))
 one-here k n = ap (λ (m : ℕ). record { kind = k; end = m }) (omega arith)
 
-pub placed-no : (x : ℕ) (f g : Lex) (n : ℕ) (r : List ℕ) → starts x r ≡ false → placed n (g r) ≡ placed n (follow x f g r)
+pub placed-no : (x : ℕ) (f g : Lex) (n : ℕ) (r : List ℕ) → starts-with x r ≡ false → placed n (g r) ≡ placed n (follow x f g r)
 placed-no x f g n r e = ap (placed n) (sym (follow-no x f g r e))
 
 -- a run goes over bytes that all hold

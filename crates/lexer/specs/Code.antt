@@ -19,9 +19,9 @@ abbrev pub placed : ℕ → Lexeme → Token
 placed n t = record { kind = t .kind; end = n + t .more }
 
 -- current_char() == Some(x)
-unfoldable pub starts : ℕ → List ℕ → Bool
-starts x [] = false
-starts x (b ∷ r) = eqb b x
+unfoldable pub starts-with : ℕ → List ℕ → Bool
+starts-with x [] = false
+starts-with x (b ∷ r) = eqb b x
 
 -- identifier_like, one byte on
 abbrev pub kept : Bool → ℕ → Bool
@@ -33,7 +33,7 @@ quote-kind Closed i = cond i QuotedIdent QuotedString
 quote-kind Line i = Error
 quote-kind File i = Error
 
-pub record Ends (q : Quoted) (t : Token) : Type 0 where
+pub record Quote (q : Quoted) (t : Token) : Type 0 where
   pub kind-is : quote-kind (q .ending) (q .«identifier_like») ≡ t .kind
   pub end-is : q .at ≡ t .end
 

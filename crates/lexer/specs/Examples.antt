@@ -17,8 +17,8 @@ pub record Example : Type 0 where
   pub ends : List ℕ
 
 -- T3: CR CR LF. T4: `""`, `"a b"`. T5: a quote that takes a line break behind a backslash, and one that ends at it. T6: `0b12`.
-pub table : List Example
-table =
+pub lexer-table : List Example
+lexer-table =
     record { source = 13 ∷ 13 ∷ 10 ∷ []; kinds = Newline ∷ Newline ∷ []; ends = 1 ∷ 3 ∷ [] }
     ∷ record { source = 34 ∷ 34 ∷ []; kinds = QuotedIdent ∷ []; ends = 2 ∷ [] }
     ∷ record { source = 34 ∷ 97 ∷ 32 ∷ 98 ∷ 34 ∷ []; kinds = QuotedString ∷ []; ends = 5 ∷ [] }
@@ -34,6 +34,6 @@ pub every : List Example → Bool
 every [] = true
 every (e ∷ es) = right e && every es
 
-pub shown : T (every table)
-unfolding every table right tokenize tokens next arm class follow advance-while run same special quoted stray ends width
-shown = tt
+pub lexer-shown : T (every lexer-table)
+unfolding every lexer-table right tokenize tokens next arm class follow advance-while run same special quoted stray ends width
+lexer-shown = tt

@@ -14,18 +14,18 @@ use Rattle.utf8.specs.Width.{width}
 use Rattle.lexer.specs.Chars.{line-end, graphic, word, class}
 use Rattle.lexer.specs.Lexer.{Lexeme, Lex, one, later, pick, follow, advance-while, run, special, unescaped, quoted, stray, arm, next}
 
-pub record Good (f : Lex) : Type 0 where
+pub record GoodLex (f : Lex) : Type 0 where
   pub within : (r : List ℕ) → f r .more ≤ length r
   pub local : (x y : List ℕ) → f x .more < length x → f (x ++ y) ≡ f x
 
-pub good-one : (k : ℕ) → Good (one k)
+pub good-one : (k : ℕ) → GoodLex (one k)
 good-one k = record { within = λ r. zero-le; local = λ x y h. refl }
 
-pub good-pick : (t : Bool) {f g : Lex} → Good f → Good g → Good (pick t f g)
-good-pick true p q = p
-good-pick false p q = q
+pub good-lex-pick : (t : Bool) {f g : Lex} → GoodLex f → GoodLex g → GoodLex (pick t f g)
+good-lex-pick true p q = p
+good-lex-pick false p q = q
 
-module _ (x : ℕ) (f g : Lex) (p : Good f) (q : Good g) where
+module _ (x : ℕ) (f g : Lex) (p : GoodLex f) (q : GoodLex g) where
   follow-within : (r : List ℕ) → follow x f g r .more ≤ length r
   unfolding follow
   follow-within [] = q .within []
@@ -45,7 +45,7 @@ module _ (x : ℕ) (f g : Lex) (p : Good f) (q : Good g) where
       go true k = ap later (p .local r y (le-of-suc-le-suc k))
       go false k = q .local (b ∷ r) y k
 
-pub good-follow : (x : ℕ) {f g : Lex} → Good f → Good g → Good (follow x f g)
+pub good-follow : (x : ℕ) {f g : Lex} → GoodLex f → GoodLex g → GoodLex (follow x f g)
 good-follow x {f} {g} p q = record { within = follow-within x f g p q; local = follow-local x f g p q }
 
 -- advance_while
@@ -71,14 +71,14 @@ module _ (p : ℕ → Bool) where
       go true k ih = ap suc (ih (le-of-suc-le-suc k))
       go false k ih = refl
 
-pub good-run : (k : ℕ) (p : ℕ → Bool) → Good (run k p)
+pub good-run : (k : ℕ) (p : ℕ → Bool) → GoodLex (run k p)
 unfolding run
 good-run k p = record {
   within = advance-within p;
   local = λ x y h. ap (λ (n : ℕ). record { kind = k; more = n }) (advance-local p x y h);
 }
 
-pub good-special : Good special
+pub good-special : GoodLex special
 unfolding special
 good-special = record {
   within = λ r. advance-within word r;
@@ -110,20 +110,20 @@ quoted-local true i (b ∷ x) y h = ap later (quoted-local false i x y (le-of-su
 quoted-local false i (b ∷ x) y h =
     unescaped-local (line-end b) (eqb b 34) i _ _ (length x) (quoted-local (eqb b 92) (i && (graphic b && not (eqb b 92))) x y) h
 
-pub good-quoted : (t i : Bool) → Good (quoted t i)
+pub good-quoted : (t i : Bool) → GoodLex (quoted t i)
 good-quoted t i = record { within = quoted-within t i; local = quoted-local t i }
 
-pub good-stray : (b : ℕ) → Good (stray b)
+pub good-stray : (b : ℕ) → GoodLex (stray b)
 unfolding stray
 good-stray b = record {
   within = λ r. omega (arith, length-take (pred (width b)) r);
   local = λ x y h. rw (take-append-le (pred (width b)) x y (omega (arith, length-take (pred (width b)) x)));
 }
 
-pub good-arm : (c b : ℕ) → Good (arm c b)
+pub good-arm : (c b : ℕ) → GoodLex (arm c b)
 unfolding arm
-good-arm c b = search (good-one, good-pick, good-follow, good-run, good-special, good-quoted, good-stray) depth 30
+good-arm c b = search (good-one, good-lex-pick, good-follow, good-run, good-special, good-quoted, good-stray) depth 30
 
-pub good-next : (b : ℕ) → Good (next b)
+pub good-next : (b : ℕ) → GoodLex (next b)
 unfolding next
 good-next b = good-arm (class b) b

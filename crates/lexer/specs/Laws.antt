@@ -2,12 +2,15 @@
 -- the last end is the source's length.
 -- Assumes nothing.
 use Prim.Native.Nat.{ℕ, zero, suc, _+_, _≤_, _<_, zero-le, suc-le-suc}
-use mathlib.Core.Path.{_≡_, refl, sym, ap, _∙_}
+use mathlib.Core.Path.{_≡_, refl, sym, ap, ap₂, _∙_}
+use mathlib.Core.Bool.{Bool, true, false, _&&_, false≢true}
 use mathlib.Core.List.{List, [], _∷_, _++_}
 use native.Mathlib.Omega.{arith}
 use native.Mathlib.Nat.{add-zero}
+use borrow.Author.Tests.{eqb-true}
+use lib.Dec.{eqb}
 use lib.ListN.{length, take, drop, length-append, take-append-drop}
-use Rattle.lexer.specs.Lexer.{Token, next, tokens, tokenize}
+use Rattle.lexer.specs.Lexer.{Token, same, next, tokens, tokenize}
 use Rattle.lexer.specs.Tokens.{ends, token-ends}
 
 -- the token that a byte starts, before r
@@ -112,3 +115,15 @@ fewer (suc k) (b ∷ r) = let h = fewer k r in omega arith
 pub few-tokens : (s : List ℕ) → length (tokenize s) ≤ length s
 unfolding tokenize
 few-tokens s = fewer 0 s
+
+-- `same` says that two texts are the same
+pub same-equal : (a b : List ℕ) → same a b ≡ true → a ≡ b
+unfolding same
+same-equal [] [] e = refl
+same-equal [] (y ∷ b) e = absurd (false≢true e)
+same-equal (x ∷ a) [] e = absurd (false≢true e)
+same-equal (x ∷ a) (y ∷ b) e = by-test (eqb x y) refl e (same-equal a b)
+  where
+    by-test : (t : Bool) → eqb x y ≡ t → t && same a b ≡ true → (same a b ≡ true → a ≡ b) → x ∷ a ≡ y ∷ b
+    by-test true h f again = ap₂ _∷_ (eqb-true x y h) (again f)
+    by-test false h f again = absurd (false≢true f)

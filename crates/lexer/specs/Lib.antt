@@ -6,5 +6,6 @@ pub mod Tokens
 pub mod Code
 pub mod Good
 pub mod Laws
+pub mod Kinds
 pub mod Join
 pub mod Examples

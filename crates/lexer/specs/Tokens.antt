@@ -7,6 +7,10 @@ use lib.ListN.{length}
 use Rattle.room.specs.Over.{over, fit}
 use Rattle.lexer.specs.Lexer.{Token, tokenize}
 
+-- The most bytes that a source may have (document 01).
+abbrev pub MAX-SOURCE : ℕ
+MAX-SOURCE = 1048576
+
 abbrev pub kindOf : Token → ℕ
 kindOf t = t .kind
 
@@ -22,7 +26,7 @@ abbrev pub token-ends : List ℕ → List ℕ
 token-ends s = ends 0 (tokenize s)
 
 -- f says what is written for a token: its kind, or that and more. All tokens, where each slice takes what it has room for.
-pub record Lexed (f : Token → ℕ) (source kinds ends : List ℕ) (count : ℕ) (kinds′ ends′ : List ℕ) : Type 0 where
+pub record TokensOver (f : Token → ℕ) (source kinds ends : List ℕ) (count : ℕ) (kinds′ ends′ : List ℕ) : Type 0 where
   pub count-is : count ≡ length (tokenize source)
   pub kinds-are : kinds′ ≡ over kinds 0 (map f (tokenize source))
   pub ends-are : ends′ ≡ over ends 0 (token-ends source)
@@ -31,10 +35,10 @@ pub record Lexed (f : Token → ℕ) (source kinds ends : List ℕ) (count : ℕ
 abbrev pub room : List ℕ → List ℕ → ℕ
 room kinds ends = min (length kinds) (length ends)
 
-pub record Written (f : Token → ℕ) (source kinds ends : List ℕ) (count : ℕ) (kinds′ ends′ : List ℕ) : Type 0 where
+pub record TokensFit (f : Token → ℕ) (source kinds ends : List ℕ) (count : ℕ) (kinds′ ends′ : List ℕ) : Type 0 where
   pub count-is : count ≡ length (tokenize source)
   pub kinds-are : kinds′ ≡ fit (room kinds ends) (map f (tokenize source)) kinds
   pub ends-are : ends′ ≡ fit (room kinds ends) (token-ends source) ends
 
-abbrev pub Tokenized : (source kinds ends : List ℕ) (count : ℕ) (kinds′ ends′ : List ℕ) → Type 0
-Tokenized = Written kindOf
+abbrev pub Tokenize : (source kinds ends : List ℕ) (count : ℕ) (kinds′ ends′ : List ℕ) → Type 0
+Tokenize = TokensFit kindOf

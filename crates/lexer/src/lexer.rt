@@ -31,9 +31,13 @@ ghost use Prim.Native.Nat.{_+_, _≤_, _<_};
 ghost use lib.ListN.{length, getD, drop, set};
 ghost use Rattle.lexer.specs.Syntax.{Ident};
 ghost use Rattle.lexer.specs.Chars.{class-table, holds, word};
-ghost use Rattle.lexer.specs.Lexer.{one, follow, run as runOf, comment as commentOf, number, zero-led, special as specialOf, stray as strayOf, dots, next as nextOf};
+ghost use Rattle.lexer.specs.Lexer.{one, follow, run as runOf, comment as commentOf, number, zero-led};
+ghost use Rattle.lexer.specs.Lexer.{special as specialOf, stray as strayOf, dots, next as nextOf};
 ghost use Rattle.lexer.specs.Code.{placed};
-ghost use Rattle.lexer.specs.Tokens.{kindOf, Lexed, Tokenized};
+ghost use Rattle.lexer.specs.Tokens.{MAX-SOURCE, kindOf, TokensOver, Tokenize};
+
+// The most bytes that a source may have.
+pub const MAX_SOURCE: usize = 1048576;
 
 pub struct Token {
     pub kind: u8,
@@ -209,9 +213,10 @@ pub fn next(table: &[u8; 256], source: &[u8], at: usize) -> Token
 }
 
 // Writes a token while there is room; both slices have the same length.
-pub fn put(kinds: &mut [u16], ends: &mut [u32], n: usize, kind: u16, end: u32)
+pub fn put_token(kinds: &mut [u16], ends: &mut [u32], n: usize, kind: u16, end: u32)
     requires { ⌜ length (now kinds) ≡ length (now ends) ⌝ }
-    ensures { λ _. ⌜ (now (kinds .exit) ≡ set (now (kinds .entry)) n kind) × (now (ends .exit) ≡ set (now (ends .entry)) n end) ⌝ }
+    ensures { λ _. ⌜ (now (kinds .exit) ≡ set (now (kinds .entry)) n kind)
+        × (now (ends .exit) ≡ set (now (ends .entry)) n end) ⌝ }
 {
     if n < kinds.len() {
         kinds[n] = kind;
@@ -221,8 +226,10 @@ pub fn put(kinds: &mut [u16], ends: &mut [u32], n: usize, kind: u16, end: u32)
 
 // All tokens: kinds and ends as far as the slices go, and the full count.
 fn tokens(source: &[u8], kinds: &mut [u16], ends: &mut [u32]) -> usize
-    requires { ⌜ (length (now source) ≤ 1048576) × (length (now kinds) ≡ length (now ends)) ⌝ }
-    ensures { λ r. ⌜ Lexed kindOf (now (source .entry)) (now (kinds .entry)) (now (ends .entry)) r (now (kinds .exit)) (now (ends .exit)) ⌝ }
+    requires { ⌜ (length (now source) ≤ MAX-SOURCE) × (length (now kinds) ≡ length (now ends)) ⌝ }
+    ensures { λ r. ⌜ TokensOver
+        kindOf (now (source .entry)) (now (kinds .entry)) (now (ends .entry))
+        r (now (kinds .exit)) (now (ends .exit)) ⌝ }
 {
     let table = classes();
     let mut at = 0;
@@ -230,7 +237,7 @@ fn tokens(source: &[u8], kinds: &mut [u16], ends: &mut [u32]) -> usize
     while at < source.len() {
         let t = next(&table, source, at);
         let end = t.end;
-        put(kinds, ends, n, t.kind as u16, end as u32);
+        put_token(kinds, ends, n, t.kind as u16, end as u32);
         n += 1;
         at = end;
     }
@@ -239,8 +246,10 @@ fn tokens(source: &[u8], kinds: &mut [u16], ends: &mut [u32]) -> usize
 
 // The tokens of a source, written while there is room in both slices, and counted on.
 pub fn tokenize(source: &[u8], kinds: &mut [u16], ends: &mut [u32]) -> usize
-    requires { ⌜ length (now source) ≤ 1048576 ⌝ }
-    ensures { λ r. ⌜ Tokenized (now (source .entry)) (now (kinds .entry)) (now (ends .entry)) r (now (kinds .exit)) (now (ends .exit)) ⌝ }
+    requires { ⌜ length (now source) ≤ MAX-SOURCE ⌝ }
+    ensures { λ r. ⌜ Tokenize
+        (now (source .entry)) (now (kinds .entry)) (now (ends .entry))
+        r (now (kinds .exit)) (now (ends .exit)) ⌝ }
 {
     let room = least(kinds.len(), ends.len());
     tokens(source, &mut kinds[..room], &mut ends[..room])

@@ -7,8 +7,9 @@ mod runs;
 pub mod syntax;
 
 pub use class::classes;
+pub use lexer::MAX_SOURCE;
 pub use lexer::Token;
 pub use lexer::next;
-pub use lexer::put;
+pub use lexer::put_token;
 pub use lexer::tokenize;
 pub use runs::same;

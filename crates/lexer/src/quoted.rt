@@ -12,7 +12,7 @@ ghost use mathlib.Core.Bool.{true, false};
 ghost use Prim.Native.Nat.{_≤_};
 ghost use lib.ListN.{length, drop};
 ghost use Rattle.lexer.specs.Lexer.{quoted};
-ghost use Rattle.lexer.specs.Code.{placed, kept, Ends};
+ghost use Rattle.lexer.specs.Code.{placed, kept, Quote};
 
 pub enum Ending {
     Closed,
@@ -37,7 +37,9 @@ fn keeps(identifier_like: bool, b: u8) -> bool
 // backslash, any.
 fn ahead(source: &[u8], at: usize, taken: bool, identifier_like: bool) -> usize
     requires { ⌜ at ≤ length (now source) ⌝ }
-    ensures { λ r. ⌜ (at ≤ r) × (r ≤ length (now (source .entry))) × (placed at (quoted taken «identifier_like» (drop at (now (source .entry)))) ≡ placed r (quoted taken «identifier_like» (drop r (now (source .entry))))) ⌝ }
+    ensures { λ r. ⌜ (at ≤ r) × (r ≤ length (now (source .entry)))
+        × (placed at (quoted taken «identifier_like» (drop at (now (source .entry))))
+        ≡ placed r (quoted taken «identifier_like» (drop r (now (source .entry))))) ⌝ }
 {
     if taken {
         return at;
@@ -51,7 +53,7 @@ fn ahead(source: &[u8], at: usize, taken: bool, identifier_like: bool) -> usize
 // What a quote whose body starts at `from` comes to.
 fn quote(source: &[u8], from: usize) -> Quoted
     requires { ⌜ from ≤ length (now source) ⌝ }
-    ensures { λ r. ⌜ Ends r (placed from (quoted false true (drop from (now (source .entry))))) ⌝ }
+    ensures { λ r. ⌜ Quote r (placed from (quoted false true (drop from (now (source .entry))))) ⌝ }
 {
     let mut at = from;
     let mut taken = false;

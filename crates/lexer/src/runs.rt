@@ -8,7 +8,7 @@ ghost use Prim.Native.Nat.{_+_, _≤_};
 ghost use lib.ListN.{length, drop};
 ghost use Rattle.lexer.specs.Chars.{class-table, holds, word};
 ghost use Rattle.lexer.specs.Lexer.{advance-while, in-line, same as sameOf};
-ghost use Rattle.lexer.specs.Code.{starts, other-than, AllHold};
+ghost use Rattle.lexer.specs.Code.{starts-with, other-than, AllHold};
 
 // Where the run from `from` on ends.
 pub fn advance_while(run: Run, source: &[u8], from: usize) -> usize
@@ -138,7 +138,7 @@ pub fn word_end(table: &[u8; 256], source: &[u8], from: usize) -> usize
 
 // current_char() == Some(x)
 pub fn current_is(source: &[u8], at: usize, x: u8) -> bool
-    ensures { λ r. ⌜ r ≡ starts x (drop at (now (source .entry))) ⌝ }
+    ensures { λ r. ⌜ r ≡ starts-with x (drop at (now (source .entry))) ⌝ }
 {
     if at < source.len() {
         return source[at] == x;

@@ -8,6 +8,7 @@ use native.Mathlib.Omega.{arith}
 use lib.ListN.{length, getD, take, drop, set}
 use Rattle.lexer.specs.declared.lexer.Token.{Token as Placed}
 use Rattle.lexer.specs.Lexer.{Token, tokenize}
+use Rattle.lexer.specs.Tokens.{MAX-SOURCE}
 use Rattle.grammar.specs.Words.{key}
 use Rattle.lexer.proofs.Rest.{rest, rest-none, rest-more, end-is}
 use Rattle.lexer.proofs.Going as lexer
@@ -15,8 +16,8 @@ use Rattle.lexer.proofs.Going.{here, token-here, text-here}
 use Rattle.marks.specs.declared.Refusal.{Refusal}
 use Rattle.marks.specs.declared.Refusal.the-variants.{Nothing, At}
 use Rattle.marks.specs.Marks.{is-refused, first-refused}
-use Rattle.marks.specs.Code.{marked, mark, kept, refused, refused-at, or-else, Lexed}
-use Rattle.marks.specs.Kinds.{low-next}
+use Rattle.marks.specs.Code.{marked, mark, symbol-mark, refused, refused-at, or-else, MarkTokens}
+use Rattle.lexer.specs.Kinds.{low-next}
 
 pub record Going (s kinds₀ ends₀ kinds ends′ : List ℕ) (refusal : Refusal) (at n : ℕ) : Type 0 where
   pub going : lexer.Going mark s kinds₀ ends₀ kinds ends′ at n
@@ -44,10 +45,10 @@ module _ (s : List ℕ) (at : ℕ) (h : at < length s) where
           ≡ or-else (refused-at (mark t) at) (first-refused (here s at .end) (rest s (here s at .end)))
       by-test true e = rw (lt-ltb (key 16) (mark t) (omega (arith, refused (t .kind) (t .text) e))) refl
       by-test false e =
-          rw (le-ltb (key 16) (mark t) (kept (t .kind) (t .text) e .bounded (low-next (getD s at 0) (drop (at + 1) s))))
+          rw (le-ltb (key 16) (mark t) (symbol-mark (t .kind) (t .text) e .bounded (low-next (getD s at 0) (drop (at + 1) s))))
           (ap (λ (n : ℕ). first-refused n (rest s (here s at .end))) (end-is s at h))
 
-pub begins : (s kinds ends′ : List ℕ) → length s ≤ 1048576 → length kinds ≡ length ends′ → Going s kinds ends′ kinds ends′ Nothing 0 0
+pub begins : (s kinds ends′ : List ℕ) → length s ≤ MAX-SOURCE → length kinds ≡ length ends′ → Going s kinds ends′ kinds ends′ Nothing 0 0
 begins s kinds ends′ h same = record { going = lexer.begins s kinds ends′ h same; refusal-is = refl }
 
 pub goes-on : {s kinds₀ ends₀ kinds ends′ : List ℕ} {refusal : Refusal} {at n : ℕ} → Going s kinds₀ ends₀ kinds ends′ refusal at n → at < length s
@@ -66,9 +67,9 @@ goes-on {s} {refusal = refusal} {at = at} g h t e v f r q kinds″ ends″ ke ee
     }
 
 pub ended : {s kinds₀ ends₀ kinds ends′ : List ℕ} {refusal : Refusal} {at n : ℕ} → Going s kinds₀ ends₀ kinds ends′ refusal at n → length s ≤ at
-    → Lexed s kinds₀ ends₀ (record { count = n; refusal = refusal }) kinds ends′
+    → MarkTokens s kinds₀ ends₀ (record { count = n; refusal = refusal }) kinds ends′
 unfolding first-refused
 ended {s} {refusal = refusal} {at = at} g h = record {
-  lexed = lexer.ended (g .going) h;
+  over = lexer.ended (g .going) h;
   refusal-is = or-else-none refusal ∙ sym (g .refusal-is ∙ ap (λ (ts : List Token). or-else refusal (first-refused at ts)) (rest-none s at h));
 }

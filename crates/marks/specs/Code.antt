@@ -10,8 +10,8 @@ use lib.Dec.{eqb, ltb}
 use lib.ListN.{length}
 use Rattle.lexer.specs.Syntax.{Ident}
 use Rattle.lexer.specs.Lexer.{Token, same, tokenize}
-use Rattle.lexer.specs.Tokens.{Written}
-use Rattle.lexer.specs.Tokens
+use Rattle.lexer.specs.Tokens.{TokensOver, TokensFit}
+use Rattle.lexer.specs.Laws.{same-equal}
 use Rattle.grammar.specs.Words.{key, words, numberIn, wordOf, symOf}
 use Rattle.marks.specs.declared.Refusal.{Refusal}
 use Rattle.marks.specs.declared.Refusal.the-variants.{Nothing, At}
@@ -22,23 +22,12 @@ abbrev pub refused-texts : List (List ℕ)
 refused-texts = use-text ∷ extern-text ∷ []
 
 -- the words are 1 to 16, `use` is 17 and `extern` 18; any other text is 0
-unfoldable pub number : List ℕ → ℕ
-number text = numberIn 1 (words ++ refused-texts) text
+unfoldable pub text-number : List ℕ → ℕ
+text-number text = numberIn 1 (words ++ refused-texts) text
 
 -- 0 unless the token is an Ident
 unfoldable pub number-of : ℕ → List ℕ → ℕ
-number-of kind text = cond (eqb Ident kind) (number text) 0
-
-pub equal : (a b : List ℕ) → same a b ≡ true → a ≡ b
-unfolding same
-equal [] [] e = refl
-equal [] (y ∷ b) e = absurd (false≢true e)
-equal (x ∷ a) [] e = absurd (false≢true e)
-equal (x ∷ a) (y ∷ b) e = by-test (eqb x y) refl e (equal a b)
-  where
-    by-test : (t : Bool) → eqb x y ≡ t → t && same a b ≡ true → (same a b ≡ true → a ≡ b) → x ∷ a ≡ y ∷ b
-    by-test true h f again = ap₂ _∷_ (eqb-true x y h) (again f)
-    by-test false h f again = absurd (false≢true f)
+number-of kind text = cond (eqb Ident kind) (text-number text) 0
 
 -- texts behind the list that are not meant
 past-words : (n : ℕ) (ws vs : List (List ℕ)) (t : List ℕ) → ((k : ℕ) → numberIn k vs t ≡ 0) → numberIn n (ws ++ vs) t ≡ numberIn n ws t
@@ -55,27 +44,27 @@ at-most n (w ∷ ws) t = by-test (same w t) (at-most (suc n) ws t)
     by-test true h = omega arith
     by-test false h = omega arith
 
-number-use : number use-text ≡ 17
-unfolding number numberIn words same
+number-use : text-number use-text ≡ 17
+unfolding text-number numberIn words same
 number-use = refl
 
-number-extern : number extern-text ≡ 18
-unfolding number numberIn words same
+number-extern : text-number extern-text ≡ 18
+unfolding text-number numberIn words same
 number-extern = refl
 
 -- of a text that is not refused: the number of the word
 record Kept-text (text : List ℕ) : Type 0 where
-  is-word : number text ≡ wordOf text
-  small : number text ≤ 16
+  is-word : text-number text ≡ wordOf text
+  small : text-number text ≤ 16
 
 kept-text : (text : List ℕ) → same use-text text ≡ false → same extern-text text ≡ false → Kept-text text
-unfolding number wordOf numberIn words
+unfolding text-number wordOf numberIn words
 kept-text text e f =
     let n = past-words 1 words refused-texts text (λ k. rw (e, f)) in
     record { is-word = n; small = rw n (at-most 0 words text) }
 
 -- What the number says of a token: it is refused, or its symbol is its kind and 256 times the number.
-pub record Kept (kind : ℕ) (text : List ℕ) : Type 0 where
+pub record SymbolMark (kind : ℕ) (text : List ℕ) : Type 0 where
   pub symbol : symOf kind text ≡ kind + 256 * number-of kind text
   pub bounded : kind < 60 → kind + 256 * number-of kind text ≤ key 16
 
@@ -84,11 +73,11 @@ neither true y e = absurd (true≢false e)
 neither false y e = (refl, e)
 
 module _ (kind : ℕ) (text : List ℕ) where
-  pub kept : is-refused (record { kind = kind; text = text }) ≡ false → Kept kind text
+  pub symbol-mark : is-refused (record { kind = kind; text = text }) ≡ false → SymbolMark kind text
   unfolding is-refused number-of symOf
-  kept e = by-kind (eqb Ident kind) refl e
+  symbol-mark e = by-kind (eqb Ident kind) refl e
     where
-      by-kind : (t : Bool) → eqb Ident kind ≡ t → t && (same use-text text || same extern-text text) ≡ false → Kept kind text
+      by-kind : (t : Bool) → eqb Ident kind ≡ t → t && (same use-text text || same extern-text text) ≡ false → SymbolMark kind text
       by-kind true h f =
           let w = neither (same use-text text) (same extern-text text) f in
           let k = kept-text text (w .0) (w .1) in
@@ -100,8 +89,8 @@ module _ (kind : ℕ) (text : List ℕ) where
   refused e = by-kind (eqb Ident kind) (same use-text text) (same extern-text text) refl refl refl e
     where
       by-kind : (t u v : Bool) → eqb Ident kind ≡ t → same use-text text ≡ u → same extern-text text ≡ v → t && (u || v) ≡ true → 16 < number-of kind text
-      by-kind true true v h p q f = rw (h, ← equal use-text text p, number-use) (omega arith)
-      by-kind true false true h p q f = rw (h, ← equal extern-text text q, number-extern) (omega arith)
+      by-kind true true v h p q f = rw (h, ← same-equal use-text text p, number-use) (omega arith)
+      by-kind true false true h p q f = rw (h, ← same-equal extern-text text q, number-extern) (omega arith)
       by-kind true false false h p q f = absurd (false≢true f)
       by-kind false u v h p q f = absurd (false≢true f)
 
@@ -112,8 +101,8 @@ marked kind text = kind + 256 * number-of kind text
 abbrev pub mark : Token → ℕ
 mark t = marked (t .kind) (t .text)
 
-pub few-numbers : (text : List ℕ) → number text ≤ 18
-unfolding number words
+pub few-numbers : (text : List ℕ) → text-number text ≤ 18
+unfolding text-number words
 few-numbers text = at-most 0 (words ++ refused-texts) text
 
 -- Marked v, a token that starts at m is refused where v stands above the last word; the first of two refusals.
@@ -125,10 +114,10 @@ or-else Nothing q = q
 or-else (At m) q = At m
 
 -- The tokens with their marks, where each slice takes what it has room for; and where both have the same room.
-pub record Lexed (source kinds ends : List ℕ) (r : Read) (kinds′ ends′ : List ℕ) : Type 0 where
-  pub lexed : Tokens.Lexed mark source kinds ends (r .count) kinds′ ends′
+pub record MarkTokens (source kinds ends : List ℕ) (r : Read) (kinds′ ends′ : List ℕ) : Type 0 where
+  pub over : TokensOver mark source kinds ends (r .count) kinds′ ends′
   pub refusal-is : r .refusal ≡ first-refused 0 (tokenize source)
 
-pub record Marked (source kinds ends : List ℕ) (r : Read) (kinds′ ends′ : List ℕ) : Type 0 where
-  pub written : Written mark source kinds ends (r .count) kinds′ ends′
+pub record MarkSource (source kinds ends : List ℕ) (r : Read) (kinds′ ends′ : List ℕ) : Type 0 where
+  pub fit : TokensFit mark source kinds ends (r .count) kinds′ ends′
   pub refusal-is : r .refusal ≡ first-refused 0 (tokenize source)

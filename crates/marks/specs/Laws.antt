@@ -21,8 +21,8 @@ use Rattle.marks.specs.declared.Refusal.the-variants.{Nothing, At}
 use Rattle.grammar.specs.Source.{syms}
 use Rattle.grammar.specs.Source
 use Rattle.marks.specs.Marks.{is-refused, first-refused}
-use Rattle.marks.specs.Kinds.{low-kinds}
-use Rattle.marks.specs.Code.{number, number-of, mark, kept, or-else}
+use Rattle.lexer.specs.Kinds.{low-kinds}
+use Rattle.marks.specs.Code.{text-number, number-of, mark, symbol-mark, or-else}
 
 -- a key has the kind of an Ident, and a kind is its own
 kind-of-key : (w : ℕ) → kindOf (key w) ≡ Ident
@@ -41,16 +41,16 @@ unfolding symOf
 kind-of-sym t h = kind-again (t .kind) (wordOf (t .text)) h
 
 -- a mark is a key or a kind too, where a token may be refused
-mark-is : (t : Token) → mark t ≡ cond (eqb Ident (t .kind)) (key (number (t .text))) (t .kind)
+mark-is : (t : Token) → mark t ≡ cond (eqb Ident (t .kind)) (key (text-number (t .text))) (t .kind)
 unfolding number-of
 mark-is t = by-test (eqb Ident (t .kind)) refl
   where
-    by-test : (u : Bool) → eqb Ident (t .kind) ≡ u → t .kind + 256 * cond u (number (t .text)) 0 ≡ cond u (key (number (t .text))) (t .kind)
+    by-test : (u : Bool) → eqb Ident (t .kind) ≡ u → t .kind + 256 * cond u (text-number (t .text)) 0 ≡ cond u (key (text-number (t .text))) (t .kind)
     by-test true e = omega (arith, eqb-true Ident (t .kind) e)
     by-test false e = omega arith
 
 kind-of-mark : (t : Token) → t .kind < 60 → kindOf (mark t) ≡ t .kind
-kind-of-mark t h = ap kindOf (mark-is t) ∙ kind-again (t .kind) (number (t .text)) h
+kind-of-mark t h = ap kindOf (mark-is t) ∙ kind-again (t .kind) (text-number (t .text)) h
 
 -- taking the marks off gives the plain kinds, where f says what is written for a token
 plain-again : (f : Token → ℕ) → ((t : Token) → t .kind < 60 → kindOf (f t) ≡ t .kind) → (ts : List Token) → Every (λ t. t .kind < 60) ts
@@ -68,23 +68,23 @@ syms-append : (xs ys : List Token) → syms (xs ++ ys) ≡ syms xs ++ syms ys
 syms-append xs ys = map-append _ xs ys
 
 -- What an answer says: no token is refused, or the first refused one starts at m, behind others that are not.
-abbrev pub Kept : Token → Type 0
-Kept t = is-refused t ≡ false
+abbrev pub NotRefused : Token → Type 0
+NotRefused t = is-refused t ≡ false
 
-pub record First (n : ℕ) (ts : List Token) (m : ℕ) : Type 0 where
+pub record FirstRefused (n : ℕ) (ts : List Token) (m : ℕ) : Type 0 where
   pub before : List Token
   pub token : Token
   pub behind : List Token
   pub split : ts ≡ before ++ token ∷ behind
-  pub kept : Every Kept before
+  pub kept : Every NotRefused before
   pub refused : is-refused token ≡ true
   pub start : m ≡ n + length (bytes before)
 
 abbrev pub Says : Refusal → ℕ → List Token → Type 0
-Says Nothing n ts = Every Kept ts
-Says (At m) n ts = First n ts m
+Says Nothing n ts = Every NotRefused ts
+Says (At m) n ts = FirstRefused n ts m
 
-longer : (r : Refusal) (n : ℕ) (t : Token) (ts : List Token) → Kept t → Says r (n + length (t .text)) ts → Says r n (t ∷ ts)
+longer : (r : Refusal) (n : ℕ) (t : Token) (ts : List Token) → NotRefused t → Says r (n + length (t .text)) ts → Says r n (t ∷ ts)
 longer Nothing n t ts e h = (e, h)
 longer (At m) n t ts e h = record {
   before = t ∷ h .before;
@@ -109,17 +109,17 @@ says n (t ∷ ts) = by-test (is-refused t) refl (says (n + length (t .text)) ts)
     by-test false e h = longer rest n t ts e h
 
 -- where no token is refused, the marks are the tokens as the grammar reads them
-symbols-of : (ts : List Token) → Every Kept ts → map mark ts ≡ syms ts
+symbols-of : (ts : List Token) → Every NotRefused ts → map mark ts ≡ syms ts
 symbols-of [] h = refl
-symbols-of (t ∷ ts) h = rw (sym (kept (t .kind) (t .text) (h .0) .symbol), symbols-of ts (h .1))
+symbols-of (t ∷ ts) h = rw (sym (symbol-mark (t .kind) (t .text) (h .0) .symbol), symbols-of ts (h .1))
 
 pub all-marked : (ts : List Token) → first-refused 0 ts ≡ Nothing → map mark ts ≡ syms ts
 all-marked ts e = symbols-of ts (subst (λ (r : Refusal). Says r 0 ts) e (says 0 ts))
 
-pub all-kept : (n : ℕ) (ts : List Token) → Every Kept ts → first-refused n ts ≡ Nothing
+pub none-refused : (n : ℕ) (ts : List Token) → Every NotRefused ts → first-refused n ts ≡ Nothing
 unfolding first-refused
-all-kept n [] h = refl
-all-kept n (t ∷ ts) h = rw (h .0) (all-kept (n + length (t .text)) ts (h .1))
+none-refused n [] h = refl
+none-refused n (t ∷ ts) h = rw (h .0) (none-refused (n + length (t .text)) ts (h .1))
 
 -- moved on by m
 abbrev pub moved : ℕ → Refusal → Refusal
@@ -157,9 +157,9 @@ join-refused a b p q =
     ∙ ap (λ (k : ℕ). or-else (first-refused 0 (tokenize a)) (first-refused k (tokenize b))) (omega (arith, ap length (lossless a)))
     ∙ ap (or-else (first-refused 0 (tokenize a))) (first-moved (length a) 0 (tokenize b))
 
-pub join-kept : (a b : List ℕ) → last 0 (token-kinds a) ≡ Newline → last 0 a ≡ 10
+pub join-none-refused : (a b : List ℕ) → last 0 (token-kinds a) ≡ Newline → last 0 a ≡ 10
     → first-refused 0 (tokenize a) ≡ Nothing → first-refused 0 (tokenize b) ≡ Nothing → first-refused 0 (tokenize (a ++ b)) ≡ Nothing
-join-kept a b p q e f = join-refused a b p q ∙ rw (e, f)
+join-none-refused a b p q e f = join-refused a b p q ∙ rw (e, f)
 
 pub join-syms : (a b : List ℕ) → last 0 (token-kinds a) ≡ Newline → last 0 a ≡ 10 → syms (tokenize (a ++ b)) ≡ syms (tokenize a) ++ syms (tokenize b)
 join-syms a b p q = ap syms (join a b p q) ∙ syms-append (tokenize a) (tokenize b)

@@ -1,6 +1,5 @@
 -- The tokens as the grammar reads them, and the first refused one.
 pub mod Marks
-pub mod Kinds
 pub mod Code
 pub mod Laws
 pub mod Filter

@@ -3,8 +3,9 @@ ghost use mathlib.Core.Path.{_≡_};
 ghost use mathlib.Core.List.{map};
 ghost use Prim.Native.Nat.{_-_, _≤_, _<_};
 ghost use lib.ListN.{length, take, drop};
+ghost use Rattle.lexer.specs.Tokens.{MAX-SOURCE};
 ghost use Rattle.grammar.specs.Words.{kindOf};
-ghost use Rattle.marks.specs.Code.{number, marked, or-else, refused-at, Lexed, Marked};
+ghost use Rattle.marks.specs.Code.{text-number, marked, or-else, refused-at, MarkTokens, MarkSource};
 ghost use Rattle.marks.specs.Filter.{WordsPass};
 
 mod filter;
@@ -30,7 +31,7 @@ pub struct Read {
 // The number of an Ident's text. Most do not pass the filter, and are compared with nothing.
 fn number_of(first: &[u16; 256], last: &[u16; 256], source: &[u8], start: usize, end: usize) -> u16
     requires { ⌜ (WordsPass (now first) (now last)) × (start < end) × (end ≤ length (now source)) ⌝ }
-    ensures { λ r. ⌜ r ≡ number (take (end - start) (drop start (now (source .entry)))) ⌝ }
+    ensures { λ r. ⌜ r ≡ text-number (take (end - start) (drop start (now (source .entry)))) ⌝ }
 {
     if filter::may_be(first, last, source[start], source[end - 1], end - start) {
         return word::word_of(&source[start..end]);
@@ -71,9 +72,11 @@ fn mark(
 }
 
 // The lexer's tokens, each marked as it is written; both slices have the same length.
-fn tokens(source: &[u8], kinds: &mut [u16], ends: &mut [u32]) -> Read
-    requires { ⌜ (length (now source) ≤ 1048576) × (length (now kinds) ≡ length (now ends)) ⌝ }
-    ensures { λ r. ⌜ Lexed (now (source .entry)) (now (kinds .entry)) (now (ends .entry)) r (now (kinds .exit)) (now (ends .exit)) ⌝ }
+fn mark_tokens(source: &[u8], kinds: &mut [u16], ends: &mut [u32]) -> Read
+    requires { ⌜ (length (now source) ≤ MAX-SOURCE) × (length (now kinds) ≡ length (now ends)) ⌝ }
+    ensures { λ r. ⌜ MarkTokens
+        (now (source .entry)) (now (kinds .entry)) (now (ends .entry))
+        r (now (kinds .exit)) (now (ends .exit)) ⌝ }
 {
     let table = lexer::classes();
     let first = filter::FIRST;
@@ -86,7 +89,7 @@ fn tokens(source: &[u8], kinds: &mut [u16], ends: &mut [u32]) -> Read
         let end = t.end;
         let kind = mark(&first, &last, source, at, t.kind, end);
         refusal = or_else(refusal, kind, at);
-        lexer::put(kinds, ends, n, kind, end as u32);
+        lexer::put_token(kinds, ends, n, kind, end as u32);
         n += 1;
         at = end;
     }
@@ -94,12 +97,14 @@ fn tokens(source: &[u8], kinds: &mut [u16], ends: &mut [u32]) -> Read
 }
 
 // The tokens, written while there is room in both slices, and counted on.
-pub fn tokenize(source: &[u8], kinds: &mut [u16], ends: &mut [u32]) -> Read
-    requires { ⌜ length (now source) ≤ 1048576 ⌝ }
-    ensures { λ r. ⌜ Marked (now (source .entry)) (now (kinds .entry)) (now (ends .entry)) r (now (kinds .exit)) (now (ends .exit)) ⌝ }
+pub fn mark_source(source: &[u8], kinds: &mut [u16], ends: &mut [u32]) -> Read
+    requires { ⌜ length (now source) ≤ MAX-SOURCE ⌝ }
+    ensures { λ r. ⌜ MarkSource
+        (now (source .entry)) (now (kinds .entry)) (now (ends .entry))
+        r (now (kinds .exit)) (now (ends .exit)) ⌝ }
 {
     let room = room::least(kinds.len(), ends.len());
-    tokens(source, &mut kinds[..room], &mut ends[..room])
+    mark_tokens(source, &mut kinds[..room], &mut ends[..room])
 }
 
 // The kind of a token that may be marked.

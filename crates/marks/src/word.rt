@@ -5,7 +5,7 @@ ghost use mathlib.Core.Bool.{cond};
 ghost use Prim.Native.Nat.{_<_};
 ghost use lib.ListN.{length, getD};
 ghost use Rattle.lexer.specs.Lexer.{same as sameOf};
-ghost use Rattle.marks.specs.Code.{number};
+ghost use Rattle.marks.specs.Code.{text-number};
 
 // The word's number where the text is the word.
 fn only(word: &[u8], n: u16, text: &[u8]) -> u16
@@ -20,7 +20,7 @@ fn only(word: &[u8], n: u16, text: &[u8]) -> u16
 // Words that start with `e`
 fn e_word(text: &[u8]) -> u16
     requires { ⌜ (0 < length (now text)) × (getD (now text) 0 0 ≡ 101) ⌝ }
-    ensures { λ r. ⌜ r ≡ number (now (text .entry)) ⌝ }
+    ensures { λ r. ⌜ r ≡ text-number (now (text .entry)) ⌝ }
 {
     if same(b"else", text) {
         return 5;
@@ -37,7 +37,7 @@ fn e_word(text: &[u8]) -> u16
 // Words that start with `p`
 fn p_word(text: &[u8]) -> u16
     requires { ⌜ (0 < length (now text)) × (getD (now text) 0 0 ≡ 112) ⌝ }
-    ensures { λ r. ⌜ r ≡ number (now (text .entry)) ⌝ }
+    ensures { λ r. ⌜ r ≡ text-number (now (text .entry)) ⌝ }
 {
     if same(b"package", text) {
         return 11;
@@ -51,7 +51,7 @@ fn p_word(text: &[u8]) -> u16
 // By the first byte, so that most texts are compared with no word.
 pub fn word_of(text: &[u8]) -> u16
     requires { ⌜ 0 < length (now text) ⌝ }
-    ensures { λ r. ⌜ r ≡ number (now (text .entry)) ⌝ }
+    ensures { λ r. ⌜ r ≡ text-number (now (text .entry)) ⌝ }
 {
     let b = text[0];
     match b {

@@ -7,7 +7,7 @@ use native.Mathlib.Numerals.{add-one}
 use lib.ListN.{length, getD, take, drop, set, length-set, length-take, length-map, drop-of-length-le}
 use lib.Seq.{drop-cons, drop-set-lt, take-set-lt, getD-take, length-take-le}
 use Rattle.room.specs.Over.{over, written}
-use Rattle.places.specs.Places.{start-of, stop-of, Placed}
+use Rattle.places.specs.Places.{start-of, stop-of, Places}
 use Rattle.places.specs.Laws.{less}
 
 pub record Going (ends : List ℕ) (anchor n : ℕ) (starts₀ stops₀ starts stops : List ℕ) (i : ℕ) : Type 0 where
@@ -60,7 +60,7 @@ whole f count n l₀ vs l same e d =
     ∙ rw (t, r)
 
 pub ended : {ends : List ℕ} {anchor count : ℕ} {starts₀ stops₀ starts stops : List ℕ} {i n : ℕ} → Going ends anchor n starts₀ stops₀ starts stops i
-    → n ≡ min count (length starts₀) → n ≤ i → Placed ends anchor count starts₀ stops₀ starts stops
+    → n ≡ min count (length starts₀) → n ≤ i → Places ends anchor count starts₀ stops₀ starts stops
 ended {ends} {anchor} {count} {starts₀} {stops₀} {starts} {stops} {i} {n} g e h =
     let j : length (take n starts) ≤ i = omega (arith, length-take n starts) in
     let none : drop i (take n starts) ≡ [] = drop-of-length-le (take n starts) j in

@@ -13,6 +13,6 @@ unfoldable pub stop-of : List ℕ → ℕ → ℕ → ℕ
 stop-of ends anchor i = place 0 ends 0 anchor i .stop
 
 -- The first `count` indices in `starts`, or all if there are fewer, become starts and stops; the rest stays.
-pub record Placed (ends : List ℕ) (anchor count : ℕ) (starts stops starts′ stops′ : List ℕ) : Type 0 where
+pub record Places (ends : List ℕ) (anchor count : ℕ) (starts stops starts′ stops′ : List ℕ) : Type 0 where
   pub starts-are : starts′ ≡ map (start-of ends anchor) (take count starts) ++ drop count starts
   pub stops-are : stops′ ≡ map (stop-of ends anchor) (take count starts) ++ drop count stops

@@ -7,7 +7,7 @@ use native.Mathlib.Omega.{arith}
 use lib.ListN.{length, take, drop, length-map}
 use Rattle.room.specs.Over.{over, nil-over, cons-over}
 use Rattle.grammar.specs.Out.{Diag, places}
-use Rattle.places.specs.Places.{start-of, stop-of, Placed}
+use Rattle.places.specs.Places.{start-of, stop-of, Places}
 use Rattle.places.specs.Laws.{starts-of-places, stops-of-places}
 
 -- behind the writes
@@ -28,29 +28,24 @@ by-each f (x ∷ l) (y ∷ m) (v ∷ vs) h =
     ∙ ap (λ (r : List ℕ). f v ∷ r) (by-each f l m vs (omega arith))
     ∙ sym (cons-over (f v) m 0 (map f vs))
 
-abbrev pub indices : List Diag → List ℕ
+abbrev indices : List Diag → List ℕ
 indices l = map (λ d. d .pos) l
 
 -- The indices of the diagnostics l were written into `starts`: after `places` the starts and stops of their places are written so.
-pub record Written (ends : List ℕ) (anchor : ℕ) (l : List Diag) (starts stops starts′ stops′ : List ℕ) : Type 0 where
-  pub starts-are : starts′ ≡ over starts 0 (map (λ p. p .start) (places ends anchor l))
-  pub stops-are : stops′ ≡ over stops 0 (map (λ p. p .stop) (places ends anchor l))
-
-pub placed-written : (ends : List ℕ) (anchor : ℕ) (l : List Diag) (starts stops starts′ stops′ : List ℕ) → length starts ≡ length stops
-    → Placed ends anchor (length l) (over starts 0 (indices l)) stops starts′ stops′ → Written ends anchor l starts stops starts′ stops′
-placed-written ends anchor l starts stops starts′ stops′ h p =
+pub places-over : (ends : List ℕ) (anchor : ℕ) (l : List Diag) (starts stops starts′ stops′ : List ℕ) → length starts ≡ length stops
+    → Places ends anchor (length l) (over starts 0 (indices l)) stops starts′ stops′
+    → (starts′ ≡ over starts 0 (map (λ p. p .start) (places ends anchor l)))
+    × (stops′ ≡ over stops 0 (map (λ p. p .stop) (places ends anchor l)))
+places-over ends anchor l starts stops starts′ stops′ h p =
     let vs : List ℕ = indices l in
-    let n : length l ≡ length vs = sym (length-map l _) in
-    record {
-      starts-are =
-          p .starts-are
+    let n : length l ≡ length vs = sym (length-map l _) in (
+      p .starts-are
           ∙ ap (λ (k : ℕ). map (start-of ends anchor) (take k (over starts 0 vs)) ++ drop k (over starts 0 vs)) n
           ∙ ap (λ (r : List ℕ). map (start-of ends anchor) (take (length vs) (over starts 0 vs)) ++ r) (rest-over starts vs)
           ∙ by-each (start-of ends anchor) starts starts vs refl
-          ∙ ap (over starts 0) (sym (starts-of-places ends anchor l));
-      stops-are =
-          p .stops-are
+          ∙ ap (over starts 0) (sym (starts-of-places ends anchor l)),
+      p .stops-are
           ∙ ap (λ (k : ℕ). map (stop-of ends anchor) (take k (over starts 0 vs)) ++ drop k stops) n
           ∙ by-each (stop-of ends anchor) starts stops vs h
-          ∙ ap (over stops 0) (sym (stops-of-places ends anchor l));
-    }
+          ∙ ap (over stops 0) (sym (stops-of-places ends anchor l)),
+    )

@@ -3,7 +3,7 @@ use room::least;
 ghost use mathlib.Core.Path.{_≡_};
 ghost use Prim.Native.Nat.{_<_, _^_};
 ghost use lib.ListN.{length};
-ghost use Rattle.places.specs.Places.{start-of, stop-of, Placed};
+ghost use Rattle.places.specs.Places.{start-of, stop-of, Places};
 
 // A token starts where the one before ended; behind the last stands the anchor.
 fn start_of(ends: &[u32], anchor: u32, i: usize) -> u32
@@ -30,7 +30,9 @@ fn stop_of(ends: &[u32], anchor: u32, i: usize) -> u32
 // The first `count` entries, as far as the slices go.
 pub fn places(ends: &[u32], anchor: usize, count: usize, starts: &mut [u32], stops: &mut [u32])
     requires { ⌜ (anchor < 2 ^ 32) × (length (now starts) ≡ length (now stops)) ⌝ }
-    ensures { λ _. ⌜ Placed (now (ends .entry)) anchor count (now (starts .entry)) (now (stops .entry)) (now (starts .exit)) (now (stops .exit)) ⌝ }
+    ensures { λ _. ⌜ Places
+        (now (ends .entry)) anchor count (now (starts .entry)) (now (stops .entry))
+        (now (starts .exit)) (now (stops .exit)) ⌝ }
 {
     let eof = anchor as u32;
     let n = least(count, starts.len());

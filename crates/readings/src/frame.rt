@@ -1,6 +1,6 @@
 // The frames of the input: seven little-endian numbers (bytes of the source, entries of the six slices), then the source.
 use crate::reading;
-use frames::header::number;
+use frames::header::frame_number;
 use frames::output;
 use libc::STDIN_FILENO;
 ghost use Prim.Native.Nat.{_≤_};
@@ -62,10 +62,10 @@ fn cut_output(
     requires { ⌜ (Ready used (now out)) × (28 ≤ length (now head)) ⌝ }
     ensures { λ r. ⌜ Ready (r .used) (now (out .exit)) ⌝ }
 {
-    let v = number(head, 12);
-    let m = number(head, 16);
-    let s = number(head, 20);
-    let e = number(head, 24);
+    let v = frame_number(head, 12);
+    let m = frame_number(head, 16);
+    let s = frame_number(head, 20);
+    let e = frame_number(head, 24);
     if events.len() < v || messages.len() < m || starts.len() < s || stops.len() < e {
         return Step { used, more: false };
     }
@@ -98,9 +98,9 @@ fn cut_tokens(
     requires { ⌜ (Ready used (now out)) × (28 ≤ length (now head)) ⌝ }
     ensures { λ r. ⌜ Ready (r .used) (now (out .exit)) ⌝ }
 {
-    let n = number(head, 0);
-    let k = number(head, 4);
-    let e = number(head, 8);
+    let n = frame_number(head, 0);
+    let k = frame_number(head, 4);
+    let e = frame_number(head, 8);
     if source.len() < n || kinds.len() < k || ends.len() < e {
         return Step { used, more: false };
     }
@@ -187,7 +187,7 @@ fn frames(
     used
 }
 
-pub fn run(
+pub fn run_readings(
     source: &mut [u8],
     kinds: &mut [u16],
     ends: &mut [u32],

@@ -11,7 +11,7 @@ fn main() {
     let mut starts = [0u32; 262144];
     let mut stops = [0u32; 262144];
     let mut out = [0u8; 65536];
-    frame::run(
+    frame::run_readings(
         &mut source,
         &mut kinds,
         &mut ends,

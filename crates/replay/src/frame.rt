@@ -1,5 +1,5 @@
 // The frames of the input: a little-endian number, the bytes of the source, then the source.
-use frames::header::number;
+use frames::header::frame_number;
 use frames::output;
 use libc::STDIN_FILENO;
 ghost use Rattle.frames.specs.Ready.{Ready};
@@ -63,7 +63,7 @@ fn frame(
     if got < 4 {
         return Step { used, more: false };
     }
-    let n = number(&head, 0);
+    let n = frame_number(&head, 0);
     if source.len() < n {
         return Step { used, more: false };
     }
@@ -115,7 +115,7 @@ fn frames(
     used
 }
 
-pub fn run(
+pub fn run_replay(
     source: &mut [u8],
     kinds: &mut [u16],
     ends: &mut [u32],

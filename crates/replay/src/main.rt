@@ -10,7 +10,7 @@ fn main() {
     let mut starts = [0u32; 2048];
     let mut stops = [0u32; 2048];
     let mut out = [0u8; 65536];
-    frame::run(
+    frame::run_replay(
         &mut source,
         &mut kinds,
         &mut ends,

@@ -93,8 +93,8 @@ module _ (source : List ℕ) (s : Spot) (m : Marks source s) (h : s .at < length
         column-is = sym (next-column ∙ ap (λ (u : Bool). cond u 1 (s .column + 1)) k);
       }
 
-  pub in-line : (b ≡ 10 → ⊥) → Marks source (record { at = s .at + 1; line = s .line; column = s .column + 1 })
-  in-line n =
+  pub same-line : (b ≡ 10 → ⊥) → Marks source (record { at = s .at + 1; line = s .line; column = s .column + 1 })
+  same-line n =
       let k = ne-eqb 10 b (λ e. n (sym e)) in
       record {
         within = omega arith;

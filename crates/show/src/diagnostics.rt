@@ -3,7 +3,7 @@ use crate::entries::at_u16;
 use crate::entries::at_u32;
 use crate::message::put_message;
 use frames::output;
-use lexer::least;
+use room::least;
 ghost use mathlib.Core.Path.{_≡_};
 ghost use Prim.Native.Nat.{_+_, _≤_, _<_, min};
 ghost use lib.ListN.{length};

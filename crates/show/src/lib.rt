@@ -2,7 +2,7 @@
 use answer::Row;
 use answer::numbers;
 use frames::output;
-use lexer::least;
+use room::least;
 ghost use Rattle.frames.specs.Ready.{Ready};
 
 mod diagnostics;

@@ -1,6 +1,6 @@
 // The texts of the messages, by number (docs/MESSAGES.md).
 use frames::output::put_text;
-use lexer::least;
+use room::least;
 ghost use Prim.Native.Nat.{_≤_};
 ghost use lib.ListN.{length};
 ghost use Rattle.frames.specs.Ready.{Ready};

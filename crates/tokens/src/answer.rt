@@ -2,6 +2,7 @@
 use frames::fill::fill_u16;
 use frames::fill::fill_u32;
 use frames::output;
+use lexer::MAX_SOURCE;
 use utf8::Utf8;
 ghost use Rattle.frames.specs.Ready.{Ready};
 
@@ -26,7 +27,7 @@ fn tokenize(
     requires { ⌜ Ready used (now out) ⌝ }
     ensures { λ r. ⌜ Ready r (now (out .exit)) ⌝ }
 {
-    if 1048576 < source.len() {
+    if MAX_SOURCE < source.len() {
         return put_status(out, used, 1, 0);
     }
     match utf8::validate(source) {

@@ -1,6 +1,6 @@
 // The frames of the input: three little-endian numbers (bytes of the source, entries of kinds and of ends), then the source.
 use crate::answer;
-use frames::header::number;
+use frames::header::frame_number;
 use frames::output;
 use libc::STDIN_FILENO;
 ghost use Rattle.frames.specs.Ready.{Ready};
@@ -40,9 +40,9 @@ fn frame(
     if got < 12 {
         return Step { used, more: false };
     }
-    let n = number(&head, 0);
-    let k = number(&head, 4);
-    let e = number(&head, 8);
+    let n = frame_number(&head, 0);
+    let k = frame_number(&head, 4);
+    let e = frame_number(&head, 8);
     if source.len() < n {
         return Step { used, more: false };
     }
@@ -71,7 +71,7 @@ fn frames(source: &mut [u8], kinds: &mut [u16], ends: &mut [u32], out: &mut [u8]
     used
 }
 
-pub fn run(source: &mut [u8], kinds: &mut [u16], ends: &mut [u32], out: &mut [u8])
+pub fn run_tokens(source: &mut [u8], kinds: &mut [u16], ends: &mut [u32], out: &mut [u8])
     requires { ⌜ Ready 0 (now out) ⌝ }
 {
     let used = frames(source, kinds, ends, out);

@@ -8,10 +8,10 @@ use native.Mathlib.Numerals.{add-one}
 use native.Mathlib.Nat.{add-zero}
 use lib.ListN.{length, getD, drop, length-drop, drop-of-length-le}
 use lib.Seq.{drop-cons, drop-drop}
-use Rattle.utf8.specs.Table.{Range, Row, table, agree, fits, charLength}
+use Rattle.utf8.specs.Table.{Range, Row, table, agree, row-fits, charLength}
 use Rattle.utf8.specs.TableLaws.{char-of-length}
-use Rattle.utf8.specs.Rows.{tailLength, First, first-row, Between, no-row, fits-then, fits-not}
-use Rattle.utf8.specs.Validate.{from}
+use Rattle.utf8.specs.Rows.{tailLength, FirstRow, first-row, Between, no-row, fits-then, fits-not}
+use Rattle.utf8.specs.Validate.{validate-from}
 use Rattle.utf8.specs.Passes.{Passes}
 use Rattle.utf8.specs.Laws.{steps, stops}
 use Rattle.utf8.specs.declared.Utf8.the-variants.{Valid, At}
@@ -21,10 +21,10 @@ module _ (s : List ℕ) (at : ℕ) where
   next-byte h = rw (add-one, drop-cons s at 0)
 
   -- the bytes of a row's tail one by one
-  pub tail-then : (r : Range) (row : Row) → fits (r ∷ []) (drop at s) ≡ true → fits (r ∷ row) (drop at s) ≡ fits row (drop (at + 1) s)
-  tail-then r row e = fits-then r row (drop at s) e ∙ ap (λ (l : List ℕ). fits row l) (drop-drop 1 at s)
+  pub tail-then : (r : Range) (row : Row) → row-fits (r ∷ []) (drop at s) ≡ true → row-fits (r ∷ row) (drop at s) ≡ row-fits row (drop (at + 1) s)
+  tail-then r row e = fits-then r row (drop at s) e ∙ ap (λ (l : List ℕ). row-fits row l) (drop-drop 1 at s)
 
-  pub tail-not : (r : Range) (row : Row) → fits (r ∷ []) (drop at s) ≡ false → fits (r ∷ row) (drop at s) ≡ false
+  pub tail-not : (r : Range) (row : Row) → row-fits (r ∷ []) (drop at s) ≡ false → row-fits (r ∷ row) (drop at s) ≡ false
   tail-not r row e = fits-not r row (drop at s) e
 
   -- no step; a character's bytes
@@ -41,12 +41,12 @@ module _ (s : List ℕ) (at : ℕ) where
       record {
         forth = omega arith;
         within = char-within (suc k) h e;
-        same = steps at (drop at s) k e ∙ ap (λ (l : List ℕ). from 0 (at + suc k) l) (drop-drop (suc k) at s);
+        same = steps at (drop at s) k e ∙ ap (λ (l : List ℕ). validate-from 0 (at + suc k) l) (drop-drop (suc k) at s);
       }
 
   -- the character's length by its first byte's row
   module _ (h : at < length s) where
-    pub row-length : (i : ℕ) → First i table (getD s at 0) → charLength (drop at s) ≡ tailLength (drop 1 (getD table i [])) (drop (at + 1) s)
+    pub row-length : (i : ℕ) → FirstRow i table (getD s at 0) → charLength (drop at s) ≡ tailLength (drop 1 (getD table i [])) (drop (at + 1) s)
     row-length i f = rw (next-byte h) (first-row i (getD s at 0) (drop (at + 1) s) f)
 
     pub no-length : (i : ℕ) → Between i table (getD s at 0) → charLength (drop at s) ≡ 0
@@ -57,11 +57,11 @@ module _ (s : List ℕ) (at : ℕ) where
     ascii-length b = row-length 0 (omega arith)
 
   -- the answer at the end, and where no character stands
-  pub ends : length s ≤ at → from 0 at (drop at s) ≡ Valid
-  unfolding from
+  pub ends : length s ≤ at → validate-from 0 at (drop at s) ≡ Valid
+  unfolding validate-from
   ends h = rw (drop-of-length-le s h)
 
-  pub stops-at : at < length s → charLength (drop at s) ≡ 0 → from 0 at (drop at s) ≡ At at
+  pub stops-at : at < length s → charLength (drop at s) ≡ 0 → validate-from 0 at (drop at s) ≡ At at
   stops-at h e = stops at (drop at s) (omega (arith, length-drop at s)) e
 
 pub passes-both : {s : List ℕ} {a b c : ℕ} → Passes s a b → Passes s b c → Passes s a c

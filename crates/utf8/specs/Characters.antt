@@ -19,8 +19,8 @@ pub record Starts (b : ℕ) (bs : List ℕ) : Type 0 where
   pub character : Character table (take (width b) (b ∷ bs))
   pub rest : WellFormed (drop (width b) (b ∷ bs))
 
-pub starts : (b : ℕ) (bs : List ℕ) → WellFormed (b ∷ bs) → Starts b bs
-starts b bs w = by-length (charLength (b ∷ bs)) refl
+pub character-starts : (b : ℕ) (bs : List ℕ) → WellFormed (b ∷ bs) → Starts b bs
+character-starts b bs w = by-length (charLength (b ∷ bs)) refl
   where
     by-length : (l : ℕ) → charLength (b ∷ bs) ≡ l → Starts b bs
     by-length zero e = absurd (not-both _ (accepts (b ∷ bs) w) (stops 0 (b ∷ bs) (omega arith) e))
@@ -38,7 +38,7 @@ starts b bs w = by-length (charLength (b ∷ bs)) refl
 
 -- its bytes after the first are continuation bytes
 pub continuation : (b : ℕ) (bs : List ℕ) → WellFormed (b ∷ bs) → (k : ℕ) → suc k < width b → (0x80 ≤ getD bs k 0) × (getD bs k 0 ≤ 0xBF)
-continuation b bs w k i = by-width (width b) (starts b bs w .within) (starts b bs w .character) i
+continuation b bs w k i = by-width (width b) (character-starts b bs w .within) (character-starts b bs w .character) i
   where
     by-width : (m : ℕ) → m ≤ suc (length bs) → Character table (take m (b ∷ bs)) → suc k < m → (0x80 ≤ getD bs k 0) × (getD bs k 0 ≤ 0xBF)
     by-width zero l c i = absurd (omega arith)

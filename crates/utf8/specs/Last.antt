@@ -16,7 +16,7 @@ use Rattle.utf8.specs.FirstByte.{char-width, tail-bytes}
 use Rattle.utf8.specs.Rows.{no-row}
 use Rattle.utf8.specs.Width.{width, width-pos}
 use Rattle.utf8.specs.WellFormed.{Character, WellFormed, empty, more}
-use Rattle.utf8.specs.Characters.{starts}
+use Rattle.utf8.specs.Characters.{character-starts}
 
 -- the bytes from offset n on, of which the first k belong to the character before, which starts at m
 unfoldable pub last-from : ℕ → ℕ → ℕ → List ℕ → ℕ
@@ -79,7 +79,7 @@ Continuation b = (0x80 ≤ b) × (b ≤ 0xBF)
 -- a well-formed text does not start with a continuation byte
 lead : (b : ℕ) (bs : List ℕ) → WellFormed (b ∷ bs) → Continuation b → ⊥
 unfolding table
-lead b bs w h = omega (arith, starts b bs w .length-is, width-pos b, no-row 1 b bs (omega arith))
+lead b bs w h = omega (arith, character-starts b bs w .length-is, width-pos b, no-row 1 b bs (omega arith))
 
 -- the bytes of a first character behind its first byte
 tail-of : {c : List ℕ} → Character table c → (s : List ℕ) (j : ℕ) → suc j < length c → Continuation (getD (c ++ s) (suc j) 0)
@@ -91,17 +91,17 @@ only k zero h here = refl
 only {c} k (suc j) h here = absurd (here (tail-of k [] j (omega (arith, length-append c []))))
 
 -- The last byte that is no continuation byte starts the last character.
-abbrev pub Ends : List ℕ → Type 0
-Ends s =
+abbrev pub LastStart : List ℕ → Type 0
+LastStart s =
     (at : ℕ) → at < length s → (Continuation (getD s at 0) → ⊥)
     → ((k : ℕ) → at < k → k < length s → Continuation (getD s k 0)) → last-char s ≡ at
 
-pub last-is : {s : List ℕ} → WellFormed s → Ends s
+pub last-is : {s : List ℕ} → WellFormed s → LastStart s
 last-is empty at h here behind = absurd (omega arith)
 last-is (more {c} {s = []} k w) at h here behind = alone k ∙ only k at h here
 last-is (more {c} {s = b ∷ s} k w) at h here behind = by-side (ltb at (length c)) refl (λ j p q r. last-is w j p q r)
   where
-    by-side : (t : Bool) → ltb at (length c) ≡ t → Ends (b ∷ s) → last-char (c ++ b ∷ s) ≡ at
+    by-side : (t : Bool) → ltb at (length c) ≡ t → LastStart (b ∷ s) → last-char (c ++ b ∷ s) ≡ at
     by-side true e again =
         let n = length-append c (b ∷ s) in
         absurd (lead b s w (rw (getD-append-seam c b s 0) at (behind (length c) (ltb-true at (length c) e) (omega arith))))

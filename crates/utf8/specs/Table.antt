@@ -27,23 +27,23 @@ table =
     ∷ (0xF4 ⋯ 0xF4 ∷ 0x80 ⋯ 0x8F ∷ 0x80 ⋯ 0xBF ∷ 0x80 ⋯ 0xBF ∷ [])
     ∷ []
 
-abbrev pub inside : Range → ℕ → Bool
-inside (low ⋯ high) b = leb low b && leb b high
+abbrev pub in-range : Range → ℕ → Bool
+in-range (low ⋯ high) b = leb low b && leb b high
 
 -- how many leading bytes lie in the row's ranges, one after another
 unfoldable pub agree : Row → List ℕ → ℕ
 agree [] bs = 0
 agree (r ∷ row) [] = 0
-agree (r ∷ row) (b ∷ bs) = cond (inside r b) (suc (agree row bs)) 0
+agree (r ∷ row) (b ∷ bs) = cond (in-range r b) (suc (agree row bs)) 0
 
 -- whether the bytes start with a sequence of the row
-abbrev pub fits : Row → List ℕ → Bool
-fits row bs = eqb (agree row bs) (length row)
+abbrev pub row-fits : Row → List ℕ → Bool
+row-fits row bs = eqb (agree row bs) (length row)
 
 -- the length of the first row whose sequence the bytes start with, 0 where there is none
 unfoldable pub lengthIn : List Row → List ℕ → ℕ
 lengthIn [] bs = 0
-lengthIn (row ∷ rows) bs = cond (fits row bs) (length row) (lengthIn rows bs)
+lengthIn (row ∷ rows) bs = cond (row-fits row bs) (length row) (lengthIn rows bs)
 
 -- the length of the character that the bytes start with, 0 where there is none
 abbrev pub charLength : List ℕ → ℕ

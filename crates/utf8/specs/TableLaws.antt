@@ -7,7 +7,7 @@ use native.Mathlib.Omega.{arith}
 use lib.Dec.{leb, eqb·zero-suc, eqb·suc-suc}
 use borrow.Author.Tests.{le-leb, lt-leb, leb-true}
 use lib.ListN.{length, take}
-use Rattle.utf8.specs.Table.{Range, _⋯_, Row, table, inside, agree, fits, lengthIn, charLength}
+use Rattle.utf8.specs.Table.{Range, _⋯_, Row, table, in-range, agree, row-fits, lengthIn, charLength}
 use Rattle.utf8.specs.WellFormed.{Sequence, done, byte, Character, here, there}
 
 -- a byte against a range
@@ -21,29 +21,29 @@ both true false e = (refl, e)
 both false y e = (e, absurd (let z : _≡_ {A = ℕ} 0 1 = cc in omega arith))
 
 module _ (low high b : ℕ) where
-  pub within : low ≤ b → b ≤ high → inside (low ⋯ high) b ≡ true
-  within l h = rw (le-leb low b l, le-leb b high h)
+  pub in-range-yes : low ≤ b → b ≤ high → in-range (low ⋯ high) b ≡ true
+  in-range-yes l h = rw (le-leb low b l, le-leb b high h)
 
-  pub under : b < low → inside (low ⋯ high) b ≡ false
-  under l = rw (lt-leb low b l)
+  pub in-range-under : b < low → in-range (low ⋯ high) b ≡ false
+  in-range-under l = rw (lt-leb low b l)
 
-  pub over : high < b → inside (low ⋯ high) b ≡ false
-  over h = rw (lt-leb b high h) (and-false (leb low b))
+  pub in-range-over : high < b → in-range (low ⋯ high) b ≡ false
+  in-range-over h = rw (lt-leb b high h) (and-false (leb low b))
 
-  bounds : inside (low ⋯ high) b ≡ true → (low ≤ b) × (b ≤ high)
+  bounds : in-range (low ⋯ high) b ≡ true → (low ≤ b) × (b ≤ high)
   bounds e = let w = both (leb low b) (leb b high) e in (leb-true low b (w .0), leb-true b high (w .1))
 
 -- a row by its first byte
 module _ (r : Range) (row : Row) (b : ℕ) (bs : List ℕ) where
-  pub fits-on : inside r b ≡ true → fits (r ∷ row) (b ∷ bs) ≡ fits row bs
+  pub fits-on : in-range r b ≡ true → row-fits (r ∷ row) (b ∷ bs) ≡ row-fits row bs
   unfolding agree
   fits-on e = rw (e, eqb·suc-suc)
 
-  pub fits-off : inside r b ≡ false → fits (r ∷ row) (b ∷ bs) ≡ false
+  pub fits-off : in-range r b ≡ false → row-fits (r ∷ row) (b ∷ bs) ≡ false
   unfolding agree
   fits-off e = rw (e, eqb·zero-suc)
 
-pub fits-none : (r : Range) (row : Row) → fits (r ∷ row) [] ≡ false
+pub fits-none : (r : Range) (row : Row) → row-fits (r ∷ row) [] ≡ false
 unfolding agree
 fits-none r row = eqb·zero-suc (length row)
 
@@ -52,21 +52,21 @@ pub sequence-length : {row : Row} {c : List ℕ} → Sequence row c → length c
 sequence-length done = refl
 sequence-length (byte l h q) = ap suc (sequence-length q)
 
-pub sequence-fits : {row : Row} {c : List ℕ} → Sequence row c → (s : List ℕ) → fits row (c ++ s) ≡ true
+pub sequence-fits : {row : Row} {c : List ℕ} → Sequence row c → (s : List ℕ) → row-fits row (c ++ s) ≡ true
 unfolding agree
 sequence-fits done s = refl
 sequence-fits (byte {low} {high} {b} {row} {bs} l h q) s =
-    fits-on (low ⋯ high) row b (bs ++ s) (within low high b l h) ∙ sequence-fits q s
+    fits-on (low ⋯ high) row b (bs ++ s) (in-range-yes low high b l h) ∙ sequence-fits q s
 
 abbrev Starts : Row → List ℕ → Type 0
 Starts row s = (length row ≤ length s) × Sequence row (take (length row) s)
 
-pub fits-sequence : (row : Row) (s : List ℕ) → fits row s ≡ true → Starts row s
+pub fits-sequence : (row : Row) (s : List ℕ) → row-fits row s ≡ true → Starts row s
 fits-sequence [] s e = (omega arith, done)
 fits-sequence (r ∷ row) [] e = absurd (true≢false (sym e ∙ fits-none r row))
-fits-sequence (low ⋯ high ∷ row) (b ∷ bs) e = by-test (inside (low ⋯ high) b) refl (fits-sequence row bs)
+fits-sequence (low ⋯ high ∷ row) (b ∷ bs) e = by-test (in-range (low ⋯ high) b) refl (fits-sequence row bs)
   where
-    by-test : (t : Bool) → inside (low ⋯ high) b ≡ t → (fits row bs ≡ true → Starts row bs) → Starts (low ⋯ high ∷ row) (b ∷ bs)
+    by-test : (t : Bool) → in-range (low ⋯ high) b ≡ t → (row-fits row bs ≡ true → Starts row bs) → Starts (low ⋯ high ∷ row) (b ∷ bs)
     by-test true i again =
         let w = bounds low high b i in
         let q = again (sym (fits-on (low ⋯ high) row b bs i) ∙ e) in
@@ -74,24 +74,24 @@ fits-sequence (low ⋯ high ∷ row) (b ∷ bs) e = by-test (inside (low ⋯ hig
     by-test false i again = absurd (true≢false (sym e ∙ fits-off (low ⋯ high) row b bs i))
 
 -- the first bytes of the rows lie from n on, each row's above those of the row before
-abbrev pub Rising : ℕ → List Row → Type 0
-Rising n [] = Unit {0}
-Rising n ([] ∷ rows) = ⊥
-Rising n ((low ⋯ high ∷ row) ∷ rows) = (n ≤ low) × (low ≤ high) × Rising (suc high) rows
+abbrev pub RowsRise : ℕ → List Row → Type 0
+RowsRise n [] = Unit {0}
+RowsRise n ([] ∷ rows) = ⊥
+RowsRise n ((low ⋯ high ∷ row) ∷ rows) = (n ≤ low) × (low ≤ high) × RowsRise (suc high) rows
 
-pub rising : Rising 0 table
+pub rows-rise : RowsRise 0 table
 unfolding table
-rising = omega arith
+rows-rise = omega arith
 
 -- a sequence of a later row is none of this one
-later : (low high : ℕ) (row : Row) {n : ℕ} {rows : List Row} {c : List ℕ} → high < n → Rising n rows → Character rows c → (s : List ℕ)
-    → fits (low ⋯ high ∷ row) (c ++ s) ≡ false
+later : (low high : ℕ) (row : Row) {n : ℕ} {rows : List Row} {c : List ℕ} → high < n → RowsRise n rows → Character rows c → (s : List ℕ)
+    → row-fits (low ⋯ high ∷ row) (c ++ s) ≡ false
 later low high row a u (here done) s = absurd u
-later low high row a u (here (byte {b = b} {bs = bs} l h q)) s = fits-off (low ⋯ high) row b (bs ++ s) (over low high b (omega arith))
+later low high row a u (here (byte {b = b} {bs = bs} l h q)) s = fits-off (low ⋯ high) row b (bs ++ s) (in-range-over low high b (omega arith))
 later low high row a u (there {row = []} k) s = absurd u
 later low high row a u (there {row = low′ ⋯ high′ ∷ row′} k) s = later low high row (omega arith) (u .2) k s
 
-length-in : (n : ℕ) {rows : List Row} {c : List ℕ} → Rising n rows → Character rows c → (s : List ℕ) → lengthIn rows (c ++ s) ≡ length c
+length-in : (n : ℕ) {rows : List Row} {c : List ℕ} → RowsRise n rows → Character rows c → (s : List ℕ) → lengthIn rows (c ++ s) ≡ length c
 unfolding lengthIn
 length-in n u (here q) s = rw (sequence-fits q s) (sym (sequence-length q))
 length-in n u (there {row = []} k) s = absurd u
@@ -99,7 +99,7 @@ length-in n u (there {row = low ⋯ high ∷ row} k) s = rw (later low high row 
 
 -- bytes that start with a character have its length
 pub char-length : {c : List ℕ} → Character table c → (s : List ℕ) → charLength (c ++ s) ≡ length c
-char-length k s = length-in 0 rising k s
+char-length k s = length-in 0 rows-rise k s
 
 abbrev Led : List Row → List ℕ → ℕ → Type 0
 Led rows s k = (suc k ≤ length s) × Character rows (take (suc k) s)
@@ -107,9 +107,9 @@ Led rows s k = (suc k ≤ length s) × Character rows (take (suc k) s)
 in-rows : (rows : List Row) (s : List ℕ) (k : ℕ) → lengthIn rows s ≡ suc k → Led rows s k
 unfolding lengthIn
 in-rows [] s k e = absurd (omega arith)
-in-rows (row ∷ rows) s k e = by-test (fits row s) refl e (in-rows rows s k)
+in-rows (row ∷ rows) s k e = by-test (row-fits row s) refl e (in-rows rows s k)
   where
-    by-test : (t : Bool) → fits row s ≡ t → cond t (length row) (lengthIn rows s) ≡ suc k → (lengthIn rows s ≡ suc k → Led rows s k)
+    by-test : (t : Bool) → row-fits row s ≡ t → cond t (length row) (lengthIn rows s) ≡ suc k → (lengthIn rows s ≡ suc k → Led rows s k)
         → Led (row ∷ rows) s k
     by-test true f e again = let q = fits-sequence row s f in (omega arith, here (rw e at (q .1)))
     by-test false f e again = let q = again e in (q .0, there (q .1))
@@ -119,11 +119,11 @@ pub char-of-length : (s : List ℕ) (k : ℕ) → charLength s ≡ suc k → (su
 char-of-length s k e = in-rows table s k e
 
 -- no character is empty
-some-byte : (n : ℕ) {rows : List Row} {c : List ℕ} → Rising n rows → Character rows c → 0 < length c
+some-byte : (n : ℕ) {rows : List Row} {c : List ℕ} → RowsRise n rows → Character rows c → 0 < length c
 some-byte n u (here done) = absurd u
 some-byte n u (here (byte l h q)) = omega arith
 some-byte n u (there {row = []} k) = absurd u
 some-byte n u (there {row = low ⋯ high ∷ row} k) = some-byte (suc high) (u .2) k
 
 pub char-some : {c : List ℕ} → Character table c → 0 < length c
-char-some k = some-byte 0 rising k
+char-some k = some-byte 0 rows-rise k

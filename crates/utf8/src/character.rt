@@ -3,13 +3,13 @@ ghost use mathlib.Core.Path.{_≡_};
 ghost use mathlib.Core.List.{[], _∷_};
 ghost use Prim.Native.Nat.{_+_, _≤_, _<_};
 ghost use lib.ListN.{length, drop};
-ghost use Rattle.utf8.specs.Table.{_⋯_, fits, charLength};
+ghost use Rattle.utf8.specs.Table.{_⋯_, row-fits, charLength};
 ghost use Rattle.utf8.specs.Rows.{tailLength};
 ghost use Rattle.utf8.specs.Passes.{Walked};
 
 // Whether a byte stands at `at` and lies in `low` to `high`.
 fn byte_in(source: &[u8], at: usize, low: u8, high: u8) -> bool
-    ensures { λ r. ⌜ r ≡ fits (low ⋯ high ∷ []) (drop at (now (source .entry))) ⌝ }
+    ensures { λ r. ⌜ r ≡ row-fits (low ⋯ high ∷ []) (drop at (now (source .entry))) ⌝ }
 {
     if source.len() <= at {
         return false;

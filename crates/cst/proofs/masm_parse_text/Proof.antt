@@ -9,7 +9,7 @@ use Rattle.answer.specs.declared.Answer.{Answer}
 use Rattle.answer.specs.declared.Row.{Row}
 use Rattle.answer.specs.Numbers.{numbers}
 use Rattle.answer.specs.Answer.{Slices, outcome, parse-text}
-use Rattle.answer.specs.Call.{call, Called}
+use Rattle.answer.specs.Call.{call, MasmParseText}
 use borrow.Author.Needs.{needs}
 use Rattle.cst.proofs.masm_parse_text.Statement.{statement}
 use Rattle.cst.proofs.masm_parse_text.Tie as tie
@@ -21,16 +21,16 @@ three (a ∷ b ∷ []) x y z h = absurd (omega arith)
 three (a ∷ b ∷ c ∷ l) x y z h = refl
 
 module _ (source : List ℕ) (s : Slices) (counts : List ℕ) where
-  too-short : length counts < 3 → Called source s counts 6 s counts
+  too-short : length counts < 3 → MasmParseText source s counts 6 s counts
   unfolding call
   too-short h =
       let e = lt-ltb (length counts) 3 h in
       record { status-is = rw e; slices-are = rw e; counts-are = rw e }
 
-  answered : (a : Answer) (s′ : Slices) (n : Row) → 3 ≤ length counts → outcome a s′ ≡ parse-text source s → n ≡ numbers a
-      → Called source s counts (n .status) s′ (set (set (set counts 0 (n .first)) 1 (n .second)) 2 (n .third))
+  replies : (a : Answer) (s′ : Slices) (n : Row) → 3 ≤ length counts → outcome a s′ ≡ parse-text source s → n ≡ numbers a
+      → MasmParseText source s counts (n .status) s′ (set (set (set counts 0 (n .first)) 1 (n .second)) 2 (n .third))
   unfolding call
-  answered a s′ n h o e =
+  replies a s′ n h o e =
       let k = le-ltb (length counts) 3 h in
       record {
         status-is = ap (λ (x : Row). x .status) e ∙ rw (k, sym o) refl;
@@ -83,7 +83,7 @@ returns-2 : tie.Need-returns-2
 returns-2 c =
     let c₁ = c .before .before .before .before .before .before .before .before .before .before .before .before .before in
     let c₂ = c₁ .before .before .before .before .before .before .before in
-    answered _ _ _ _ _ _ (c₂ .if1 .left) (c₁ .parse-text .ensures) (c .numbers .ensures)
+    replies _ _ _ _ _ _ (c₂ .if1 .left) (c₁ .parse-text .ensures) (c .numbers .ensures)
 
 pub masm-parse-text-spec : {M : Type 1} → statement M
 masm-parse-text-spec =

@@ -4,28 +4,29 @@ use mathlib.Core.Path.{_≡_, refl, sym, _∙_}
 use mathlib.Core.List.{List}
 use borrow.Author.Tests.{lt-ltb, le-ltb}
 use lib.ListN.{length}
+use Rattle.lexer.specs.Tokens.{MAX-SOURCE}
 use Rattle.utf8.specs.declared.Utf8.the-variants.{Valid, At}
 use Rattle.utf8.specs.Validate.{validate}
 use Rattle.utf8.specs.Laws.{accepted}
 use Rattle.answer.specs.declared.Answer.the-variants.{TooLong, NotUtf8}
-use Rattle.answer.specs.Answer.{Slices, Outcome, outcome, lexed, checked, parse-text}
+use Rattle.answer.specs.Answer.{Slices, Outcome, outcome, from-row-3, from-row-2, parse-text}
 use borrow.Author.Needs.{needs}
 use Rattle.cst.proofs.parse_text.Statement.{statement}
 use Rattle.cst.proofs.parse_text.Tie as tie
 
 module _ (source : List ℕ) (s : Slices) where
-  too-long : 1048576 < length source → outcome TooLong s ≡ parse-text source s
+  too-long : MAX-SOURCE < length source → outcome TooLong s ≡ parse-text source s
   unfolding parse-text
-  too-long h = rw (lt-ltb 1048576 (length source) h) refl
+  too-long h = rw (lt-ltb MAX-SOURCE (length source) h) refl
 
-  module _ (h : length source ≤ 1048576) where
+  module _ (h : length source ≤ MAX-SOURCE) where
     not-utf8 : (n : ℕ) → validate source ≡ At n → outcome (NotUtf8 n) s ≡ parse-text source s
-    unfolding parse-text checked
-    not-utf8 n v = rw (le-ltb 1048576 (length source) h, v) refl
+    unfolding parse-text from-row-2
+    not-utf8 n v = rw (le-ltb MAX-SOURCE (length source) h, v) refl
 
-    goes-on : {o : Outcome} → validate source ≡ Valid → o ≡ lexed source s → o ≡ parse-text source s
-    unfolding parse-text checked
-    goes-on v e = e ∙ rw (le-ltb 1048576 (length source) h, v) refl
+    goes-on : {o : Outcome} → validate source ≡ Valid → o ≡ from-row-3 source s → o ≡ parse-text source s
+    unfolding parse-text from-row-2
+    goes-on v e = e ∙ rw (le-ltb MAX-SOURCE (length source) h, v) refl
 
 returns : tie.Need-returns
 returns c = too-long _ _ (c .if1 .taken)
@@ -39,8 +40,8 @@ enum-known-found c = search needs
 enum-told : tie.Need-enum-told
 enum-told c = search needs
 
-parse-valid-requires : tie.Need-parse-valid-requires
-parse-valid-requires c κs =
+parse-from-row-3-requires : tie.Need-parse-from-row-3-requires
+parse-from-row-3-requires c κs =
     let c₁ = c .before .before .before .before .before .before in
     let c₂ = c₁ .before .before in
     let c₃ = c₂ .before in
@@ -76,7 +77,7 @@ returns-3 c =
     let c₂ = c₁ .before .before .before .before .before .before .before in
     let c₃ = c₂ .before .before in
     let c₄ = c₃ .before in
-    goes-on _ _ (c₄ .if1 .left) (sym (c₃ .validate .ensures) ∙ c₂ .enum-told .given .1) (c₁ .parse-valid .ensures)
+    goes-on _ _ (c₄ .if1 .left) (sym (c₃ .validate .ensures) ∙ c₂ .enum-told .given .1) (c₁ .parse-from-row-3 .ensures)
 
 pub parse-text-spec : {M : Type 1} → statement M
 parse-text-spec =
@@ -86,7 +87,7 @@ parse-text-spec =
     validate-requires
     enum-known-found
     enum-told
-    parse-valid-requires
+    parse-from-row-3-requires
     returns-2
     same-length
     same-length-2

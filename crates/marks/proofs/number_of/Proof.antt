@@ -6,7 +6,7 @@ use native.Mathlib.Omega.{arith}
 use borrow.Author.Needs.{needs}
 use lib.ListN.{length, getD, take, drop, length-drop}
 use lib.Seq.{length-take-le, getD-take, getD-drop}
-use Rattle.marks.specs.Code.{number}
+use Rattle.marks.specs.Code.{text-number}
 use Rattle.marks.specs.Filter.{Unnumbered}
 use Rattle.marks.proofs.number_of.Statement.{statement}
 use Rattle.marks.proofs.number_of.Tie as tie
@@ -21,7 +21,7 @@ module _ (s : List ℕ) (start end : ℕ) (h : start < end) (w : end ≤ length 
   byte-is : (k i : ℕ) → k < end - start → start + k ≡ i → getD text k 0 ≡ getD s i 0
   byte-is k i l e = getD-take (end - start) (drop start s) k 0 l ∙ getD-drop start s k 0 ∙ ap (λ (n : ℕ). getD s n 0) e
 
-  no-word : Unnumbered (getD s start 0) (getD s (end - 1) 0) (end - start) → 0 ≡ number text
+  no-word : Unnumbered (getD s start 0) (getD s (end - 1) 0) (end - start) → 0 ≡ text-number text
   no-word u =
       let l = text-length in
       sym (u text (byte-is 0 start (omega arith) (omega arith)) (byte-is (length text - 1) (end - 1) (omega arith) (omega arith)) l)

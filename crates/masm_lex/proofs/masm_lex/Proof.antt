@@ -8,27 +8,27 @@ use lib.ListN.{length}
 use Rattle.utf8.specs.declared.Utf8.the-variants.{Valid, At}
 use Rattle.utf8.specs.Validate.{validate}
 use Rattle.utf8.specs.Laws.{longest}
-use Rattle.lexer.specs.Tokens.{Tokenized}
-use Rattle.masm_lex.specs.Call.{Called}
+use Rattle.lexer.specs.Tokens.{MAX-SOURCE, Tokenize}
+use Rattle.masm_lex.specs.Call.{MasmLex}
 use borrow.Author.Needs.{needs}
 use Rattle.masm_lex.proofs.masm_lex.Statement.{statement}
 use Rattle.masm_lex.proofs.masm_lex.Tie as tie
 
 module _ (s kinds ends : List ℕ) where
-  too-long : 1048576 < length s → Called s kinds ends 0x1_0000_0000 kinds ends
+  too-long : MAX-SOURCE < length s → MasmLex s kinds ends 0x1_0000_0000 kinds ends
   too-long h =
-      let e = lt-ltb 1048576 (length s) h in
+      let e = lt-ltb MAX-SOURCE (length s) h in
       record { returned = rw e; kinds-are = rw e; ends-are = rw e }
 
-  module _ (h : length s ≤ 1048576) where
-    not-utf8 : (n : ℕ) → validate s ≡ At n → Called s kinds ends (0x2_0000_0000 + n) kinds ends
+  module _ (h : length s ≤ MAX-SOURCE) where
+    not-utf8 : (n : ℕ) → validate s ≡ At n → MasmLex s kinds ends (0x2_0000_0000 + n) kinds ends
     not-utf8 n v =
-        let e = le-ltb 1048576 (length s) h in
+        let e = le-ltb MAX-SOURCE (length s) h in
         record { returned = rw (e, v); kinds-are = rw (e, v); ends-are = rw (e, v) }
 
-    lexed : {r : ℕ} {kinds′ ends′ : List ℕ} → validate s ≡ Valid → Tokenized s kinds ends r kinds′ ends′ → Called s kinds ends r kinds′ ends′
+    lexed : {r : ℕ} {kinds′ ends′ : List ℕ} → validate s ≡ Valid → Tokenize s kinds ends r kinds′ ends′ → MasmLex s kinds ends r kinds′ ends′
     lexed v t =
-        let e = le-ltb 1048576 (length s) h in
+        let e = le-ltb MAX-SOURCE (length s) h in
         record { returned = rw (e, v) (t .count-is); kinds-are = rw (e, v) (t .kinds-are); ends-are = rw (e, v) (t .ends-are) }
 
 returns : tie.Need-returns

@@ -6,35 +6,35 @@ use borrow.Author.Needs.{needs}
 use Rattle.readings.proofs.main.Statement.{statement}
 use Rattle.readings.proofs.main.Tie as tie
 
-slice-aggregate-run : tie.Need-slice-aggregate-run
-slice-aggregate-run c = sym (length-replicate {0} {A = ℕ} 1048577 0)
+slice-aggregate-run-readings : tie.Need-slice-aggregate-run-readings
+slice-aggregate-run-readings c = sym (length-replicate {0} {A = ℕ} 1048577 0)
 
-slice-aggregate-run-2 : tie.Need-slice-aggregate-run-2
-slice-aggregate-run-2 c = sym (length-replicate {0} {A = ℕ} 131072 0)
+slice-aggregate-run-readings-2 : tie.Need-slice-aggregate-run-readings-2
+slice-aggregate-run-readings-2 c = sym (length-replicate {0} {A = ℕ} 131072 0)
 
-slice-aggregate-run-3 : tie.Need-slice-aggregate-run-3
-slice-aggregate-run-3 c = sym (length-replicate {0} {A = ℕ} 131072 0)
+slice-aggregate-run-readings-3 : tie.Need-slice-aggregate-run-readings-3
+slice-aggregate-run-readings-3 c = sym (length-replicate {0} {A = ℕ} 131072 0)
 
-slice-aggregate-run-4 : tie.Need-slice-aggregate-run-4
-slice-aggregate-run-4 c = sym (length-replicate {0} {A = ℕ} 917506 0)
+slice-aggregate-run-readings-4 : tie.Need-slice-aggregate-run-readings-4
+slice-aggregate-run-readings-4 c = sym (length-replicate {0} {A = ℕ} 917506 0)
 
-slice-aggregate-run-5 : tie.Need-slice-aggregate-run-5
-slice-aggregate-run-5 c = sym (length-replicate {0} {A = ℕ} 262144 0)
+slice-aggregate-run-readings-5 : tie.Need-slice-aggregate-run-readings-5
+slice-aggregate-run-readings-5 c = sym (length-replicate {0} {A = ℕ} 262144 0)
 
-slice-aggregate-run-6 : tie.Need-slice-aggregate-run-6
-slice-aggregate-run-6 c = sym (length-replicate {0} {A = ℕ} 262144 0)
+slice-aggregate-run-readings-6 : tie.Need-slice-aggregate-run-readings-6
+slice-aggregate-run-readings-6 c = sym (length-replicate {0} {A = ℕ} 262144 0)
 
-slice-aggregate-run-7 : tie.Need-slice-aggregate-run-7
-slice-aggregate-run-7 c = sym (length-replicate {0} {A = ℕ} 262144 0)
+slice-aggregate-run-readings-7 : tie.Need-slice-aggregate-run-readings-7
+slice-aggregate-run-readings-7 c = sym (length-replicate {0} {A = ℕ} 262144 0)
 
-slice-aggregate-run-8 : tie.Need-slice-aggregate-run-8
-slice-aggregate-run-8 c = sym (length-replicate {0} {A = ℕ} 65536 0)
+slice-aggregate-run-readings-8 : tie.Need-slice-aggregate-run-readings-8
+slice-aggregate-run-readings-8 c = sym (length-replicate {0} {A = ℕ} 65536 0)
 
-run-requires : tie.Need-run-requires
-run-requires c κs = search needs
+run-readings-requires : tie.Need-run-readings-requires
+run-readings-requires c κs = search needs
 
 returns : tie.Need-returns
 returns c = search needs
 
 pub main-spec : {M : Type 1} → statement M
-main-spec = tie.close (tie.spec slice-aggregate-run slice-aggregate-run-2 slice-aggregate-run-3 slice-aggregate-run-4 slice-aggregate-run-5 slice-aggregate-run-6 slice-aggregate-run-7 slice-aggregate-run-8 run-requires returns)
+main-spec = tie.close (tie.spec slice-aggregate-run-readings slice-aggregate-run-readings-2 slice-aggregate-run-readings-3 slice-aggregate-run-readings-4 slice-aggregate-run-readings-5 slice-aggregate-run-readings-6 slice-aggregate-run-readings-7 slice-aggregate-run-readings-8 run-readings-requires returns)

@@ -6,20 +6,20 @@ use borrow.Author.Needs.{needs}
 use Rattle.tokens.proofs.main.Statement.{statement}
 use Rattle.tokens.proofs.main.Tie as tie
 
-slice-aggregate-run : tie.Need-slice-aggregate-run
-slice-aggregate-run c = sym (length-replicate {0} {A = ℕ} 1048577 0)
+slice-aggregate-run-tokens : tie.Need-slice-aggregate-run-tokens
+slice-aggregate-run-tokens c = sym (length-replicate {0} {A = ℕ} 1048577 0)
 
-slice-aggregate-run-2 : tie.Need-slice-aggregate-run-2
-slice-aggregate-run-2 c = sym (length-replicate {0} {A = ℕ} 1048576 0)
+slice-aggregate-run-tokens-2 : tie.Need-slice-aggregate-run-tokens-2
+slice-aggregate-run-tokens-2 c = sym (length-replicate {0} {A = ℕ} 1048576 0)
 
-slice-aggregate-run-3 : tie.Need-slice-aggregate-run-3
-slice-aggregate-run-3 c = sym (length-replicate {0} {A = ℕ} 1048576 0)
+slice-aggregate-run-tokens-3 : tie.Need-slice-aggregate-run-tokens-3
+slice-aggregate-run-tokens-3 c = sym (length-replicate {0} {A = ℕ} 1048576 0)
 
-slice-aggregate-run-4 : tie.Need-slice-aggregate-run-4
-slice-aggregate-run-4 c = search needs
+slice-aggregate-run-tokens-4 : tie.Need-slice-aggregate-run-tokens-4
+slice-aggregate-run-tokens-4 c = search needs
 
-run-requires : tie.Need-run-requires
-run-requires c κs = search needs
+run-tokens-requires : tie.Need-run-tokens-requires
+run-tokens-requires c κs = search needs
 
 returns : tie.Need-returns
 returns c = search needs
@@ -28,9 +28,9 @@ pub main-spec : {M : Type 1} → statement M
 main-spec =
     tie.close
     (tie.spec
-    slice-aggregate-run
-    slice-aggregate-run-2
-    slice-aggregate-run-3
-    slice-aggregate-run-4
-    run-requires
+    slice-aggregate-run-tokens
+    slice-aggregate-run-tokens-2
+    slice-aggregate-run-tokens-3
+    slice-aggregate-run-tokens-4
+    run-tokens-requires
     returns)

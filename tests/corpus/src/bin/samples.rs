@@ -20,9 +20,9 @@ samples =
 
 const FOOTER: &str = "
 
-pub agree : map again samples ≡ samples
+pub samples-agree : map again samples ≡ samples
 unfolding again samples
-agree = refl";
+samples-agree = refl";
 
 fn main() {
     let entries: Vec<String> = sources().map(|source| entry(&source)).collect();

@@ -4,13 +4,13 @@ use mathlib.Core.Bool.{Bool}
 use Rattle.lexer.specs.declared.lexer.Token.{Token}
 use Rattle.lexer.specs.declared.quoted.Quoted.{Quoted}
 use Rattle.lexer.specs.declared.quoted.Ending.{Ending}
-use Rattle.lexer.specs.Code.{Ends, quote-kind}
+use Rattle.lexer.specs.Code.{Quote, quote-kind}
 use borrow.Author.Needs.{needs}
 use Rattle.lexer.proofs.quoted.lex_quoted.Statement.{statement}
 use Rattle.lexer.proofs.quoted.lex_quoted.Tie as tie
 
 -- the token of a quote with a known ending
-as-token : {q : Quoted} {t : Token} (g : Ending) (i : Bool) → Ends q t → q .ending ≡ g → q .«identifier_like» ≡ i
+as-token : {q : Quoted} {t : Token} (g : Ending) (i : Bool) → Quote q t → q .ending ≡ g → q .«identifier_like» ≡ i
     → _≡_ {A = Token} (record { kind = quote-kind g i; end = q .at }) t
 as-token {q} {t} g i e p l =
     let k : quote-kind g i ≡ t .kind = ap (λ (h : Ending). quote-kind h i) (sym p) ∙ ap (quote-kind (q .ending)) (sym l) ∙ e .kind-is in

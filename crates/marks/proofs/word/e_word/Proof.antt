@@ -8,7 +8,7 @@ use lib.ListN.{length, getD}
 use Rattle.lexer.specs.Lexer.{same}
 use Rattle.grammar.specs.Words.{words, numberIn}
 use Rattle.marks.specs.Marks.{extern-text}
-use Rattle.marks.specs.Code.{number}
+use Rattle.marks.specs.Code.{text-number}
 use Rattle.marks.proofs.Texts.{compared, led}
 use Rattle.marks.proofs.word.e_word.Statement.{statement}
 use Rattle.marks.proofs.word.e_word.Tie as tie
@@ -27,14 +27,14 @@ abbrev chain : Bool → Bool → Bool → ℕ → ℕ
 chain x y z n = cond x 5 (cond y 6 (cond z 7 n))
 
 module _ (t : List ℕ) (h : (0 < length t) × (getD t 0 0 ≡ 101)) where
-  by-words : chain (same else-text t) (same end-text t) (same enum-text t) (cond (same extern-text t) 18 0) ≡ number t
-  unfolding number numberIn words same
+  by-words : chain (same else-text t) (same end-text t) (same enum-text t) (cond (same extern-text t) 18 0) ≡ text-number t
+  unfolding text-number numberIn words same
   by-words =
-      led (λ t. chain (same else-text t) (same end-text t) (same enum-text t) (cond (same extern-text t) 18 0) ≡ number t)
+      led (λ t. chain (same else-text t) (same end-text t) (same enum-text t) (cond (same extern-text t) 18 0) ≡ text-number t)
       101 t (h .0) (h .1) (λ r. refl)
 
   answers : {x y z : Bool} {n : ℕ} → x ≡ same else-text t → y ≡ same end-text t → z ≡ same enum-text t → n ≡ cond (same extern-text t) 18 0
-      → chain x y z n ≡ number t
+      → chain x y z n ≡ text-number t
   answers {x} {y} {z} {n} p q r e =
       compared else-text t 5 (cond y 6 (cond z 7 n)) p
       ∙ ap (cond (same else-text t) 5) (compared end-text t 6 (cond z 7 n) q ∙ ap (cond (same end-text t) 6) (compared enum-text t 7 n r ∙ ap (cond (same enum-text t) 7) e))

@@ -7,7 +7,7 @@ use borrow.Author.Needs.{needs}
 use lib.ListN.{length, getD}
 use Rattle.lexer.specs.Lexer.{same}
 use Rattle.grammar.specs.Words.{words, numberIn}
-use Rattle.marks.specs.Code.{number}
+use Rattle.marks.specs.Code.{text-number}
 use Rattle.marks.proofs.Texts.{compared, led}
 use Rattle.marks.proofs.word.p_word.Statement.{statement}
 use Rattle.marks.proofs.word.p_word.Tie as tie
@@ -26,13 +26,13 @@ abbrev chain : Bool → Bool → ℕ → ℕ
 chain x y n = cond x 11 (cond y 12 n)
 
 module _ (t : List ℕ) (h : (0 < length t) × (getD t 0 0 ≡ 112)) where
-  by-words : chain (same package-text t) (same proc-text t) (cond (same pub-text t) 13 0) ≡ number t
-  unfolding number numberIn words same
+  by-words : chain (same package-text t) (same proc-text t) (cond (same pub-text t) 13 0) ≡ text-number t
+  unfolding text-number numberIn words same
   by-words =
-      led (λ t. chain (same package-text t) (same proc-text t) (cond (same pub-text t) 13 0) ≡ number t)
+      led (λ t. chain (same package-text t) (same proc-text t) (cond (same pub-text t) 13 0) ≡ text-number t)
       112 t (h .0) (h .1) (λ r. refl)
 
-  answers : {x y : Bool} {n : ℕ} → x ≡ same package-text t → y ≡ same proc-text t → n ≡ cond (same pub-text t) 13 0 → chain x y n ≡ number t
+  answers : {x y : Bool} {n : ℕ} → x ≡ same package-text t → y ≡ same proc-text t → n ≡ cond (same pub-text t) 13 0 → chain x y n ≡ text-number t
   answers {x} {y} {n} p q e =
       compared package-text t 11 (cond y 12 n) p
       ∙ ap (cond (same package-text t) 11) (compared proc-text t 12 n q ∙ ap (cond (same proc-text t) 12) e)

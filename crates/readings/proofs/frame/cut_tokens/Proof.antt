@@ -5,14 +5,14 @@ use borrow.Author.Needs.{needs}
 use Rattle.readings.proofs.frame.cut_tokens.Statement.{statement}
 use Rattle.readings.proofs.frame.cut_tokens.Tie as tie
 
-number-requires : tie.Need-number-requires
-number-requires c κs = search needs
+frame-number-requires : tie.Need-frame-number-requires
+frame-number-requires c κs = search needs
 
-number-requires-2 : tie.Need-number-requires-2
-number-requires-2 c κs = search needs
+frame-number-requires-2 : tie.Need-frame-number-requires-2
+frame-number-requires-2 c κs = search needs
 
-number-requires-3 : tie.Need-number-requires-3
-number-requires-3 c κs = search needs
+frame-number-requires-3 : tie.Need-frame-number-requires-3
+frame-number-requires-3 c κs = search needs
 
 returns : tie.Need-returns
 returns c = search needs
@@ -69,9 +69,9 @@ pub cut-tokens-spec : {M : Type 1} → statement M
 cut-tokens-spec =
     tie.close
     (tie.spec
-    number-requires
-    number-requires-2
-    number-requires-3
+    frame-number-requires
+    frame-number-requires-2
+    frame-number-requires-3
     returns
     slice-relend-prefix-cut-output
     slice-aggregate-cut-output

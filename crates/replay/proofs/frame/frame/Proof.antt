@@ -14,11 +14,11 @@ read-full-requires c κs = search needs
 returns : tie.Need-returns
 returns c = search needs
 
-slice-aggregate-number : tie.Need-slice-aggregate-number
-slice-aggregate-number c = search needs
+slice-aggregate-frame-number : tie.Need-slice-aggregate-frame-number
+slice-aggregate-frame-number c = search needs
 
-number-requires : tie.Need-number-requires
-number-requires c κs = search needs
+frame-number-requires : tie.Need-frame-number-requires
+frame-number-requires c κs = search needs
 
 returns-2 : tie.Need-returns-2
 returns-2 c = search needs
@@ -66,8 +66,8 @@ frame-spec =
     slice-aggregate-read-full
     read-full-requires
     returns
-    slice-aggregate-number
-    number-requires
+    slice-aggregate-frame-number
+    frame-number-requires
     returns-2
     slice-relend-prefix-body
     slice-aggregate-body

@@ -14,23 +14,23 @@ read-full-requires c κs = search needs
 returns : tie.Need-returns
 returns c = search needs
 
-slice-aggregate-number : tie.Need-slice-aggregate-number
-slice-aggregate-number c = search needs
+slice-aggregate-frame-number : tie.Need-slice-aggregate-frame-number
+slice-aggregate-frame-number c = search needs
 
-number-requires : tie.Need-number-requires
-number-requires c κs = search needs
+frame-number-requires : tie.Need-frame-number-requires
+frame-number-requires c κs = search needs
 
-slice-aggregate-number-2 : tie.Need-slice-aggregate-number-2
-slice-aggregate-number-2 c = search needs
+slice-aggregate-frame-number-2 : tie.Need-slice-aggregate-frame-number-2
+slice-aggregate-frame-number-2 c = search needs
 
-number-requires-2 : tie.Need-number-requires-2
-number-requires-2 c κs = search needs
+frame-number-requires-2 : tie.Need-frame-number-requires-2
+frame-number-requires-2 c κs = search needs
 
-slice-aggregate-number-3 : tie.Need-slice-aggregate-number-3
-slice-aggregate-number-3 c = search needs
+slice-aggregate-frame-number-3 : tie.Need-slice-aggregate-frame-number-3
+slice-aggregate-frame-number-3 c = search needs
 
-number-requires-3 : tie.Need-number-requires-3
-number-requires-3 c κs = search needs
+frame-number-requires-3 : tie.Need-frame-number-requires-3
+frame-number-requires-3 c κs = search needs
 
 returns-2 : tie.Need-returns-2
 returns-2 c = search needs
@@ -84,12 +84,12 @@ frame-spec =
     slice-aggregate-read-full
     read-full-requires
     returns
-    slice-aggregate-number
-    number-requires
-    slice-aggregate-number-2
-    number-requires-2
-    slice-aggregate-number-3
-    number-requires-3
+    slice-aggregate-frame-number
+    frame-number-requires
+    slice-aggregate-frame-number-2
+    frame-number-requires-2
+    slice-aggregate-frame-number-3
+    frame-number-requires-3
     returns-2
     returns-3
     returns-4

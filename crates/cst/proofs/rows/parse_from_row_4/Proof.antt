@@ -1,8 +1,10 @@
--- `cst::grow::parse_tokens` meets its contract, by what is refused. Assumes nothing.
+-- `cst::rows::parse_from_row_4` meets its contract, by what is refused. Assumes nothing.
 use Prim.Native.Nat.{ℕ}
 use mathlib.Core.Path.{_≡_, refl, sym, ap, _∙_}
 use mathlib.Core.List.{List, [], map}
+use lib.ListN.{length, length-map}
 use Rattle.lexer.specs.Lexer.{tokenize}
+use Rattle.lexer.specs.Tokens.{token-ends}
 use Rattle.grammar.specs.Words.{kindOf}
 use Rattle.grammar.specs.Source.{symbols}
 use Rattle.marks.specs.declared.Refusal.{Refusal}
@@ -12,37 +14,38 @@ use Rattle.marks.specs.Code.{mark}
 use Rattle.marks.specs.Laws.{marks-unmarked, all-marked}
 use Rattle.answer.specs.declared.Answer.{Answer}
 use Rattle.answer.specs.declared.Answer.the-variants.{Refused}
-use Rattle.answer.specs.Answer.{slices, grown, kept}
-use Rattle.cst.specs.Parts.{Left}
+use Rattle.answer.specs.Answer.{slices, Outcome, outcome, from-row-4, from-row-5}
+use Rattle.cst.specs.Laws.{kinds-all, ends-all}
 use borrow.Author.Needs.{needs}
-use Rattle.cst.proofs.grow.parse_tokens.Statement.{statement}
-use Rattle.cst.proofs.grow.parse_tokens.Tie as tie
+use Rattle.cst.proofs.rows.parse_from_row_4.Statement.{statement}
+use Rattle.cst.proofs.rows.parse_from_row_4.Tie as tie
 
 module _
-    (source kinds ends ev dm ds de : List ℕ) (refusal : Refusal)
-    (refusal-is : refusal ≡ first-refused 0 (tokenize source)) (marks : kinds ≡ map mark (tokenize source))
+    (source kinds ends ev dm ds de : List ℕ) (refusal : Refusal) (refusal-is : refusal ≡ first-refused 0 (tokenize source))
+    (marks : kinds ≡ map mark (tokenize source)) (ends-are : ends ≡ token-ends source)
   where
+    kinds-fit : length kinds ≡ length (tokenize source)
+    kinds-fit = ap length marks ∙ length-map (tokenize source) mark
+
     refused : {kinds′ : List ℕ} (n : ℕ) → refusal ≡ At n → kinds′ ≡ map kindOf kinds
-        → Left source (kept (first-refused 0 (tokenize source)) source (slices kinds ends ev dm ds de)) (Refused n) kinds′ ev dm ds de
-    unfolding kept
+        → outcome (Refused n) (slices kinds′ ends ev dm ds de)
+        ≡ from-row-4 (first-refused 0 (tokenize source)) source (slices kinds ends ev dm ds de)
+    unfolding from-row-4
     refused n e k =
-        rw (sym refusal-is ∙ e)
-        (record {
-          answer-is = refl;
-          kinds-are = k ∙ ap (map kindOf) marks ∙ marks-unmarked source;
-          events-are = refl;
-          messages-are = refl;
-          starts-are = refl;
-          stops-are = refl;
-        })
+        rw (
+          sym refusal-is ∙ e,
+          kinds-all source kinds ends kinds-fit ends-are,
+          ends-all source kinds ends kinds-fit ends-are,
+          k ∙ ap (map kindOf) marks ∙ marks-unmarked source,
+        )
+        refl
 
     symbols-are : refusal ≡ Nothing → kinds ≡ symbols source
     symbols-are e = marks ∙ all-marked (tokenize source) (sym refusal-is ∙ e)
 
-    goes-on : {r : Answer} {kinds′ ev′ dm′ ds′ de′ : List ℕ} → refusal ≡ Nothing
-        → Left source (grown source (slices kinds ends ev dm ds de)) r kinds′ ev′ dm′ ds′ de′
-        → Left source (kept (first-refused 0 (tokenize source)) source (slices kinds ends ev dm ds de)) r kinds′ ev′ dm′ ds′ de′
-    unfolding kept
+    goes-on : {o : Outcome} → refusal ≡ Nothing → o ≡ from-row-5 source (slices kinds ends ev dm ds de)
+        → o ≡ from-row-4 (first-refused 0 (tokenize source)) source (slices kinds ends ev dm ds de)
+    unfolding from-row-4
     goes-on e l = rw (sym refusal-is ∙ e) l
 
 enum-known-refusal : tie.Need-enum-known-refusal
@@ -54,11 +57,11 @@ unmark-requires c κs = search needs
 enum-told : tie.Need-enum-told
 enum-told c = search needs
 
-parse-kept-requires : tie.Need-parse-kept-requires
-parse-kept-requires c κs =
+parse-from-row-5-requires : tie.Need-parse-from-row-5-requires
+parse-from-row-5-requires c κs =
     let c₁ = c .before .before .before .before .before in
     let pre = c₁ .before .before .before .before .before .before .before .before .before .pre in
-    (pre .0, pre .1, symbols-are _ _ [] [] [] [] [] _ (pre .2) (pre .3) (c₁ .enum-told .given .1), pre .4)
+    (pre .0, pre .1, symbols-are _ _ _ [] [] [] [] _ (pre .2) (pre .3) (pre .4) (c₁ .enum-told .given .1), pre .4)
 
 same-length : tie.Need-same-length
 same-length c = search needs
@@ -67,7 +70,7 @@ returns : tie.Need-returns
 returns c =
     let c₁ = c .before .before .before .before .before in
     let pre = c₁ .before .before .before .before .before .before .before .before .before .pre in
-    refused _ _ _ _ _ _ _ _ (pre .2) (pre .3) _ (c₁ .refusal .given .1) (c .before .before .unmark .ensures)
+    refused _ _ _ _ _ _ _ _ (pre .2) (pre .3) (pre .4) _ (c₁ .refusal .given .1) (c .before .before .unmark .ensures)
 
 same-length-2 : tie.Need-same-length-2
 same-length-2 c = search needs
@@ -89,16 +92,16 @@ returns-2 c =
     let c₁ = c .before .before .before .before .before .before .before .before .before .before in
     let c₂ = c₁ .before .before .before .before .before .before in
     let pre = c₂ .before .before .before .before .before .before .before .before .before .pre in
-    goes-on _ _ _ _ _ _ _ _ (pre .2) (pre .3) (c₂ .enum-told .given .1) (c₁ .parse-kept .ensures)
+    goes-on _ _ _ _ _ _ _ _ (pre .2) (pre .3) (pre .4) (c₂ .enum-told .given .1) (c₁ .parse-from-row-5 .ensures)
 
-pub parse-tokens-spec : {M : Type 1} → statement M
-parse-tokens-spec =
+pub parse-from-row-4-spec : {M : Type 1} → statement M
+parse-from-row-4-spec =
     tie.close
     (tie.spec
     enum-known-refusal
     unmark-requires
     enum-told
-    parse-kept-requires
+    parse-from-row-5-requires
     same-length
     returns
     same-length-2

@@ -1,14 +1,14 @@
--- `cst::grow::grow` meets its contract: the grammar, the marks taken off, and the places. Assumes nothing.
+-- `cst::rows::write_reading` meets its contract: the grammar, the marks taken off, and the places. Assumes nothing.
 use native.Mathlib.Omega.{arith}
 use mathlib.Core.Path.{ap}
 use lib.ListN.{length, length-map}
 use Rattle.lexer.specs.Lexer.{tokenize}
 use Rattle.lexer.specs.Laws.{few-tokens}
 use Rattle.grammar.specs.Source.{sym}
-use Rattle.cst.specs.Laws.{last-within, grown}
+use Rattle.cst.specs.Laws.{last-within, reading-is}
 use borrow.Author.Needs.{needs}
-use Rattle.cst.proofs.grow.grow.Statement.{statement}
-use Rattle.cst.proofs.grow.grow.Tie as tie
+use Rattle.cst.proofs.rows.write_reading.Statement.{statement}
+use Rattle.cst.proofs.rows.write_reading.Tie as tie
 
 parse-requires : tie.Need-parse-requires
 parse-requires c κs =
@@ -55,10 +55,11 @@ returns c =
     let c₅ = c₄ .before .before .before .before .before .before .before .before .before .before .before .before in
     let a = c₅ .args in
     let pre = c₅ .pre in
-    grown (a .source .now) _ _ _ _ _ _ _ _ _ (pre .2) (pre .3) (c₂ .last-char .ensures) (pre .5) (c₄ .parse .ensures) (c₃ .unmark .ensures) (c₁ .places .ensures)
+    reading-is (a .source .now) _ _ _ _ _ _ _ _ _ (pre .2) (pre .3) (c₂ .last-char .ensures) (pre .4) (pre .5)
+    (c₄ .parse .ensures) (c₃ .unmark .ensures) (c₁ .places .ensures)
 
-pub grow-spec : {M : Type 1} → statement M
-grow-spec =
+pub write-reading-spec : {M : Type 1} → statement M
+write-reading-spec =
     tie.close
     (tie.spec
     parse-requires

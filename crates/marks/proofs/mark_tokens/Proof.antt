@@ -1,4 +1,4 @@
--- `marks::tokens` meets its contract: the lexer's tokens, each with its mark. Assumes nothing.
+-- `marks::mark_tokens` meets its contract: the lexer's tokens, each with its mark. Assumes nothing.
 use Prim.Native.Nat.{_-_}
 use mathlib.Core.Path.{refl, sym, _∙_}
 use native.Mathlib.Omega.{arith}
@@ -8,8 +8,8 @@ use Rattle.grammar.specs.Words.{words}
 use Rattle.lexer.proofs.Going.{ends-within}
 use Rattle.marks.specs.Filter.{may-be, passes, all-pass}
 use Rattle.marks.proofs.Going.{Going, begins, goes-on, ended}
-use Rattle.marks.proofs.tokens.Statement.{statement}
-use Rattle.marks.proofs.tokens.Tie as tie
+use Rattle.marks.proofs.mark_tokens.Statement.{statement}
+use Rattle.marks.proofs.mark_tokens.Tie as tie
 
 abbrev Inv-loop : tie.InvT-loop
 Inv-loop source kinds₀ ends₀ table first last refusal₀ at₀ n₀ kinds ends refusal at n = Going source kinds₀ ends₀ kinds ends refusal at n
@@ -36,14 +36,14 @@ mark-requires c κs =
 or-else-requires : tie.Need-or-else-requires Inv-loop μ-loop
 or-else-requires c κs = search needs
 
-cast-put : tie.Need-cast-put Inv-loop μ-loop
-cast-put c =
+cast-put-token : tie.Need-cast-put-token Inv-loop μ-loop
+cast-put-token c =
     let t = c .before .before .before .before .before .before .next in
     let g = c .before .before .before .before .before .before .before .before .before .loop .inv .going in
     omega (arith, g .size, ends-within g (c .before .before .before .before .before .before .before .before .loop-test .taken) (t .result) (t .ensures) .1)
 
-put-requires : tie.Need-put-requires Inv-loop μ-loop
-put-requires c κs = let g = c .before .before .before .before .before .before .before .before .before .loop .inv .going in g .kinds-len ∙ g .same-room ∙ sym (g .ends-len)
+put-token-requires : tie.Need-put-token-requires Inv-loop μ-loop
+put-token-requires c κs = let g = c .before .before .before .before .before .before .before .before .before .loop .inv .going in g .kinds-len ∙ g .same-room ∙ sym (g .ends-len)
 
 add-n : tie.Need-add-n Inv-loop μ-loop
 add-n c = search needs
@@ -56,7 +56,7 @@ loop-less c =
 loop-again : tie.Need-loop-again Inv-loop μ-loop
 loop-again c =
     let t = c .before .before .before .before .before .before .before .before .before .before .before .next in
-    let p = c .before .before .before .before .put in
+    let p = c .before .before .before .before .put-token in
     goes-on (c .before .before .before .before .before .before .before .before .before .before .before .before .before .before .loop .inv) (c .before .before .before .before .before .before .before .before .before .before .before .before .before .loop-test .taken) (t .result) (t .ensures) _ (c .before .before .before .before .before .before .before .before .mark .ensures) _ (c .before .before .before .before .before .before .before .or-else .ensures) _ _ (p .ensures .0) (p .ensures .1)
 
 same-length : tie.Need-same-length Inv-loop μ-loop
@@ -68,8 +68,8 @@ same-length-2 c = search needs
 returns : tie.Need-returns Inv-loop μ-loop
 returns c = ended (c .before .loop .inv) (c .loop-test .left)
 
-pub tokens-spec : {M : Type 1} → statement M
-tokens-spec =
+pub mark-tokens-spec : {M : Type 1} → statement M
+mark-tokens-spec =
     tie.close
     (tie.spec
     Inv-loop
@@ -79,8 +79,8 @@ tokens-spec =
     next-requires
     mark-requires
     or-else-requires
-    cast-put
-    put-requires
+    cast-put-token
+    put-token-requires
     add-n
     loop-less
     loop-again

@@ -1,4 +1,4 @@
-// From the tokens to events and diagnostics.
+// From the tokens to events and diagnostics: document 01's table from row 4 on.
 use answer::Answer;
 use marks::Refusal;
 use room::least;
@@ -10,13 +10,13 @@ ghost use lib.Dec.{ltb};
 ghost use lib.ListN.{length};
 ghost use Rattle.utf8.specs.WellFormed.{WellFormed};
 ghost use Rattle.lexer.specs.Lexer.{tokenize};
-ghost use Rattle.lexer.specs.Tokens.{token-ends};
+ghost use Rattle.lexer.specs.Tokens.{MAX-SOURCE, token-ends};
 ghost use Rattle.grammar.specs.Source.{symbols};
 ghost use Rattle.marks.specs.Marks.{first-refused};
 ghost use Rattle.marks.specs.Code.{mark};
 ghost use Rattle.answer.specs.declared.Answer.the-variants.{OutputRoom, Accepted};
-ghost use Rattle.answer.specs.Answer.{slices, grown, kept};
-ghost use Rattle.cst.specs.Parts.{Grown, Left};
+ghost use Rattle.answer.specs.Answer.{entry-slices, exit-slices, outcome};
+ghost use Rattle.answer.specs.Answer.{events-of, places-of, with-all, from-row-4, from-row-5};
 
 pub struct Counts {
     pub events: usize,
@@ -24,7 +24,7 @@ pub struct Counts {
 }
 
 // Whether the events and the diagnostics had room.
-fn fitted(event_room: usize, diagnostic_room: usize, t: usize, e: usize, d: usize) -> Answer
+fn answer_by_room(event_room: usize, diagnostic_room: usize, t: usize, e: usize, d: usize) -> Answer
     ensures { λ r. ⌜ r ≡ cond (ltb «event_room» e || ltb «diagnostic_room» d) OutputRoom Accepted t e d ⌝ }
 {
     if event_room < e {
@@ -37,7 +37,7 @@ fn fitted(event_room: usize, diagnostic_room: usize, t: usize, e: usize, d: usiz
 }
 
 // Events and diagnostics from marked kinds. The marks are taken off, and indices of tokens become places in bytes.
-fn grow(
+fn write_reading(
     source: &[u8],
     kinds: &mut [u16],
     ends: &[u32],
@@ -46,8 +46,13 @@ fn grow(
     starts: &mut [u32],
     stops: &mut [u32],
 ) -> Counts
-    requires { ⌜ (length (now source) ≤ 1048576) × (WellFormed (now source)) × (now kinds ≡ symbols (now source)) × (now ends ≡ token-ends (now source)) × (length (now messages) ≡ length (now starts)) × (length (now starts) ≡ length (now stops)) ⌝ }
-    ensures { λ r. ⌜ Grown (now (source .entry)) (now (events .entry)) (now (messages .entry)) (now (starts .entry)) (now (stops .entry)) r (now (kinds .exit)) (now (events .exit)) (now (messages .exit)) (now (starts .exit)) (now (stops .exit)) ⌝ }
+    requires { ⌜ (length (now source) ≤ MAX-SOURCE) × (WellFormed (now source))
+        × (now kinds ≡ symbols (now source)) × (now ends ≡ token-ends (now source))
+        × (length (now messages) ≡ length (now starts)) × (length (now starts) ≡ length (now stops)) ⌝ }
+    ensures { λ r. ⌜ (r .events ≡ length (events-of (now (source .entry))))
+        × (r .diagnostics ≡ length (places-of (now (source .entry))))
+        × (exit-slices kinds ends events messages starts stops
+        ≡ with-all (now (source .entry)) (entry-slices kinds ends events messages starts stops)) ⌝ }
 {
     let c = items::file::parse(kinds, events, messages, starts);
     let e = c.events;
@@ -61,8 +66,8 @@ fn grow(
     }
 }
 
-// The three diagnostic slices are cut to the shortest, and the answer says whether all fitted.
-fn parse_kept(
+// The three diagnostic slices are cut to the shortest, and the answer says whether all had room.
+fn parse_from_row_5(
     source: &[u8],
     kinds: &mut [u16],
     ends: &[u32],
@@ -71,12 +76,14 @@ fn parse_kept(
     starts: &mut [u32],
     stops: &mut [u32],
 ) -> Answer
-    requires { ⌜ (length (now source) ≤ 1048576) × (WellFormed (now source)) × (now kinds ≡ symbols (now source)) × (now ends ≡ token-ends (now source)) ⌝ }
-    ensures { λ r. ⌜ Left (now (source .entry)) (grown (now (source .entry)) (slices (now (kinds .entry)) (now (ends .entry)) (now (events .entry)) (now (messages .entry)) (now (starts .entry)) (now (stops .entry)))) r (now (kinds .exit)) (now (events .exit)) (now (messages .exit)) (now (starts .exit)) (now (stops .exit)) ⌝ }
+    requires { ⌜ (length (now source) ≤ MAX-SOURCE) × (WellFormed (now source))
+        × (now kinds ≡ symbols (now source)) × (now ends ≡ token-ends (now source)) ⌝ }
+    ensures { λ r. ⌜ outcome r (exit-slices kinds ends events messages starts stops)
+        ≡ from-row-5 (now (source .entry)) (entry-slices kinds ends events messages starts stops) ⌝ }
 {
     let t = kinds.len();
     let room = least(least(messages.len(), starts.len()), stops.len());
-    let counts = grow(
+    let counts = write_reading(
         source,
         kinds,
         ends,
@@ -87,11 +94,11 @@ fn parse_kept(
     );
     let e = counts.events;
     let d = counts.diagnostics;
-    fitted(events.len(), room, t, e, d)
+    answer_by_room(events.len(), room, t, e, d)
 }
 
 // From all tokens: a refused word, or the rest of the reading.
-pub fn parse_tokens(
+pub fn parse_from_row_4(
     source: &[u8],
     refusal: Refusal,
     kinds: &mut [u16],
@@ -101,14 +108,18 @@ pub fn parse_tokens(
     starts: &mut [u32],
     stops: &mut [u32],
 ) -> Answer
-    requires { ⌜ (length (now source) ≤ 1048576) × (WellFormed (now source)) × (refusal ≡ first-refused 0 (tokenize (now source))) × (now kinds ≡ map mark (tokenize (now source))) × (now ends ≡ token-ends (now source)) ⌝ }
-    ensures { λ r. ⌜ Left (now (source .entry)) (kept (first-refused 0 (tokenize (now (source .entry)))) (now (source .entry)) (slices (now (kinds .entry)) (now (ends .entry)) (now (events .entry)) (now (messages .entry)) (now (starts .entry)) (now (stops .entry)))) r (now (kinds .exit)) (now (events .exit)) (now (messages .exit)) (now (starts .exit)) (now (stops .exit)) ⌝ }
+    requires { ⌜ (length (now source) ≤ MAX-SOURCE) × (WellFormed (now source))
+        × (refusal ≡ first-refused 0 (tokenize (now source)))
+        × (now kinds ≡ map mark (tokenize (now source))) × (now ends ≡ token-ends (now source)) ⌝ }
+    ensures { λ r. ⌜ outcome r (exit-slices kinds ends events messages starts stops)
+        ≡ from-row-4 (first-refused 0 (tokenize (now (source .entry)))) (now (source .entry))
+        (entry-slices kinds ends events messages starts stops) ⌝ }
 {
     match refusal {
         Refusal::At(n) => {
             marks::unmark(kinds);
             Answer::Refused(n)
         }
-        Refusal::Nothing => parse_kept(source, kinds, ends, events, messages, starts, stops),
+        Refusal::Nothing => parse_from_row_5(source, kinds, ends, events, messages, starts, stops),
     }
 }

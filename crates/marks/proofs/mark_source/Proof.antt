@@ -1,0 +1,58 @@
+-- `marks::mark_source` meets its contract: the parts that are lent have the room of the shorter slice. Assumes nothing.
+use mathlib.Core.Path.{sym, _∙_}
+use native.Mathlib.Omega.{arith}
+use lib.Seq.{length-take-le}
+use Rattle.lexer.proofs.Going.{lent}
+use borrow.Author.Needs.{needs}
+use Rattle.marks.proofs.mark_source.Statement.{statement}
+use Rattle.marks.proofs.mark_source.Tie as tie
+
+least-requires : tie.Need-least-requires
+least-requires c κs = search needs
+
+slice-relend-prefix-mark-tokens : tie.Need-slice-relend-prefix-mark-tokens
+slice-relend-prefix-mark-tokens c = search needs
+
+slice-aggregate-mark-tokens : tie.Need-slice-aggregate-mark-tokens
+slice-aggregate-mark-tokens c = sym (length-take-le _ _ (omega arith))
+
+slice-relend-prefix-mark-tokens-2 : tie.Need-slice-relend-prefix-mark-tokens-2
+slice-relend-prefix-mark-tokens-2 c = search needs
+
+slice-aggregate-mark-tokens-2 : tie.Need-slice-aggregate-mark-tokens-2
+slice-aggregate-mark-tokens-2 c = sym (length-take-le _ _ (omega arith))
+
+mark-tokens-requires : tie.Need-mark-tokens-requires
+mark-tokens-requires c κs =
+    let a = c .before .before .before .before .before .before .args in
+    let room = c .before .before .least .result in
+    (search needs, length-take-le room (a .kinds .now) (omega arith) ∙ sym (length-take-le room (a .ends .now) (omega arith)))
+
+same-length : tie.Need-same-length
+same-length c = search needs
+
+same-length-2 : tie.Need-same-length-2
+same-length-2 c = search needs
+
+returns : tie.Need-returns
+returns c =
+    let a = c .before .before .before .before .before .before .before .before .before .before .before .args in
+    let k = c .before .before .before .before .mark-tokens .ensures in
+    record {
+      fit = lent (a .kinds .now) (a .ends .now) (c .before .before .before .before .before .before .before .least .ensures) (k .over);
+      refusal-is = k .refusal-is;
+    }
+
+pub mark-source-spec : {M : Type 1} → statement M
+mark-source-spec =
+    tie.close
+    (tie.spec
+    least-requires
+    slice-relend-prefix-mark-tokens
+    slice-aggregate-mark-tokens
+    slice-relend-prefix-mark-tokens-2
+    slice-aggregate-mark-tokens-2
+    mark-tokens-requires
+    same-length
+    same-length-2
+    returns)
