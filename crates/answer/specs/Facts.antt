@@ -61,10 +61,10 @@ leaves-of source =
 diagnostics-few : (source : List ℕ) → length (places-of source) ≤ 2 * length (tokenize source)
 diagnostics-few source =
     let p : length (places-of source) ≡ length (diags limit (symbols source)) = length-map (diags limit (symbols source)) _ in
-    omega (arith, few-diagnostics limit (symbols source), length-map (tokenize source) Source.sym)
+    omega (arith, few-diagnostics limit (symbols source), length-map (tokenize source) Source.token-symbol)
 
 events-few : (source : List ℕ) → length (events-of source) ≤ 7 * length (tokenize source) + 2
-events-few source = omega (arith, few-events limit (symbols source), length-map (tokenize source) Source.sym)
+events-few source = omega (arith, few-events limit (symbols source), length-map (tokenize source) Source.token-symbol)
 
 of-reading : (source : List ℕ) (counts : List ℕ) → token-count counts ≡ length (tokenize source)
     → event-count counts ≡ length (events-of source) → diagnostic-count counts ≡ length (places-of source)

@@ -62,7 +62,7 @@ module _ (a b : List ℕ) (j : CallsJoin a (reading-slices a) (reading-slices b)
     places-are =
         ap₂ (λ (es : List ℕ) (ss : List ℕ). places es (last-char (a ++ b)) (diags limit ss)) (join-ends a b (j .newline) (j .line-feed)) symbols-are
         ∙ joined-bytes limit (length a) (token-ends a) (token-ends b) (last-char b) (last-char (a ++ b)) (last-end a)
-        (symbols a) (symbols b) premise (last-char a) (length-ends 0 (tokenize a) ∙ sym (length-map (tokenize a) Source.sym)) anchor
+        (symbols a) (symbols b) premise (last-char a) (length-ends 0 (tokenize a) ∙ sym (length-map (tokenize a) Source.token-symbol)) anchor
 
     pub places-add : length (places-of (a ++ b)) ≡ length (places-of a) + length (places-of b)
     places-add =

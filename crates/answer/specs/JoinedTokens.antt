@@ -34,7 +34,7 @@ pub cut-source : (s : List ℕ) → cut 0 (token-kinds s) (token-ends s) s ≡ t
 cut-source s = ap (cut 0 (token-kinds s) (token-ends s)) (sym (lossless s)) ∙ cut-tokens 0 (tokenize s)
 
 -- the last token is a newline as the grammar reads it
-newline-sym : (t : Token) → t .kind ≡ Newline → Source.sym t ≡ Newline
+newline-sym : (t : Token) → t .kind ≡ Newline → Source.token-symbol t ≡ Newline
 unfolding symOf
 newline-sym t e = ap (λ (k : ℕ). symOf k (t .text)) e
 
@@ -66,7 +66,7 @@ text-of n k (w ∷ ws) t p e = by-test k (same w t) refl e (λ k. text-of (suc n
     by-test (suc k) false h e ih = ih k (omega arith)
 
 -- `end` as the grammar reads it is an Ident `end`
-end-token : (t : Token) → t .kind < 60 → Source.sym t ≡ END → is-end t ≡ true
+end-token : (t : Token) → t .kind < 60 → Source.token-symbol t ≡ END → is-end t ≡ true
 unfolding symOf wordOf words
 end-token t low e = by-test (eqb Ident (t .kind)) refl e
   where
@@ -91,7 +91,7 @@ word-before-last (t ∷ u ∷ []) low h = end-token t (low .0) (tail-two h)
 word-before-last (t ∷ u ∷ v ∷ ts) low h = word-before-last (u ∷ v ∷ ts) (low .1) (tail-more h)
 
 -- a kind that is no Ident's is met in the symbols where it is met in the kinds
-plain : (k : ℕ) (t : Token) → k < 256 → eqb k Ident ≡ false → is k (Source.sym t) ≡ is k (t .kind)
+plain : (k : ℕ) (t : Token) → k < 256 → eqb k Ident ≡ false → is k (Source.token-symbol t) ≡ is k (t .kind)
 unfolding symOf
 plain k t h n = by-test (eqb Ident (t .kind)) refl
   where
@@ -101,7 +101,7 @@ plain k t h n = by-test (eqb Ident (t .kind)) refl
         ∙ sym (ne-eqb k (t .kind) (λ q. eqb-false k Ident n (q ∙ sym (eqb-true Ident (t .kind) e))))
     by-test false e = refl
 
-trivia : (t : Token) → is-trivia (Source.sym t) ≡ is-trivia (t .kind)
+trivia : (t : Token) → is-trivia (Source.token-symbol t) ≡ is-trivia (t .kind)
 unfolding oneOf
 trivia t =
     ap₂ _||_ (plain 27 t (omega arith) refl)
@@ -112,11 +112,11 @@ trivia t =
 pub same-start : (ts : List Token) → at (is RParen) (next-relevant-block-token (syms ts)) ≡ at (is RParen) (next-relevant-block-token (map kindOf ts))
 unfolding at skip
 same-start [] = refl
-same-start (t ∷ ts) = by-test (is-trivia (Source.sym t)) (is-trivia (t .kind)) (trivia t) (same-start ts)
+same-start (t ∷ ts) = by-test (is-trivia (Source.token-symbol t)) (is-trivia (t .kind)) (trivia t) (same-start ts)
   where
     by-test : (u v : Bool) → u ≡ v
         → at (is RParen) (next-relevant-block-token (syms ts)) ≡ at (is RParen) (next-relevant-block-token (map kindOf ts))
-        → at (is RParen) (elim u [ true ↦ next-relevant-block-token (syms ts) | false ↦ Source.sym t ∷ syms ts ])
+        → at (is RParen) (elim u [ true ↦ next-relevant-block-token (syms ts) | false ↦ Source.token-symbol t ∷ syms ts ])
         ≡ at (is RParen) (elim v [ true ↦ next-relevant-block-token (map kindOf ts) | false ↦ t .kind ∷ map kindOf ts ])
     by-test true true e ih = ih
     by-test true false e ih = absurd (false≢true (sym e))

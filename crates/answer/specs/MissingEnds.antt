@@ -78,7 +78,7 @@ module _ (es : List ℕ) (anchor : ℕ) where
 
 of-source : (source : List ℕ) → MissingEnds source (reading-slices source)
 of-source source =
-    let n : length (symbols source) ≡ length (token-ends source) = length-map (tokenize source) Source.sym ∙ sym (length-ends 0 (tokenize source)) in
+    let n : length (symbols source) ≡ length (token-ends source) = length-map (tokenize source) Source.token-symbol ∙ sym (length-ends 0 (tokenize source)) in
     rw (of-places (places-of source), endings-places (token-ends source) (last-char source) (diags limit (symbols source)))
     (call-end (token-ends source) (last-char source) n (one-missing-end limit (symbols source)))
 

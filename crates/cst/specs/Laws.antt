@@ -101,7 +101,7 @@ module _
     room = min (min (length (b .dm)) (length (b .ds))) (length de)
 
     kinds-fit : length F ≡ length (tokenize s)
-    kinds-fit = ap length symbols-are ∙ length-map (tokenize s) Source.sym
+    kinds-fit = ap length symbols-are ∙ length-map (tokenize s) Source.token-symbol
 
     all : slices kinds′ ends (w .ev) (w .dm) ds′ de′ ≡ with-all s (slices F ends (b .ev) (b .dm) (b .ds) de)
     all =

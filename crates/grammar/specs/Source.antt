@@ -8,11 +8,11 @@ use Rattle.lexer.specs.Tokens.{token-kinds, token-ends}
 use Rattle.grammar.specs.Words.{Sym, symOf}
 use Rattle.grammar.specs.Out.{events, diags, Place, places}
 
-abbrev pub sym : Token → Sym
-sym t = symOf (t .kind) (t .text)
+abbrev pub token-symbol : Token → Sym
+token-symbol t = symOf (t .kind) (t .text)
 
 abbrev pub syms : List Token → List Sym
-syms ts = map sym ts
+syms ts = map token-symbol ts
 
 abbrev pub symbols : List ℕ → List Sym
 symbols s = syms (tokenize s)

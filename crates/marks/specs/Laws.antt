@@ -36,7 +36,7 @@ kind-again k w h = by-test (eqb Ident k) refl
     by-test true e = kind-of-key w ∙ eqb-true Ident k e
     by-test false e = rw (lt-ltb k 256 (omega arith))
 
-kind-of-sym : (t : Token) → t .kind < 60 → kindOf (Source.sym t) ≡ t .kind
+kind-of-sym : (t : Token) → t .kind < 60 → kindOf (Source.token-symbol t) ≡ t .kind
 unfolding symOf
 kind-of-sym t h = kind-again (t .kind) (wordOf (t .text)) h
 
@@ -59,7 +59,7 @@ plain-again f e [] h = refl
 plain-again f e (t ∷ ts) h = rw (e t (h .0), plain-again f e ts (h .1))
 
 pub source-unmarked : (s : List ℕ) → map kindOf (syms (tokenize s)) ≡ token-kinds s
-source-unmarked s = plain-again Source.sym kind-of-sym (tokenize s) (low-kinds s)
+source-unmarked s = plain-again Source.token-symbol kind-of-sym (tokenize s) (low-kinds s)
 
 pub marks-unmarked : (s : List ℕ) → map kindOf (map mark (tokenize s)) ≡ token-kinds s
 marks-unmarked s = plain-again mark kind-of-mark (tokenize s) (low-kinds s)

@@ -9,7 +9,7 @@ use lib.ListN.{length, take, drop, length-map}
 use lib.Seq.{length-take-le}
 use Rattle.lexer.specs.Lexer.{tokenize}
 use Rattle.room.specs.Over.{over, length-over, over-fit}
-use Rattle.grammar.specs.Source.{sym as symOf, symbols}
+use Rattle.grammar.specs.Source.{token-symbol as symOf, symbols}
 use Rattle.cst.specs.declared.rows.Counts.{Counts}
 use Rattle.answer.specs.declared.Answer.{Answer}
 use Rattle.answer.specs.declared.Answer.the-variants.{OutputRoom, Accepted}

@@ -4,7 +4,7 @@ use mathlib.Core.Path.{ap}
 use lib.ListN.{length, length-map}
 use Rattle.lexer.specs.Lexer.{tokenize}
 use Rattle.lexer.specs.Laws.{few-tokens}
-use Rattle.grammar.specs.Source.{sym}
+use Rattle.grammar.specs.Source.{token-symbol}
 use Rattle.cst.specs.Laws.{last-within, reading-is}
 use borrow.Author.Needs.{needs}
 use Rattle.cst.proofs.rows.write_reading.Statement.{statement}
@@ -16,7 +16,7 @@ parse-requires c κs =
     let a = c₁ .args in
     let pre = c₁ .pre in
     let source = a .source .now in
-    omega (arith, pre .0, ap length (pre .2), length-map (tokenize source) sym, few-tokens source)
+    omega (arith, pre .0, ap length (pre .2), length-map (tokenize source) token-symbol, few-tokens source)
 
 unmark-requires : tie.Need-unmark-requires
 unmark-requires c κs = search needs

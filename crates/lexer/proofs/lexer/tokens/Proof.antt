@@ -16,11 +16,24 @@ Inv-loop source kinds₀ ends₀ table at₀ n₀ kinds ends at n = Going kindOf
 abbrev μ-loop : tie.MeasureT-loop
 μ-loop source kinds₀ ends₀ table at₀ n₀ kinds ends at n = length source - at
 
+-- places
+abbrev after-put-token : tie.After-slice-known4 Inv-loop μ-loop → tie.After-put-token Inv-loop μ-loop
+after-put-token c = c .before .before .before .before
+
+abbrev after-next : tie.After-put-token Inv-loop μ-loop → tie.After-next Inv-loop μ-loop
+after-next c = c .before .before .before .before
+
+abbrev after-next-from-struct-known : tie.After-struct-known Inv-loop μ-loop → tie.After-next Inv-loop μ-loop
+after-next-from-struct-known c = c .before .before .before
+
+abbrev start : tie.After-classes Inv-loop μ-loop → tie.Start Inv-loop μ-loop
+start c = c .before .before .before .before
+
 classes-requires : tie.Need-classes-requires Inv-loop μ-loop
 classes-requires c κs = search needs
 
 loop-holds : tie.Need-loop-holds Inv-loop μ-loop
-loop-holds c = begins _ _ _ (c .before .before .before .before .pre .0) (c .before .before .before .before .pre .1)
+loop-holds c = begins _ _ _ (start c .pre .0) (start c .pre .1)
 
 next-requires : tie.Need-next-requires Inv-loop μ-loop
 next-requires c κs = search needs
@@ -30,27 +43,27 @@ cast-put-token c = search needs
 
 cast-put-token-2 : tie.Need-cast-put-token-2 Inv-loop μ-loop
 cast-put-token-2 c =
-    let t = c .before .before .before .next in
-    let g = c .before .before .before .before .before .before .loop .inv in
-    omega (arith, g .size, ends-within g (c .before .before .before .before .before .loop-test .taken) (t .result) (t .ensures) .1)
+    let t = after-next-from-struct-known c .next in
+    let g = after-next-from-struct-known c .before .before .before .loop .inv in
+    omega (arith, g .size, ends-within g (after-next-from-struct-known c .before .before .loop-test .taken) (t .result) (t .ensures) .1)
 
 put-token-requires : tie.Need-put-token-requires Inv-loop μ-loop
-put-token-requires c κs = let g = c .before .before .before .before .before .before .loop .inv in g .kinds-len ∙ g .same-room ∙ sym (g .ends-len)
+put-token-requires c κs = let g = after-next-from-struct-known c .before .before .before .loop .inv in g .kinds-len ∙ g .same-room ∙ sym (g .ends-len)
 
 add-n : tie.Need-add-n Inv-loop μ-loop
 add-n c = search needs
 
 loop-less : tie.Need-loop-less Inv-loop μ-loop
 loop-less c =
-    let t = c .before .before .before .before .before .before .before .before .next in
-    let g = c .before .before .before .before .before .before .before .before .before .before .before .loop .inv in
-    omega (arith, ends-within g (c .before .before .before .before .before .before .before .before .before .before .loop-test .taken) (t .result) (t .ensures))
+    let t = after-next (after-put-token c) .next in
+    let g = after-next (after-put-token c) .before .before .before .loop .inv in
+    omega (arith, ends-within g (after-next (after-put-token c) .before .before .loop-test .taken) (t .result) (t .ensures))
 
 loop-again : tie.Need-loop-again Inv-loop μ-loop
 loop-again c =
-    let t = c .before .before .before .before .before .before .before .before .next in
-    let p = c .before .before .before .before .put-token in
-    goes-on (c .before .before .before .before .before .before .before .before .before .before .before .loop .inv) (c .before .before .before .before .before .before .before .before .before .before .loop-test .taken) (t .result) (t .ensures) _ (ap (λ (x : Placed). x .kind) (t .ensures)) _ _ (p .ensures .0) (p .ensures .1)
+    let t = after-next (after-put-token c) .next in
+    let p = after-put-token c .put-token in
+    goes-on (after-next (after-put-token c) .before .before .before .loop .inv) (after-next (after-put-token c) .before .before .loop-test .taken) (t .result) (t .ensures) _ (ap (λ (x : Placed). x .kind) (t .ensures)) _ _ (p .ensures .0) (p .ensures .1)
 
 same-length : tie.Need-same-length Inv-loop μ-loop
 same-length c = search needs
