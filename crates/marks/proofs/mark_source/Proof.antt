@@ -7,6 +7,16 @@ use borrow.Author.Needs.{needs}
 use Rattle.marks.proofs.mark_source.Statement.{statement}
 use Rattle.marks.proofs.mark_source.Tie as tie
 
+-- places
+abbrev after-mark-tokens : tie.After-slice-known4 → tie.After-mark-tokens
+after-mark-tokens c = c .before .before .before .before
+
+abbrev after-least : tie.After-mark-tokens → tie.After-least
+after-least c = c .before .before .before
+
+abbrev start : tie.After-least → tie.Start
+start c = c .before .before .before .before
+
 least-requires : tie.Need-least-requires
 least-requires c κs = search needs
 
@@ -24,7 +34,7 @@ slice-aggregate-mark-tokens-2 c = sym (length-take-le _ _ (omega arith))
 
 mark-tokens-requires : tie.Need-mark-tokens-requires
 mark-tokens-requires c κs =
-    let a = c .before .before .before .before .before .before .args in
+    let a = start (c .before .before) .args in
     let room = c .before .before .least .result in
     (search needs, length-take-le room (a .kinds .now) (omega arith) ∙ sym (length-take-le room (a .ends .now) (omega arith)))
 
@@ -36,10 +46,10 @@ same-length-2 c = search needs
 
 returns : tie.Need-returns
 returns c =
-    let a = c .before .before .before .before .before .before .before .before .before .before .before .args in
-    let k = c .before .before .before .before .mark-tokens .ensures in
+    let a = start (after-least (after-mark-tokens c)) .args in
+    let k = after-mark-tokens c .mark-tokens .ensures in
     record {
-      fit = lent (a .kinds .now) (a .ends .now) (c .before .before .before .before .before .before .before .least .ensures) (k .over);
+      fit = lent (a .kinds .now) (a .ends .now) (after-least (after-mark-tokens c) .least .ensures) (k .over);
       refusal-is = k .refusal-is;
     }
 

@@ -17,11 +17,24 @@ Inv-loop source kinds₀ ends₀ table first last refusal₀ at₀ n₀ kinds en
 abbrev μ-loop : tie.MeasureT-loop
 μ-loop source kinds₀ ends₀ table first last refusal₀ at₀ n₀ kinds ends refusal at n = length source - at
 
+-- places
+abbrev after-put-token : tie.After-slice-known4 Inv-loop μ-loop → tie.After-put-token Inv-loop μ-loop
+after-put-token c = c .before .before .before .before
+
+abbrev after-or-else : tie.After-put-token Inv-loop μ-loop → tie.After-or-else Inv-loop μ-loop
+after-or-else c = c .before .before .before
+
+abbrev after-next : tie.After-mark Inv-loop μ-loop → tie.After-next Inv-loop μ-loop
+after-next c = c .before .before .before
+
+abbrev start : tie.After-classes Inv-loop μ-loop → tie.Start Inv-loop μ-loop
+start c = c .before .before .before .before
+
 classes-requires : tie.Need-classes-requires Inv-loop μ-loop
 classes-requires c κs = search needs
 
 loop-holds : tie.Need-loop-holds Inv-loop μ-loop
-loop-holds c = begins _ _ _ (c .before .before .before .before .pre .0) (c .before .before .before .before .pre .1)
+loop-holds c = begins _ _ _ (start c .pre .0) (start c .pre .1)
 
 next-requires : tie.Need-next-requires Inv-loop μ-loop
 next-requires c κs = search needs
@@ -38,26 +51,26 @@ or-else-requires c κs = search needs
 
 cast-put-token : tie.Need-cast-put-token Inv-loop μ-loop
 cast-put-token c =
-    let t = c .before .before .before .before .before .before .next in
-    let g = c .before .before .before .before .before .before .before .before .before .loop .inv .going in
-    omega (arith, g .size, ends-within g (c .before .before .before .before .before .before .before .before .loop-test .taken) (t .result) (t .ensures) .1)
+    let t = after-next (c .before .before .before) .next in
+    let g = after-next (c .before .before .before) .before .before .before .loop .inv .going in
+    omega (arith, g .size, ends-within g (after-next (c .before .before .before) .before .before .loop-test .taken) (t .result) (t .ensures) .1)
 
 put-token-requires : tie.Need-put-token-requires Inv-loop μ-loop
-put-token-requires c κs = let g = c .before .before .before .before .before .before .before .before .before .loop .inv .going in g .kinds-len ∙ g .same-room ∙ sym (g .ends-len)
+put-token-requires c κs = let g = after-next (c .before .before .before) .before .before .before .loop .inv .going in g .kinds-len ∙ g .same-room ∙ sym (g .ends-len)
 
 add-n : tie.Need-add-n Inv-loop μ-loop
 add-n c = search needs
 
 loop-less : tie.Need-loop-less Inv-loop μ-loop
 loop-less c =
-    let t = c .before .before .before .before .before .before .before .before .before .before .before .next in
-    omega (arith, ends-within (c .before .before .before .before .before .before .before .before .before .before .before .before .before .before .loop .inv .going) (c .before .before .before .before .before .before .before .before .before .before .before .before .before .loop-test .taken) (t .result) (t .ensures))
+    let t = after-next (after-or-else (after-put-token c) .before) .next in
+    omega (arith, ends-within (after-next (after-or-else (after-put-token c) .before) .before .before .before .loop .inv .going) (after-next (after-or-else (after-put-token c) .before) .before .before .loop-test .taken) (t .result) (t .ensures))
 
 loop-again : tie.Need-loop-again Inv-loop μ-loop
 loop-again c =
-    let t = c .before .before .before .before .before .before .before .before .before .before .before .next in
-    let p = c .before .before .before .before .put-token in
-    goes-on (c .before .before .before .before .before .before .before .before .before .before .before .before .before .before .loop .inv) (c .before .before .before .before .before .before .before .before .before .before .before .before .before .loop-test .taken) (t .result) (t .ensures) _ (c .before .before .before .before .before .before .before .before .mark .ensures) _ (c .before .before .before .before .before .before .before .or-else .ensures) _ _ (p .ensures .0) (p .ensures .1)
+    let t = after-next (after-or-else (after-put-token c) .before) .next in
+    let p = after-put-token c .put-token in
+    goes-on (after-next (after-or-else (after-put-token c) .before) .before .before .before .loop .inv) (after-next (after-or-else (after-put-token c) .before) .before .before .loop-test .taken) (t .result) (t .ensures) _ (after-or-else (after-put-token c) .before .mark .ensures) _ (after-or-else (after-put-token c) .or-else .ensures) _ _ (p .ensures .0) (p .ensures .1)
 
 same-length : tie.Need-same-length Inv-loop μ-loop
 same-length c = search needs
