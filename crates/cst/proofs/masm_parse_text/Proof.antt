@@ -38,6 +38,13 @@ module _ (source : List ℕ) (s : Slices) (counts : List ℕ) where
         counts-are = three counts (n .first) (n .second) (n .third) h ∙ rw (k, sym o, e) refl;
       }
 
+-- places
+abbrev after-parse-text : tie.After-numbers → tie.After-parse-text
+after-parse-text c = c .before .before .before .before .before .before .before .before .before .before .before .before .before
+
+abbrev else1 : tie.After-parse-text → tie.Else1
+else1 c = c .before .before .before .before .before .before .before
+
 returns : tie.Need-returns
 returns c = too-short _ _ _ (c .if1 .taken)
 
@@ -52,7 +59,7 @@ slice-write-counts c = search needs
 
 slice-write-counts-2 : tie.Need-slice-write-counts-2
 slice-write-counts-2 c =
-    let c₁ = c .before .before .before .before .before .before .before .before .before .before .before .before .before .before .before .before .before .before .before .before in
+    let c₁ = else1 (after-parse-text c) in
     simp length-set (omega (arith, c₁ .if1 .left))
 
 slice-write-counts-3 : tie.Need-slice-write-counts-3
@@ -81,8 +88,8 @@ same-length-7 c = search needs
 
 returns-2 : tie.Need-returns-2
 returns-2 c =
-    let c₁ = c .before .before .before .before .before .before .before .before .before .before .before .before .before in
-    let c₂ = c₁ .before .before .before .before .before .before .before in
+    let c₁ = after-parse-text c in
+    let c₂ = else1 c₁ in
     replies _ _ _ _ _ _ (c₂ .if1 .left) (c₁ .parse-text .ensures) (c .numbers .ensures)
 
 pub masm-parse-text-spec : {M : Type 1} → statement M

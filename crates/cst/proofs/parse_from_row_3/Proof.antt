@@ -99,6 +99,25 @@ module _ (source kinds ends ev dm ds de : List ℕ) (t : ℕ) (kinds₁ ends₁ 
     unfolding from-row-3
     enough l = by-refusal (first-refused 0 (tokenize source)) l ∙ rw (sym (lex .count-is), le-ltb r t h) refl
 
+-- places
+abbrev after-parse-from-row-4 : tie.After-slice-known14 → tie.After-parse-from-row-4
+after-parse-from-row-4 c = c .before .before .before .before .before .before .before .before .before .before
+
+abbrev else1 : tie.After-parse-from-row-4 → tie.Else1
+else1 c = c .before .before .before .before .before .before .before
+
+abbrev else1-from-parse-from-row-4-arg6 : tie.After-parse-from-row-4-arg6 → tie.Else1
+else1-from-parse-from-row-4-arg6 c = c .before .before .before .before .before .before
+
+abbrev then1 : tie.After-slice-known9 → tie.Then1
+then1 c = c .before .before .before .before
+
+abbrev after-mark-source : tie.After-least → tie.After-mark-source
+after-mark-source c = c .before .before .before .before .before
+
+abbrev start : tie.After-mark-source → tie.Start
+start c = c .before .before .before .before .before .before .before .before .before .before
+
 mark-source-requires : tie.Need-mark-source-requires
 mark-source-requires c κs = search needs
 
@@ -122,10 +141,10 @@ same-length-2 c = search needs
 
 returns : tie.Need-returns
 returns c =
-    let c₁ = c .before .before .before .before .before in
-    let c₂ = c₁ .before .before .before .before .before in
-    let a = c₂ .before .before .before .before .before .before .before .before .before .before .args in
-    too-many (a .source .now) (a .kinds .now) (a .ends .now) (a .events .now) (a .messages .now) (a .starts .now) (a .stops .now) _ _ _ (c₂ .mark-source .ensures .fit) (c₁ .least .result) (omega (arith, c₁ .least .ensures, c₂ .mark-source .kept)) (c .before .before .before .before .if1 .taken) (c .before .before .unmark .ensures)
+    let c₁ = then1 c .before in
+    let c₂ = after-mark-source c₁ in
+    let a = start c₂ .args in
+    too-many (a .source .now) (a .kinds .now) (a .ends .now) (a .events .now) (a .messages .now) (a .starts .now) (a .stops .now) _ _ _ (c₂ .mark-source .ensures .fit) (c₁ .least .result) (omega (arith, c₁ .least .ensures, c₂ .mark-source .kept)) (then1 c .if1 .taken) (c .before .before .unmark .ensures)
 
 slice-relend-prefix-parse-from-row-4 : tie.Need-slice-relend-prefix-parse-from-row-4
 slice-relend-prefix-parse-from-row-4 c = search needs
@@ -141,10 +160,10 @@ slice-aggregate-parse-from-row-4-2 c = sym (length-take-le _ _ (omega (arith, c 
 
 parse-from-row-4-requires : tie.Need-parse-from-row-4-requires
 parse-from-row-4-requires c κs =
-    let c₁ = c .before .before .before .before .before .before in
+    let c₁ = else1-from-parse-from-row-4-arg6 c in
     let c₂ = c₁ .before in
-    let c₃ = c₂ .before .before .before .before .before in
-    let c₄ = c₃ .before .before .before .before .before .before .before .before .before .before in
+    let c₃ = after-mark-source c₂ in
+    let c₄ = start c₃ in
     let a = c₄ .args in
     let pre = c₄ .pre in
     let k = c₃ .mark-source .ensures in
@@ -171,11 +190,11 @@ same-length-8 c = search needs
 
 returns-2 : tie.Need-returns-2
 returns-2 c =
-    let c₁ = c .before .before .before .before .before .before .before .before .before .before in
-    let c₂ = c₁ .before .before .before .before .before .before .before in
+    let c₁ = after-parse-from-row-4 c in
+    let c₂ = else1 c₁ in
     let c₃ = c₂ .before in
-    let c₄ = c₃ .before .before .before .before .before in
-    let a = c₄ .before .before .before .before .before .before .before .before .before .before .args in
+    let c₄ = after-mark-source c₃ in
+    let a = start c₄ .args in
     enough (a .source .now) (a .kinds .now) (a .ends .now) (a .events .now) (a .messages .now) (a .starts .now) (a .stops .now) _ _ _ (c₄ .mark-source .ensures .fit) (omega (arith, c₂ .if1 .left, c₃ .least .ensures, c₄ .mark-source .kept)) (c₁ .parse-from-row-4 .ensures)
 
 pub parse-from-row-3-spec : {M : Type 1} → statement M

@@ -28,6 +28,19 @@ module _ (source : List ℕ) (s : Slices) where
     unfolding parse-text from-row-2
     goes-on v e = e ∙ rw (le-ltb MAX-SOURCE (length source) h, v) refl
 
+-- places
+abbrev after-parse-from-row-3 : tie.After-slice-known12 → tie.After-parse-from-row-3
+after-parse-from-row-3 c = c .before .before .before .before .before .before .before .before .before .before .before .before
+
+abbrev after-enum-told : tie.After-parse-from-row-3 → tie.After-enum-told
+after-enum-told c = c .before .before .before .before .before .before .before
+
+abbrev after-enum-told-from-parse-from-row-3-arg6 : tie.After-parse-from-row-3-arg6 → tie.After-enum-told
+after-enum-told-from-parse-from-row-3-arg6 c = c .before .before .before .before .before .before
+
+abbrev after-validate : tie.After-known-told → tie.After-validate
+after-validate c = c .before .before .before
+
 returns : tie.Need-returns
 returns c = too-long _ _ (c .if1 .taken)
 
@@ -42,14 +55,14 @@ enum-told c = search needs
 
 parse-from-row-3-requires : tie.Need-parse-from-row-3-requires
 parse-from-row-3-requires c κs =
-    let c₁ = c .before .before .before .before .before .before in
+    let c₁ = after-enum-told-from-parse-from-row-3-arg6 c in
     let c₂ = c₁ .before .before in
     let c₃ = c₂ .before in
     (c₃ .if1 .left, accepted _ (sym (c₂ .validate .ensures) ∙ c₁ .enum-told .given .1))
 
 returns-2 : tie.Need-returns-2
 returns-2 c =
-    let c₁ = c .before .before .before in
+    let c₁ = after-validate c in
     let c₂ = c₁ .before in
     not-utf8 _ _ (c₂ .if1 .left) _ (sym (c₁ .validate .ensures) ∙ c .before .found .given .1)
 
@@ -73,8 +86,8 @@ same-length-6 c = search needs
 
 returns-3 : tie.Need-returns-3
 returns-3 c =
-    let c₁ = c .before .before .before .before .before .before .before .before .before .before .before .before in
-    let c₂ = c₁ .before .before .before .before .before .before .before in
+    let c₁ = after-parse-from-row-3 c in
+    let c₂ = after-enum-told c₁ in
     let c₃ = c₂ .before .before in
     let c₄ = c₃ .before in
     goes-on _ _ (c₄ .if1 .left) (sym (c₃ .validate .ensures) ∙ c₂ .enum-told .given .1) (c₁ .parse-from-row-3 .ensures)

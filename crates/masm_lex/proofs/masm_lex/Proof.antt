@@ -31,6 +31,16 @@ module _ (s kinds ends : List ℕ) where
         let e = le-ltb MAX-SOURCE (length s) h in
         record { returned = rw (e, v) (t .count-is); kinds-are = rw (e, v) (t .kinds-are); ends-are = rw (e, v) (t .ends-are) }
 
+-- places
+abbrev after-tokenize : tie.After-slice-known4 → tie.After-tokenize
+after-tokenize c = c .before .before .before .before
+
+abbrev after-enum-told : tie.After-tokenize → tie.After-enum-told
+after-enum-told c = c .before .before .before
+
+abbrev after-validate : tie.After-known-told → tie.After-validate
+after-validate c = c .before .before .before
+
 returns : tie.Need-returns
 returns c = too-long _ _ _ (c .if1 .taken)
 
@@ -48,8 +58,8 @@ enum-known-found c = search needs
 
 add-result : tie.Need-add-result
 add-result c =
-    let n = longest _ _ (sym (c .before .before .before .validate .ensures) ∙ c .before .found .given .1) in
-    omega (arith, n .within, c .before .before .before .before .if1 .left)
+    let n = longest _ _ (sym (after-validate c .validate .ensures) ∙ c .before .found .given .1) in
+    omega (arith, n .within, after-validate c .before .if1 .left)
 
 same-length : tie.Need-same-length
 same-length c = search needs
@@ -58,10 +68,10 @@ same-length-2 : tie.Need-same-length-2
 same-length-2 c = search needs
 
 returns-2 : tie.Need-returns-2
-returns-2 c = lexed _ _ _ (c .before .before .before .before .before .before .before .before .before .before .if1 .left) (sym (c .before .before .before .before .before .before .before .before .before .validate .ensures) ∙ c .before .before .before .before .before .before .before .enum-told .given .1) (c .before .before .before .before .tokenize .ensures)
+returns-2 c = lexed _ _ _ (after-enum-told (after-tokenize c) .before .before .before .if1 .left) (sym (after-enum-told (after-tokenize c) .before .before .validate .ensures) ∙ after-enum-told (after-tokenize c) .enum-told .given .1) (after-tokenize c .tokenize .ensures)
 
 returns-3 : tie.Need-returns-3
-returns-3 c = not-utf8 _ _ _ (c .before .before .before .before .if1 .left) _ (sym (c .before .before .before .validate .ensures) ∙ c .before .found .given .1)
+returns-3 c = not-utf8 _ _ _ (after-validate c .before .if1 .left) _ (sym (after-validate c .validate .ensures) ∙ c .before .found .given .1)
 
 pub masm-lex-spec : {M : Type 1} → statement M
 masm-lex-spec =

@@ -48,6 +48,25 @@ module _
     unfolding from-row-4
     goes-on e l = rw (sym refusal-is ∙ e) l
 
+-- places
+abbrev after-parse-from-row-5 : tie.After-slice-known11 → tie.After-parse-from-row-5
+after-parse-from-row-5 c = c .before .before .before .before .before .before .before .before .before .before
+
+abbrev after-enum-told : tie.After-parse-from-row-5 → tie.After-enum-told
+after-enum-told c = c .before .before .before .before .before .before
+
+abbrev after-enum-told-from-parse-from-row-5-arg5 : tie.After-parse-from-row-5-arg5 → tie.After-enum-told
+after-enum-told-from-parse-from-row-5-arg5 c = c .before .before .before .before .before
+
+abbrev after-refusal : tie.After-slice-known6 → tie.After-refusal
+after-refusal c = c .before .before .before .before .before
+
+abbrev start : tie.After-enum-told → tie.Start
+start c = c .before .before .before .before .before .before .before .before .before
+
+abbrev start-from-refusal : tie.After-refusal → tie.Start
+start-from-refusal c = c .before .before .before .before .before .before .before .before .before
+
 enum-known-refusal : tie.Need-enum-known-refusal
 enum-known-refusal c = search needs
 
@@ -59,8 +78,8 @@ enum-told c = search needs
 
 parse-from-row-5-requires : tie.Need-parse-from-row-5-requires
 parse-from-row-5-requires c κs =
-    let c₁ = c .before .before .before .before .before in
-    let pre = c₁ .before .before .before .before .before .before .before .before .before .pre in
+    let c₁ = after-enum-told-from-parse-from-row-5-arg5 c in
+    let pre = start c₁ .pre in
     (pre .0, pre .1, symbols-are _ _ _ [] [] [] [] _ (pre .2) (pre .3) (pre .4) (c₁ .enum-told .given .1), pre .4)
 
 same-length : tie.Need-same-length
@@ -68,8 +87,8 @@ same-length c = search needs
 
 returns : tie.Need-returns
 returns c =
-    let c₁ = c .before .before .before .before .before in
-    let pre = c₁ .before .before .before .before .before .before .before .before .before .pre in
+    let c₁ = after-refusal c in
+    let pre = start-from-refusal c₁ .pre in
     refused _ _ _ _ _ _ _ _ (pre .2) (pre .3) (pre .4) _ (c₁ .refusal .given .1) (c .before .before .unmark .ensures)
 
 same-length-2 : tie.Need-same-length-2
@@ -89,9 +108,9 @@ same-length-6 c = search needs
 
 returns-2 : tie.Need-returns-2
 returns-2 c =
-    let c₁ = c .before .before .before .before .before .before .before .before .before .before in
-    let c₂ = c₁ .before .before .before .before .before .before in
-    let pre = c₂ .before .before .before .before .before .before .before .before .before .pre in
+    let c₁ = after-parse-from-row-5 c in
+    let c₂ = after-enum-told c₁ in
+    let pre = start c₂ .pre in
     goes-on _ _ _ _ _ _ _ _ (pre .2) (pre .3) (pre .4) (c₂ .enum-told .given .1) (c₁ .parse-from-row-5 .ensures)
 
 pub parse-from-row-4-spec : {M : Type 1} → statement M

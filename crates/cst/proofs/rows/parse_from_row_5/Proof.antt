@@ -54,6 +54,25 @@ module _ (source kinds ends ev dm ds de : List ℕ) where
       )
       refl
 
+-- places
+abbrev after-write-reading : tie.After-answer-by-room → tie.After-write-reading
+after-write-reading c = c .before .before .before .before .before .before .before .before .before .before .before
+
+abbrev after-least2 : tie.After-write-reading → tie.After-least2
+after-least2 c = c .before .before .before .before .before .before
+
+abbrev after-least2-from-write-reading-arg3 : tie.After-write-reading-arg3 → tie.After-least2
+after-least2-from-write-reading-arg3 c = c .before .before .before
+
+abbrev after-least2-from-write-reading-arg4 : tie.After-write-reading-arg4 → tie.After-least2
+after-least2-from-write-reading-arg4 c = c .before .before .before .before
+
+abbrev after-least2-from-write-reading-arg5 : tie.After-write-reading-arg5 → tie.After-least2
+after-least2-from-write-reading-arg5 c = c .before .before .before .before .before
+
+abbrev start : tie.After-least → tie.Start
+start c = c .before .before .before .before .before .before .before .before
+
 least-requires : tie.Need-least-requires
 least-requires c κs = search needs
 
@@ -65,7 +84,7 @@ slice-relend-prefix-write-reading c = search needs
 
 slice-aggregate-write-reading : tie.Need-slice-aggregate-write-reading
 slice-aggregate-write-reading c =
-    let c₁ = c .before .before .before in
+    let c₁ = after-least2-from-write-reading-arg3 c in
     let c₂ = c₁ .before in
     sym (length-take-le _ _ (omega (arith, c₂ .least .ensures, c₁ .least2 .ensures)))
 
@@ -74,7 +93,7 @@ slice-relend-prefix-write-reading-2 c = search needs
 
 slice-aggregate-write-reading-2 : tie.Need-slice-aggregate-write-reading-2
 slice-aggregate-write-reading-2 c =
-    let c₁ = c .before .before .before .before in
+    let c₁ = after-least2-from-write-reading-arg4 c in
     let c₂ = c₁ .before in
     sym (length-take-le _ _ (omega (arith, c₂ .least .ensures, c₁ .least2 .ensures)))
 
@@ -83,15 +102,15 @@ slice-relend-prefix-write-reading-3 c = search needs
 
 slice-aggregate-write-reading-3 : tie.Need-slice-aggregate-write-reading-3
 slice-aggregate-write-reading-3 c =
-    let c₁ = c .before .before .before .before .before in
+    let c₁ = after-least2-from-write-reading-arg5 c in
     let c₂ = c₁ .before in
     sym (length-take-le _ _ (omega (arith, c₂ .least .ensures, c₁ .least2 .ensures)))
 
 write-reading-requires : tie.Need-write-reading-requires
 write-reading-requires c κs =
-    let c₁ = c .before .before .before .before .before in
+    let c₁ = after-least2-from-write-reading-arg5 c in
     let c₂ = c₁ .before in
-    let c₃ = c₂ .before .before .before .before .before .before .before .before in
+    let c₃ = start c₂ in
     let a = c₃ .args in
     let pre = c₃ .pre in
     let n = c₁ .least2 .result in
@@ -122,10 +141,10 @@ same-length-5 c = search needs
 
 returns : tie.Need-returns
 returns c =
-    let c₁ = c .before .before .before .before .before .before .before .before .before .before .before in
-    let c₂ = c₁ .before .before .before .before .before .before in
+    let c₁ = after-write-reading c in
+    let c₂ = after-least2 c₁ in
     let c₃ = c₂ .before in
-    let c₄ = c₃ .before .before .before .before .before .before .before .before in
+    let c₄ = start c₃ in
     let a = c₄ .args in
     let pre = c₄ .pre in
     whole (a .source .now) (a .kinds .now) (a .ends .now) (a .events .now) (a .messages .now) (a .starts .now) (a .stops .now)

@@ -10,9 +10,28 @@ use borrow.Author.Needs.{needs}
 use Rattle.cst.proofs.rows.write_reading.Statement.{statement}
 use Rattle.cst.proofs.rows.write_reading.Tie as tie
 
+-- places
+abbrev after-places : tie.After-slice-known11 → tie.After-places
+after-places c = c .before .before .before .before
+
+abbrev after-last-char : tie.After-places → tie.After-last-char
+after-last-char c = c .before .before .before
+
+abbrev after-unmark : tie.After-last-char → tie.After-unmark
+after-unmark c = c .before .before .before
+
+abbrev after-parse : tie.After-unmark → tie.After-parse
+after-parse c = c .before .before .before .before .before .before .before .before
+
+abbrev start : tie.After-parse → tie.Start
+start c = c .before .before .before .before .before .before .before .before .before .before .before .before
+
+abbrev start-from-parse-arg4 : tie.After-parse-arg4 → tie.Start
+start-from-parse-arg4 c = c .before .before .before .before .before .before .before .before .before .before .before
+
 parse-requires : tie.Need-parse-requires
 parse-requires c κs =
-    let c₁ = c .before .before .before .before .before .before .before .before .before .before .before in
+    let c₁ = start-from-parse-arg4 c in
     let a = c₁ .args in
     let pre = c₁ .pre in
     let source = a .source .now in
@@ -26,7 +45,7 @@ last-char-requires c κs = search needs
 
 places-requires : tie.Need-places-requires
 places-requires c κs =
-    let c₁ = c .before .before .before .before .before .before .before .before .before .before .before .before .before .before .before .before .before .before .before .before .before .before .before .before .before in
+    let c₁ = start (after-parse (after-unmark (c .before .before))) in
     let a = c₁ .args in
     let pre = c₁ .pre in
     (omega (arith, pre .0, last-within (a .source .now), c .before .before .last-char .ensures), omega (arith, pre .5))
@@ -48,11 +67,11 @@ same-length-5 c = search needs
 
 returns : tie.Need-returns
 returns c =
-    let c₁ = c .before .before .before .before in
-    let c₂ = c₁ .before .before .before in
-    let c₃ = c₂ .before .before .before in
-    let c₄ = c₃ .before .before .before .before .before .before .before .before in
-    let c₅ = c₄ .before .before .before .before .before .before .before .before .before .before .before .before in
+    let c₁ = after-places c in
+    let c₂ = after-last-char c₁ in
+    let c₃ = after-unmark c₂ in
+    let c₄ = after-parse c₃ in
+    let c₅ = start c₄ in
     let a = c₅ .args in
     let pre = c₅ .pre in
     reading-is (a .source .now) _ _ _ _ _ _ _ _ _ (pre .2) (pre .3) (c₂ .last-char .ensures) (pre .4) (pre .5)
