@@ -48,7 +48,8 @@ returns-4 c =
 
 add-next-relevant-top-level-token : tie.Need-add-next-relevant-top-level-token
 add-next-relevant-top-level-token c =
-    let c₁ = c .before .before .before .before .before .before .before .before in
+    let b = c .before .before .before .before in
+    let c₁ = b .before .before .before .before in
     let w = next-within (c₁ .args .kinds .now) (c₁ .args .p) (is Whitespace) (c .before .at-kind .ensures) (not-false _ (c .if4 .left)) in omega arith
 
 returns-5 : tie.Need-returns-5

@@ -26,7 +26,11 @@ one c = reaches-next (c .before .before .before .before .loop .inv) (omega arith
 two : (c : tie.Else2 Inv-loop μ-loop) → To (c .before .before .before .before .before .before) 2
 two c = reaches-next (one (c .before .before .before)) (omega arith) (omega arith) (c .before .surely2 .ensures (not-false _ (c .if2 .left)))
 
-three : (c : tie.Else3 Inv-loop μ-loop) → To (c .before .before .before .before .before .before .before .before .before) 3
+-- the round that three bytes are looked at in
+abbrev in-loop : tie.Else3 Inv-loop μ-loop → tie.In-loop Inv-loop μ-loop
+in-loop c = c .before .before .before .before .before .before .before .before .before
+
+three : (c : tie.Else3 Inv-loop μ-loop) → To (in-loop c) 3
 three c = reaches-next (two (c .before .before .before)) (omega arith) (omega arith) (c .before .surely3 .ensures (not-false _ (c .if3 .left)))
 
 loop-holds : tie.Need-loop-holds Inv-loop μ-loop

@@ -58,7 +58,8 @@ same-requires-2 c κs = search needs
 
 returns-2 : tie.Need-returns-2
 returns-2 c =
-    rw (c .before .before .before .if1 .left, c .if2 .taken) at (answers _ (c .before .before .before .before .before .before .before .pre) (c .before .before .before .before .same .ensures) (c .before .same2 .ensures) refl refl)
+    let s = c .before .before .before .before .before .before in
+    rw (c .before .before .before .if1 .left, c .if2 .taken) at (answers _ (s .before .pre) (c .before .before .before .before .same .ensures) (c .before .same2 .ensures) refl refl)
 
 slice-aggregate-same-3 : tie.Need-slice-aggregate-same-3
 slice-aggregate-same-3 c = search needs
@@ -68,7 +69,8 @@ same-requires-3 c κs = search needs
 
 returns-3 : tie.Need-returns-3
 returns-3 c =
-    rw (c .before .before .before .before .before .before .if1 .left, c .before .before .before .if2 .left, c .if3 .taken) at (answers _ (c .before .before .before .before .before .before .before .before .before .before .pre) (c .before .before .before .before .before .before .before .same .ensures) (c .before .before .before .before .same2 .ensures) (c .before .same3 .ensures) refl)
+    let s = c .before .before .before .before .before .before in
+    rw (c .before .before .before .before .before .before .if1 .left, c .before .before .before .if2 .left, c .if3 .taken) at (answers _ (s .before .before .before .before .pre) (s .before .same .ensures) (c .before .before .before .before .same2 .ensures) (c .before .same3 .ensures) refl)
 
 slice-aggregate-only : tie.Need-slice-aggregate-only
 slice-aggregate-only c = search needs
@@ -78,7 +80,8 @@ only-requires c κs = search needs
 
 returns-4 : tie.Need-returns-4
 returns-4 c =
-    rw (c .before .before .before .before .before .before .before .before .if1 .left, c .before .before .before .before .before .if2 .left, c .before .before .if3 .left) at (answers _ (c .before .before .before .before .before .before .before .before .before .before .before .before .pre) (c .before .before .before .before .before .before .before .before .before .same .ensures) (c .before .before .before .before .before .before .same2 .ensures) (c .before .before .before .same3 .ensures) (c .only .ensures))
+    let s = c .before .before .before .before .before .before in
+    rw (s .before .before .if1 .left, c .before .before .before .before .before .if2 .left, c .before .before .if3 .left) at (answers _ (s .before .before .before .before .before .before .pre) (s .before .before .before .same .ensures) (c .before .before .before .before .before .before .same2 .ensures) (c .before .before .before .same3 .ensures) (c .only .ensures))
 
 pub e-word-spec : {M : Type 1} → statement M
 e-word-spec =

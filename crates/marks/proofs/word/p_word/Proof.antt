@@ -55,7 +55,8 @@ same-requires-2 c κs = search needs
 
 returns-2 : tie.Need-returns-2
 returns-2 c =
-    rw (c .before .before .before .if1 .left, c .if2 .taken) at (answers _ (c .before .before .before .before .before .before .before .pre) (c .before .before .before .before .same .ensures) (c .before .same2 .ensures) refl)
+    let s = c .before .before .before .before .before .before in
+    rw (c .before .before .before .if1 .left, c .if2 .taken) at (answers _ (s .before .pre) (c .before .before .before .before .same .ensures) (c .before .same2 .ensures) refl)
 
 slice-aggregate-only : tie.Need-slice-aggregate-only
 slice-aggregate-only c = search needs
@@ -65,7 +66,8 @@ only-requires c κs = search needs
 
 returns-3 : tie.Need-returns-3
 returns-3 c =
-    rw (c .before .before .before .before .before .if1 .left, c .before .before .if2 .left) at (answers _ (c .before .before .before .before .before .before .before .before .before .pre) (c .before .before .before .before .before .before .same .ensures) (c .before .before .before .same2 .ensures) (c .only .ensures))
+    let s = c .before .before .before .before .before .before in
+    rw (c .before .before .before .before .before .if1 .left, c .before .before .if2 .left) at (answers _ (s .before .before .before .pre) (c .before .before .before .before .before .before .same .ensures) (c .before .before .before .same2 .ensures) (c .only .ensures))
 
 pub p-word-spec : {M : Type 1} → statement M
 p-word-spec =
