@@ -19,10 +19,10 @@ pub fn set_u16(l: &mut [u16], i: usize, v: u16)
     }
 }
 
-pub fn set_u32(l: &mut [u32], i: usize, v: u32)
-    ensures { λ _. ⌜ now (l .exit) ≡ set (now (l .entry)) i v ⌝ }
+pub fn set_u32(s: &mut [u32], i: usize, v: u32)
+    ensures { λ _. ⌜ now (s .exit) ≡ set (now (s .entry)) i v ⌝ }
 {
-    if i < l.len() {
-        l[i] = v;
+    if i < s.len() {
+        s[i] = v;
     }
 }
