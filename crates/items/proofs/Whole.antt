@@ -3,10 +3,11 @@
 use mathlib.Core.Bool.{Bool}
 use mathlib.Core.List.{List, [], append-nil, map}
 use mathlib.Core.Path.{_≡_, refl, sym, ap, _∙_}
-use Prim.Native.Nat.{ℕ, _+_, _≤_, _^_}
+use Prim.Native.Nat.{ℕ, _+_, _≤_}
 use native.Mathlib.Omega.{arith}
 use lib.ListN.{length}
 use Rattle.room.specs.Over.{over, length-over}
+use Rattle.lexer.specs.Tokens.{MAX-SOURCE}
 use Rattle.grammar.specs.Words.{File, from}
 use Rattle.grammar.specs.Run.{SourceFile, P, leaves, inNode}
 use Rattle.grammar.specs.Item.{items-in, parse}
@@ -45,7 +46,7 @@ root-diags : (F : File) → dg 0 (root F .out) ≡ diags limit F
 unfolding inNode diags parse
 root-diags F = append-nil _
 
-small : (F : File) → length F ≤ 2 ^ 20 → Small (run root (begun F))
+small : (F : File) → length F ≤ MAX-SOURCE → Small (run root (begun F))
 unfolding run
 small F h = record {
   pos = omega (arith, ap length (root-leaves F));
@@ -53,7 +54,7 @@ small F h = record {
   diags = omega (arith, ap length (root-diags F), few-diagnostics limit F);
 }
 
-pub whole : (F : File) (b : World) {w : World} → length F ≤ 2 ^ 20 → Ran F root (at-start b) w → Parsed F b w
+pub whole : (F : File) (b : World) {w : World} → length F ≤ MAX-SOURCE → Ran F root (at-start b) w → Parsed F b w
 unfolding run
 whole F b {w} l h =
     let r = h .sim b (begun F) (starts F b) (small F l) in

@@ -6,8 +6,9 @@ use parser::bump::bump_regular_trivia;
 use parser::cursor::Cursor;
 use parser::cursor::put;
 use parser::look::eof;
-ghost use Prim.Native.Nat.{_≤_, _^_};
+ghost use Prim.Native.Nat.{_≤_};
 ghost use lib.ListN.{length};
+ghost use Rattle.lexer.specs.Tokens.{MAX-SOURCE};
 ghost use Rattle.grammar.specs.Block.{MAX-CONTROL-FLOW-NESTING as limit};
 ghost use Rattle.grammar.specs.Item.{items-in};
 ghost use Rattle.parser.specs.Rep.{entry, exit, Ran};
@@ -27,7 +28,7 @@ fn source_items(kinds: &[u16], ev: &mut [u16], dm: &mut [u16], ds: &mut [u32], c
 
 // The whole file, in its root node.
 pub fn parse(kinds: &[u16], ev: &mut [u16], dm: &mut [u16], ds: &mut [u32]) -> Cursor
-    requires { ⌜ length (now kinds) ≤ 2 ^ 20 ⌝ }
+    requires { ⌜ length (now kinds) ≤ MAX-SOURCE ⌝ }
     ensures { λ r. ⌜ Parsed (now (kinds .entry)) (entry ev dm ds start) (exit ev dm ds r) ⌝ }
 {
     let start = Cursor {
