@@ -4,6 +4,19 @@ use borrow.Author.Needs.{needs}
 use Rattle.readings.proofs.reading.reading.Statement.{statement}
 use Rattle.readings.proofs.reading.reading.Tie as tie
 
+-- places
+abbrev after-parse-text : tie.After-put-answer-arg → tie.After-parse-text
+after-parse-text c = c .before .before .before .before .before .before .before .before .before .before .before .before .before
+
+abbrev after-parse-text-from-slice-known22 : tie.After-slice-known22 → tie.After-parse-text
+after-parse-text-from-slice-known22 c = c .before .before .before .before .before .before .before .before .before .before .before .before .before .before .before .before .before .before .before .before .before .before .before .before .before .before .before .before .before .before
+
+abbrev after-fill : tie.After-parse-text → tie.After-fill
+after-fill c = c .before .before .before .before .before .before .before .before .before .before .before .before .before .before .before .before .before .before .before
+
+abbrev start : tie.After-fill → tie.Start
+start c = c .before .before .before .before .before .before .before .before .before .before .before .before .before .before .before
+
 fill-requires : tie.Need-fill-requires
 fill-requires c κs = search needs
 
@@ -12,7 +25,7 @@ parse-text-requires c κs = search needs
 
 put-answer-requires : tie.Need-put-answer-requires
 put-answer-requires c κs =
-    let c₁ = c .before .before .before .before .before .before .before .before .before .before .before .before .before .before .before .before .before .before .before .before .before .before .before .before .before .before .before .before .before .before .before .before .before .before .before .before .before .before .before .before .before .before .before .before .before .before .before in
+    let c₁ = start (after-fill (after-parse-text c)) in
     c₁ .pre
 
 put-tree-requires : tie.Need-put-tree-requires
@@ -23,38 +36,38 @@ put-diagnostics-requires c κs = search needs
 
 same-length : tie.Need-same-length
 same-length c =
-    let c₁ = c .before .before .before .before .before .before .before .before .before .before .before .before .before .before .before .before .before .before .before .before .before .before .before .before .before .before .before .before .before .before in
-    let c₂ = c₁ .before .before .before .before .before .before .before .before .before .before .before .before .before .before .before .before .before .before .before in
+    let c₁ = after-parse-text-from-slice-known22 c in
+    let c₂ = after-fill c₁ in
     omega (arith, c₁ .parse-text .kept, c₂ .fill .kept)
 
 same-length-2 : tie.Need-same-length-2
 same-length-2 c =
-    let c₁ = c .before .before .before .before .before .before .before .before .before .before .before .before .before .before .before .before .before .before .before .before .before .before .before .before .before .before .before .before .before .before in
-    let c₂ = c₁ .before .before .before .before .before .before .before .before .before .before .before .before .before .before .before .before .before .before .before in
+    let c₁ = after-parse-text-from-slice-known22 c in
+    let c₂ = after-fill c₁ in
     omega (arith, c₁ .parse-text .kept, c₂ .fill .kept)
 
 same-length-3 : tie.Need-same-length-3
 same-length-3 c =
-    let c₁ = c .before .before .before .before .before .before .before .before .before .before .before .before .before .before .before .before .before .before .before .before .before .before .before .before .before .before .before .before .before .before in
-    let c₂ = c₁ .before .before .before .before .before .before .before .before .before .before .before .before .before .before .before .before .before .before .before in
+    let c₁ = after-parse-text-from-slice-known22 c in
+    let c₂ = after-fill c₁ in
     omega (arith, c₁ .parse-text .kept, c₂ .fill .kept)
 
 same-length-4 : tie.Need-same-length-4
 same-length-4 c =
-    let c₁ = c .before .before .before .before .before .before .before .before .before .before .before .before .before .before .before .before .before .before .before .before .before .before .before .before .before .before .before .before .before .before in
-    let c₂ = c₁ .before .before .before .before .before .before .before .before .before .before .before .before .before .before .before .before .before .before .before in
+    let c₁ = after-parse-text-from-slice-known22 c in
+    let c₂ = after-fill c₁ in
     omega (arith, c₁ .parse-text .kept, c₂ .fill .kept)
 
 same-length-5 : tie.Need-same-length-5
 same-length-5 c =
-    let c₁ = c .before .before .before .before .before .before .before .before .before .before .before .before .before .before .before .before .before .before .before .before .before .before .before .before .before .before .before .before .before .before in
-    let c₂ = c₁ .before .before .before .before .before .before .before .before .before .before .before .before .before .before .before .before .before .before .before in
+    let c₁ = after-parse-text-from-slice-known22 c in
+    let c₂ = after-fill c₁ in
     omega (arith, c₁ .parse-text .kept, c₂ .fill .kept)
 
 same-length-6 : tie.Need-same-length-6
 same-length-6 c =
-    let c₁ = c .before .before .before .before .before .before .before .before .before .before .before .before .before .before .before .before .before .before .before .before .before .before .before .before .before .before .before .before .before .before in
-    let c₂ = c₁ .before .before .before .before .before .before .before .before .before .before .before .before .before .before .before .before .before .before .before in
+    let c₁ = after-parse-text-from-slice-known22 c in
+    let c₂ = after-fill c₁ in
     omega (arith, c₁ .parse-text .kept, c₂ .fill .kept)
 
 same-length-7 : tie.Need-same-length-7
