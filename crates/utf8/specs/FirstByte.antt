@@ -59,31 +59,31 @@ pub char-width : {b : ℕ} {bs : List ℕ} → Character table (b ∷ bs) → su
 char-width k = width-in widths k
 
 -- every range after a row's first lies in 0x80 to 0xBF
-abbrev tail : Row → Bool
-tail [] = true
-tail (low ⋯ high ∷ row) = leb 0x80 low && leb high 0xBF && tail row
+abbrev continues : Row → Bool
+continues [] = true
+continues (low ⋯ high ∷ row) = leb 0x80 low && leb high 0xBF && continues row
 
-abbrev tails : List Row → Bool
-tails [] = true
-tails ([] ∷ rows) = tails rows
-tails ((r ∷ row) ∷ rows) = tail row && tails rows
+abbrev all-continue : List Row → Bool
+all-continue [] = true
+all-continue ([] ∷ rows) = all-continue rows
+all-continue ((r ∷ row) ∷ rows) = continues row && all-continue rows
 
 abbrev Continuation : ℕ → Type 0
 Continuation b = (0x80 ≤ b) × (b ≤ 0xBF)
 
-tail-byte : {row : Row} {bs : List ℕ} → tail row ≡ true → Sequence row bs → (k : ℕ) → k < length bs → Continuation (getD bs k 0)
+tail-byte : {row : Row} {bs : List ℕ} → continues row ≡ true → Sequence row bs → (k : ℕ) → k < length bs → Continuation (getD bs k 0)
 tail-byte t done k h = absurd (omega arith)
 tail-byte t (byte {low} {high} {row = row} l h q) zero i =
-    let w = both (leb 0x80 low && leb high 0xBF) (tail row) t in
+    let w = both (leb 0x80 low && leb high 0xBF) (continues row) t in
     let v = both (leb 0x80 low) (leb high 0xBF) (w .0) in
     omega (arith, leb-true 0x80 low (v .0), leb-true high 0xBF (v .1))
 tail-byte t (byte {low} {high} {row = row} l h q) (suc k) i =
-    tail-byte (both (leb 0x80 low && leb high 0xBF) (tail row) t .1) q k (omega arith)
+    tail-byte (both (leb 0x80 low && leb high 0xBF) (continues row) t .1) q k (omega arith)
 
-tail-in : {rows : List Row} {b : ℕ} {bs : List ℕ} → tails rows ≡ true → Character rows (b ∷ bs) → (k : ℕ) → k < length bs → Continuation (getD bs k 0)
-tail-in {rows = (r ∷ row) ∷ rows} t (here (byte l h q)) k i = tail-byte (both (tail row) (tails rows) t .0) q k i
+tail-in : {rows : List Row} {b : ℕ} {bs : List ℕ} → all-continue rows ≡ true → Character rows (b ∷ bs) → (k : ℕ) → k < length bs → Continuation (getD bs k 0)
+tail-in {rows = (r ∷ row) ∷ rows} t (here (byte l h q)) k i = tail-byte (both (continues row) (all-continue rows) t .0) q k i
 tail-in t (there {row = []} c) k i = tail-in t c k i
-tail-in t (there {row = r ∷ row} {rows = rows} c) k i = tail-in (both (tail row) (tails rows) t .1) c k i
+tail-in t (there {row = r ∷ row} {rows = rows} c) k i = tail-in (both (continues row) (all-continue rows) t .1) c k i
 
 -- the bytes after a character's first are continuation bytes
 pub tail-bytes : {b : ℕ} {bs : List ℕ} → Character table (b ∷ bs) → (k : ℕ) → k < length bs → (0x80 ≤ getD bs k 0) × (getD bs k 0 ≤ 0xBF)
