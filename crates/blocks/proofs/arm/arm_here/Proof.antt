@@ -48,7 +48,6 @@ returns-3 c =
 
 at-terminator-requires : tie.Need-at-terminator-requires
 at-terminator-requires c κs =
-    let c₁ = after-current (c .before) .before .before in
     tt
 
 returns-4 : tie.Need-returns-4

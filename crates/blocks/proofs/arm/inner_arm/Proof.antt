@@ -46,7 +46,6 @@ returns-3 c =
 
 is-top-level-starter-requires : tie.Need-is-top-level-starter-requires
 is-top-level-starter-requires c κs =
-    let c₁ = start (c .before) in
     tt
 
 returns-4 : tie.Need-returns-4

@@ -28,7 +28,6 @@ should-stop-instruction-before-requires : tie.Need-should-stop-instruction-befor
 should-stop-instruction-before-requires c κs =
     let c₁ = c .before .before .before in
     let c₂ = c₁ .before .before in
-    let c₃ = c₂ .before .before in
     let e = line-end-is _ (c₁ .in-set .ensures) (c₂ .current .ensures) in
     not-doc _ (sym e ∙ c .before .before .if2 .left)
 

@@ -57,9 +57,6 @@ after-at-kind c = c .before .before .before
 abbrev start : tie.After-at-kind Inv-loop μ-loop → tie.Start Inv-loop μ-loop
 start c = c .before .before .before .before .before .before
 
-abbrev start-from-at-loop : tie.At-loop Inv-loop μ-loop → tie.Start Inv-loop μ-loop
-start-from-at-loop c = c .before .before .before .before .before
-
 loop-holds : tie.Need-loop-holds Inv-loop μ-loop
 loop-holds c = begins
 
@@ -78,7 +75,6 @@ loop-again c =
     let c₂ = then1 c₁ in
     let c₃ = c₂ .before in
     let c₄ = c₃ .before in
-    let c₅ = start-from-at-loop c₄ in
     let i = c₄ .loop .inv in
     let e = sym (c₃ .at-kind .ensures) ∙ c₂ .if1 .taken in
     goes-on i (λ w′ r k.

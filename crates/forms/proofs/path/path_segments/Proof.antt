@@ -61,9 +61,6 @@ else1 c = c .before .before .before .before
 abbrev at-loop : tie.Then1 Inv-loop μ-loop → tie.At-loop Inv-loop μ-loop
 at-loop c = c .before .before .before
 
-abbrev start : tie.At-loop Inv-loop μ-loop → tie.Start Inv-loop μ-loop
-start c = c .before .before .before .before .before
-
 loop-holds : tie.Need-loop-holds Inv-loop μ-loop
 loop-holds c = begins
 
@@ -100,7 +97,6 @@ loop-again c =
     let c₃ = c₂ .before in
     let c₄ = c₃ .before in
     let c₅ = c₄ .before in
-    let c₆ = start c₅ in
     let h = round-goes (c₄ .peek-after-non-comment-trivia .ensures) (c₃ .at-kind .ensures) (not-false _ (c₂ .if1 .left))
     (answers (c₁ .path-segment .ensures) (not-false _ (c .if2 .left))) in
     let i = c₅ .loop .inv in

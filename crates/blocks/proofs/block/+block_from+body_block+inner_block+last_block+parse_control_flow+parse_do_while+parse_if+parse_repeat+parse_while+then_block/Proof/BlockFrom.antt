@@ -126,7 +126,6 @@ pub returns-2 : (t : ℕ) → block-from-place lts.Need-returns-2 t
 unfolding parse-block
 returns-2 t c =
     let c₁ = after-first-rounds-from-c2 t c in
-    let c₂ = start t c₁ in
     let begun = c₁ .first-rounds .ensures in
     let over = c .before .before .loop .inv .on _ (begun .rounds) .over (c .before .loop-test .left) in
     record { ran = node-to _ (begun .wrote) (over .ran) (over .wrote); here = over .here }

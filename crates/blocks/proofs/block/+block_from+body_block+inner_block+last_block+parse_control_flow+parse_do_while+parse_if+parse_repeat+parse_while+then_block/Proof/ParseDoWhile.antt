@@ -73,7 +73,6 @@ last-block-requires t c κs =
     let c₂ = after-body-block t c₁ in
     let c₃ = after-do-header t c₂ in
     let c₄ = start t c₃ in
-    let line = c₂ .body-block .ensures .led (not-false (c₂ .body-block .result .more) (c₁ .if1 .left)) in
     omega (arith, c₄ .pre, c₃ .do-header .ensures .past, c₂ .body-block .ensures .onward)
 
 pub returns-2 : (t : ℕ) → parse-do-while-place lts.Need-returns-2 t

@@ -73,7 +73,6 @@ last-block-requires t c κs =
     let c₂ = after-then-block t c₁ in
     let c₃ = after-if-header t c₂ in
     let c₄ = start t c₃ in
-    let line = c₂ .then-block .ensures .led (not-false (c₂ .then-block .result .more) (c₁ .if1 .left)) in
     omega (arith, c₄ .pre, c₃ .if-header .ensures .past, c₂ .then-block .ensures .onward)
 
 pub returns-2 : (t : ℕ) → parse-if-place lts.Need-returns-2 t

@@ -35,9 +35,6 @@ after-inner-block t c = c .before .before .before .before .before .before .befor
 abbrev after-inner-block-from-goes-to-else : (t : ℕ) → then-block-place lts.After-goes-to-else t → then-block-place lts.After-inner-block t
 after-inner-block-from-goes-to-else t c = c .before .before .before .before .before .before .before .before
 
-abbrev start : (t : ℕ) → then-block-place lts.After-inner-block t → then-block-place lts.Start t
-start t c = c .before .before .before .before .before .before .before .before
-
 abbrev start-from-inner-block-arg3 : (t : ℕ) → then-block-place lts.After-inner-block-arg3 t → then-block-place lts.Start t
 start-from-inner-block-arg3 t c = c .before .before .before .before .before .before .before
 
@@ -51,7 +48,6 @@ else-line-requires t c κs =
     let c₁ = then1-from-else-line-arg3 t c in
     let c₂ = c₁ .before in
     let c₃ = after-inner-block-from-goes-to-else t c₂ in
-    let c₄ = start t c₃ in
     and-r (not (reached-eof (c₃ .inner-block .result .outcome))) _ (sym (c₂ .goes-to-else .ensures) ∙ c₁ .if1 .taken)
 
 pub returns : (t : ℕ) → then-block-place lts.Need-returns t
