@@ -13,7 +13,7 @@ use Rattle.utf8.specs.declared.Utf8.the-variants.{Valid, At}
 use Rattle.utf8.specs.Validate.{validate}
 use Rattle.lexer.specs.Lexer.{tokenize}
 use Rattle.room.specs.Over.{fit-first}
-use Rattle.lexer.specs.Tokens.{MAX-SOURCE, kindOf, token-kinds, token-ends}
+use Rattle.lexer.specs.Tokens.{MAX-SOURCE, token-kind, token-kinds, token-ends}
 use Rattle.lexer.specs.Laws.{length-ends}
 use Rattle.marks.specs.declared.Refusal.{Refusal}
 use Rattle.marks.specs.declared.Refusal.the-variants as refusal
@@ -151,7 +151,7 @@ module _ (source : List ℕ) (s : Slices) (counts : List ℕ) (a : LastRow sourc
   all-given =
       let ps = places-of source in
       rw (
-        fit-first (token-room s) (t source s) (token-kinds source) (s .kinds) (length-map (tokenize source) kindOf) (a .tokens),
+        fit-first (token-room s) (t source s) (token-kinds source) (s .kinds) (length-map (tokenize source) token-kind) (a .tokens),
         fit-first (token-room s) (t source s) (token-ends source) (s .ends) (length-ends 0 (tokenize source)) (a .tokens),
         fit-first (length (s .events)) (e source s) (events-of source) (s .events) refl (a .events),
         fit-first (diagnostic-room s) (d source s) (map (λ p. p .msg) ps) (s .messages) (length-map ps _) (a .places),

@@ -10,7 +10,7 @@ use Rattle.utf8.specs.Laws.{accepts as valid}
 use Rattle.lexer.specs.Lexer.{tokenize}
 use Rattle.lexer.specs.Tokens.{MAX-SOURCE, token-kinds}
 use Rattle.lexer.specs.Tokens
-use Rattle.lexer.specs.Laws.{Every, bytes, lossless, few-tokens, length-ends}
+use Rattle.lexer.specs.Laws.{Every, token-bytes, lossless, few-tokens, length-ends}
 use Rattle.grammar.specs.Words.{Sym, kindOf, eventOf}
 use Rattle.grammar.specs.Run.{leaves}
 use Rattle.grammar.specs.Item.{parse}
@@ -39,7 +39,7 @@ pub record Facts (source : List ℕ) (g : Slices) (counts : List ℕ) : Type 0 w
   pub events : length (g .events) ≡ event-count counts
   pub messages : length (g .messages) ≡ diagnostic-count counts
   pub leaves-are : leaf-events (g .events) ≡ map eventOf (g .kinds)
-  pub texts-are : bytes (cut 0 (g .kinds) (g .ends) source) ≡ source
+  pub texts-are : token-bytes (cut 0 (g .kinds) (g .ends) source) ≡ source
   pub few-open : peak 0 (g .events) ≤ 516
   pub few-events : event-count counts ≤ 7 * token-count counts + 2
   pub few-diagnostics : diagnostic-count counts ≤ 2 * token-count counts
@@ -76,7 +76,7 @@ of-reading source counts t e d =
       events = sym e;
       messages = length-map (places-of source) _ ∙ sym d;
       leaves-are = leaves-of source;
-      texts-are = ap bytes (cut-source source) ∙ lossless source;
+      texts-are = ap token-bytes (cut-source source) ∙ lossless source;
       few-open = omega (arith, few-open limit (symbols source));
       few-events = omega (arith, events-few source);
       few-diagnostics = omega (arith, diagnostics-few source);

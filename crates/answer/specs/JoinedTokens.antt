@@ -11,8 +11,8 @@ use lib.ListN.{length, getD}
 use lib.Seq.{take-append-seam, drop-append-seam}
 use Rattle.lexer.specs.Syntax.{Ident, Newline, RParen}
 use Rattle.lexer.specs.Lexer.{Token, same, tokenize}
-use Rattle.lexer.specs.Tokens.{kindOf, ends, token-kinds, token-ends}
-use Rattle.lexer.specs.Laws.{Every, bytes, last, lossless}
+use Rattle.lexer.specs.Tokens.{token-kind, ends, token-kinds, token-ends}
+use Rattle.lexer.specs.Laws.{Every, token-bytes, last, lossless}
 use Rattle.grammar.specs.Words.{Sym, is, key, END, words, numberIn, wordOf, symOf}
 use Rattle.grammar.specs.Look.{at, oneOf, is-trivia, skip, next-relevant-block-token}
 use Rattle.grammar.specs.Source.{syms}
@@ -22,13 +22,13 @@ use Rattle.grammar.specs.Laws.Ahead.{tail-nil}
 use Rattle.answer.specs.Given.{cut, end-text, is-end, end-before-last}
 
 -- kinds, ends and bytes make the tokens again
-cut-tokens : (n : ℕ) (ts : List Token) → cut n (map kindOf ts) (ends n ts) (bytes ts) ≡ ts
+cut-tokens : (n : ℕ) (ts : List Token) → cut n (map token-kind ts) (ends n ts) (token-bytes ts) ≡ ts
 unfolding ends
 cut-tokens n [] = refl
 cut-tokens n (t ∷ ts) =
     let m = length (t .text) in
     let w : (n + m) - n ≡ m = omega arith in
-    rw (w, take-append-seam (t .text) (bytes ts), drop-append-seam (t .text) (bytes ts), cut-tokens (n + m) ts) refl
+    rw (w, take-append-seam (t .text) (token-bytes ts), drop-append-seam (t .text) (token-bytes ts), cut-tokens (n + m) ts) refl
 
 pub cut-source : (s : List ℕ) → cut 0 (token-kinds s) (token-ends s) s ≡ tokenize s
 cut-source s = ap (cut 0 (token-kinds s) (token-ends s)) (sym (lossless s)) ∙ cut-tokens 0 (tokenize s)
@@ -38,7 +38,7 @@ newline-sym : (t : Token) → t .kind ≡ Newline → Source.token-symbol t ≡ 
 unfolding symOf
 newline-sym t e = ap (λ (k : ℕ). symOf k (t .text)) e
 
-pub newline-last : (d : ℕ) (ts : List Token) → last d (map kindOf ts) ≡ Newline → last d (syms ts) ≡ Newline
+pub newline-last : (d : ℕ) (ts : List Token) → last d (map token-kind ts) ≡ Newline → last d (syms ts) ≡ Newline
 newline-last d [] e = e
 newline-last d (t ∷ []) e = newline-sym t e
 newline-last d (t ∷ u ∷ ts) e = newline-last d (u ∷ ts) e
@@ -109,15 +109,15 @@ trivia t =
     (ap₂ _||_ (plain 29 t (omega arith) refl)
     (ap₂ _||_ (plain 30 t (omega arith) refl) refl)))
 
-pub same-start : (ts : List Token) → at (is RParen) (next-relevant-block-token (syms ts)) ≡ at (is RParen) (next-relevant-block-token (map kindOf ts))
+pub same-start : (ts : List Token) → at (is RParen) (next-relevant-block-token (syms ts)) ≡ at (is RParen) (next-relevant-block-token (map token-kind ts))
 unfolding at skip
 same-start [] = refl
 same-start (t ∷ ts) = by-test (is-trivia (Source.token-symbol t)) (is-trivia (t .kind)) (trivia t) (same-start ts)
   where
     by-test : (u v : Bool) → u ≡ v
-        → at (is RParen) (next-relevant-block-token (syms ts)) ≡ at (is RParen) (next-relevant-block-token (map kindOf ts))
+        → at (is RParen) (next-relevant-block-token (syms ts)) ≡ at (is RParen) (next-relevant-block-token (map token-kind ts))
         → at (is RParen) (elim u [ true ↦ next-relevant-block-token (syms ts) | false ↦ Source.token-symbol t ∷ syms ts ])
-        ≡ at (is RParen) (elim v [ true ↦ next-relevant-block-token (map kindOf ts) | false ↦ t .kind ∷ map kindOf ts ])
+        ≡ at (is RParen) (elim v [ true ↦ next-relevant-block-token (map token-kind ts) | false ↦ t .kind ∷ map token-kind ts ])
     by-test true true e ih = ih
     by-test true false e ih = absurd (false≢true (sym e))
     by-test false true e ih = absurd (false≢true e)

@@ -25,9 +25,9 @@ use Rattle.parser.proofs.Kit.{Leads, _farther_, answers, like-to, yes-to, no-to
 use Rattle.parser.proofs.Laws.{at-current, at-some}
 use Rattle.blocks.specs.declared.arm.Taken.{Taken}
 use Rattle.blocks.specs.declared.arm.Closing.{Closing}
-use Rattle.blocks.specs.declared.arm.Arm.{Arm}
+use Rattle.blocks.specs.declared.arm.BlockArm.{BlockArm}
 use Rattle.blocks.specs.declared.rounds.Stopped.{Stopped}
-use Rattle.blocks.specs.Arms.{arm-of, inner-arm, by-arm, block-by, silent, taking, ending}
+use Rattle.blocks.specs.Arms.{block-arm, inner-arm, by-block-arm, block-by, silent, taking, block-ending}
 use Rattle.blocks.specs.Shapes.{keyword-line, else-line, else-part, Opened, ItemAt, Ended, Finished, Rounded}
 
 -- ---- tests of the token here
@@ -36,16 +36,16 @@ pub at-number : (t : Sym → Bool) (r : List Sym) → t Syntax.Tombstone ≡ fal
 at-number t r n e f h = sym (at-current t r n) ∙ ap t (sym e) ∙ sym f ∙ h
 
 -- at an Ident that is no word
-ident-here : (terminators : Terminators) (r : List Sym) → arm-of terminators (Syntax.Ident ∷ r) ≡ Arm.Takes Taken.Instruction
-unfolding arm-of inner-arm oneOf at eof name-like starts-instruction is-top-level-starter at-prefixed-keyword at-top-level-form-starter-in-block at-bare-while at-terminator at-stray-else
+ident-here : (terminators : Terminators) (r : List Sym) → block-arm terminators (Syntax.Ident ∷ r) ≡ BlockArm.Takes Taken.Instruction
+unfolding block-arm inner-arm oneOf at eof name-like starts-instruction is-top-level-starter at-prefixed-keyword at-top-level-form-starter-in-block at-bare-while at-terminator at-stray-else
 ident-here Terminators.End r = refl
 ident-here Terminators.ElseEnd r = refl
 ident-here Terminators.While r = refl
 
-pub ident-arm : (terminators : Terminators) (r : List Sym) {k : Sym} → k ≡ current r → k ≡ Syntax.Ident → Arm.Takes Taken.Instruction ≡ arm-of terminators r
+pub ident-arm : (terminators : Terminators) (r : List Sym) {k : Sym} → k ≡ current r → k ≡ Syntax.Ident → BlockArm.Takes Taken.Instruction ≡ block-arm terminators r
 unfolding current
 ident-arm terminators [] c e = absurd (omega (arith, c, e))
-ident-arm terminators (s ∷ r) c e = sym (ident-here terminators r) ∙ ap (λ i. arm-of terminators (i ∷ r)) (sym e ∙ c)
+ident-arm terminators (s ∷ r) c e = sym (ident-here terminators r) ∙ ap (λ i. block-arm terminators (i ∷ r)) (sym e ∙ c)
 
 pub at-or : (s t : Sym → Bool) (r : List Sym) → at (λ k. s k || t k) r ≡ (at s r || at t r)
 unfolding at
@@ -88,42 +88,42 @@ plain-starter r e = rw (at-top-level-form-starter-in-block, e)
 
 -- ---- arms
 -- what the tests before an arm have shown
-abbrev pub Meant : Arm → List Sym → Type 0
-Meant (Arm.Takes Taken.Trivia) r = eof r ≡ false
-Meant (Arm.Takes Taken.Doc) r = eof r ≡ false
-Meant (Arm.Takes Taken.Instruction) r = at starts-instruction r ≡ true
-Meant (Arm.Takes Taken.Bad) r = eof r ≡ false
-Meant (Arm.Closes Closing.Eof) r = Unit {0}
-Meant (Arm.Closes Closing.Terminator) r = Unit {0}
-Meant (Arm.Closes Closing.StrayElse) r = Unit {0}
-Meant (Arm.Closes Closing.Item) r = at-top-level-form-starter-in-block r ≡ true
-Meant Arm.Control r = at control-flow r ≡ true
+abbrev pub Meant : BlockArm → List Sym → Type 0
+Meant (BlockArm.Takes Taken.Trivia) r = eof r ≡ false
+Meant (BlockArm.Takes Taken.Doc) r = eof r ≡ false
+Meant (BlockArm.Takes Taken.Instruction) r = at starts-instruction r ≡ true
+Meant (BlockArm.Takes Taken.Bad) r = eof r ≡ false
+Meant (BlockArm.Closes Closing.Eof) r = Unit {0}
+Meant (BlockArm.Closes Closing.Terminator) r = Unit {0}
+Meant (BlockArm.Closes Closing.StrayElse) r = Unit {0}
+Meant (BlockArm.Closes Closing.Item) r = at-top-level-form-starter-in-block r ≡ true
+Meant BlockArm.Control r = at control-flow r ≡ true
 
 meant-inner : (r : List Sym) → eof r ≡ false → Meant (inner-arm r) r
 unfolding inner-arm
 meant-inner r p = go (at-top-level-form-starter-in-block r) refl (at (is Syntax.DocComment) r) (at control-flow r) refl (at starts-instruction r) refl
   where
     go : (i : Bool) → at-top-level-form-starter-in-block r ≡ i → (d c : Bool) → at control-flow r ≡ c → (n : Bool) → at starts-instruction r ≡ n
-        → Meant (cond i (Arm.Closes Closing.Item) (cond d (Arm.Takes Taken.Doc) (cond c Arm.Control (cond n (Arm.Takes Taken.Instruction) (Arm.Takes Taken.Bad))))) r
+        → Meant (cond i (BlockArm.Closes Closing.Item) (cond d (BlockArm.Takes Taken.Doc) (cond c BlockArm.Control (cond n (BlockArm.Takes Taken.Instruction) (BlockArm.Takes Taken.Bad))))) r
     go true q d c w n x = q
     go false q true c w n x = p
     go false q false true w n x = w
     go false q false false w true x = x
     go false q false false w false x = p
 
-meant-of : (t : Terminators) (r : List Sym) → Meant (arm-of t r) r
-unfolding arm-of
+meant-of : (t : Terminators) (r : List Sym) → Meant (block-arm t r) r
+unfolding block-arm
 meant-of t r = go (eof r) refl (at-terminator t r) (at-regular-trivia r) (at-stray-else t r)
   where
     go : (e : Bool) → eof r ≡ e → (m v s : Bool)
-        → Meant (cond e (Arm.Closes Closing.Eof) (cond m (Arm.Closes Closing.Terminator) (cond v (Arm.Takes Taken.Trivia) (cond s (Arm.Closes Closing.StrayElse) (inner-arm r))))) r
+        → Meant (cond e (BlockArm.Closes Closing.Eof) (cond m (BlockArm.Closes Closing.Terminator) (cond v (BlockArm.Takes Taken.Trivia) (cond s (BlockArm.Closes Closing.StrayElse) (inner-arm r))))) r
     go true p m v s = tt
     go false p true v s = tt
     go false p false true s = p
     go false p false false true = tt
     go false p false false false = meant-inner r p
 
-pub meant : (t : Terminators) (r : List Sym) {a : Arm} (b : Arm) → a ≡ arm-of t r → a ≡ b → Meant b r
+pub meant : (t : Terminators) (r : List Sym) {a : BlockArm} (b : BlockArm) → a ≡ block-arm t r → a ≡ b → Meant b r
 meant t r b e f = subst (λ a. Meant a r) (sym e ∙ f) (meant-of t r)
 
 some-of : (r : List Sym) → eof r ≡ false → some r ≡ true
@@ -131,7 +131,7 @@ unfolding eof some
 some-of [] e = absurd (false≢true (sym e))
 some-of (s ∷ r) e = refl
 
-pub takes : (k : Taken) (r : List Sym) → Meant (Arm.Takes k) r → length (taking k r .rest) < length r
+pub takes : (k : Taken) (r : List Sym) → Meant (BlockArm.Takes k) r → length (taking k r .rest) < length r
 unfolding taking silent
 takes Taken.Trivia r h = eats-take .eats r (some-of r h)
 takes Taken.Doc r h = eats-error-token _ .eats r (some-of r h)
@@ -139,20 +139,20 @@ takes Taken.Instruction r h = eats-instruction .eats r h
 takes Taken.Bad r h = eats-error-token _ .eats r (some-of r h)
 
 -- ---- trivia before the rest of a block
-trivia-arm : (t : Terminators) (r : List Sym) → at regular-trivia r ≡ true → Arm.Takes Taken.Trivia ≡ arm-of t r
-unfolding arm-of
+trivia-arm : (t : Terminators) (r : List Sym) → at regular-trivia r ≡ true → BlockArm.Takes Taken.Trivia ≡ block-arm t r
+unfolding block-arm
 trivia-arm t r e = rw (at-some regular-trivia r e, trivia-no-end t r e, e)
 
 module _ (limit : ℕ) (owner : BlockOwner) (t : Terminators) (depth : ℕ) where
   trivia-first : (r : List Sym) → block-in limit owner t depth r ≡ (bump-while regular-trivia >> block-in limit owner t depth) r
-  unfolding bump-while while-round scan _>>=_ at by-arm taking take-token
+  unfolding bump-while while-round scan _>>=_ at by-block-arm taking take-token
   trivia-first [] = refl
   trivia-first (s ∷ r) = by-test (regular-trivia s) refl (trivia-first r)
     where
       by-test : (u : Bool) → regular-trivia s ≡ u → block-in limit owner t depth r ≡ (bump-while regular-trivia >> block-in limit owner t depth) r
           → block-in limit owner t depth (s ∷ r) ≡ (bump-while regular-trivia >> block-in limit owner t depth) (s ∷ r)
       by-test true e h =
-          rw e (block-by limit owner t depth (s ∷ r) (Arm.Takes Taken.Trivia) (trivia-arm t (s ∷ r) e)
+          rw e (block-by limit owner t depth (s ∷ r) (BlockArm.Takes Taken.Trivia) (trivia-arm t (s ∷ r) e)
           ∙ ap (λ x. record { rest = x .rest; out = leaf s (x .out); val = x .val }) h)
       by-test false e h = rw e refl
 
@@ -174,9 +174,9 @@ module _ {F : File} {w w′ : World} where
   deeper {r} d h = let z : d + 1 ≡ suc d = omega arith in subst (λ (n : ℕ). RanTo F (parse-control-flow (parse-block limit) n) w w′ r) z h
 
   -- a round of parse_block's loop, by its arm
-  pub round : (owner : BlockOwner) (terminators : Terminators) (depth : ℕ) {o : BlockParseOutcome} {a : Arm} (b : Arm) → a ≡ arm-of terminators (from F (w .c .pos)) → a ≡ b
-      → RanTo F (by-arm b (block-in limit) limit owner terminators depth) w w′ o → RanTo F (block-in limit owner terminators depth) w w′ o
-  round owner terminators depth b e f h = like-to (by-arm b (block-in limit) limit owner terminators depth) (block-by limit owner terminators depth _ b (sym f ∙ e)) h
+  pub round : (owner : BlockOwner) (terminators : Terminators) (depth : ℕ) {o : BlockParseOutcome} {a : BlockArm} (b : BlockArm) → a ≡ block-arm terminators (from F (w .c .pos)) → a ≡ b
+      → RanTo F (by-block-arm b (block-in limit) limit owner terminators depth) w w′ o → RanTo F (block-in limit owner terminators depth) w w′ o
+  round owner terminators depth b e f h = like-to (by-block-arm b (block-in limit) limit owner terminators depth) (block-by limit owner terminators depth _ b (sym f ∙ e)) h
 
   -- ---- the parts of a form
   pub opened : {v : ℕ} {lead : P Bool → P Bool} {u : World} → Wrote F v w u → ((next : P Bool) (z : World) (r : Bool) → RanTo F next w′ z r → RanTo F (lead next) u z r)
@@ -199,11 +199,11 @@ module _ {F : File} {w w′ : World} where
     here = i;
   }
 
-pub closed : {k k′ : Closing} {owner : BlockOwner} {w w′ u : World} {o : BlockParseOutcome} {i : Bool} → k ≡ k′ → ((F : File) → RanTo F (ending k′ owner) w u o)
+pub closed : {k k′ : Closing} {owner : BlockOwner} {w w′ u : World} {o : BlockParseOutcome} {i : Bool} → k ≡ k′ → ((F : File) → RanTo F (block-ending k′ owner) w u o)
     → ((F : File) → Wrote F 0 u w′) → w′ .c .pos ≡ w .c .pos → (i ≡ true → k′ ≡ Closing.Item) → Ended k owner w w′ o i
 closed {owner} {w} {u} {o} q h p n j = record {
   mid = u;
-  ran = λ F. subst (λ k. RanTo F (ending k owner) w u o) (sym q) (h F);
+  ran = λ F. subst (λ k. RanTo F (block-ending k owner) w u o) (sym q) (h F);
   wrote = p;
   onward = h [] .ran .onward farther p [] .onward;
   pos = n;

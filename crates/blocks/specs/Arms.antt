@@ -17,27 +17,28 @@ use Rattle.grammar.specs.declared.block.BlockRecoveryBoundary.{BlockRecoveryBou
 use Rattle.grammar.specs.declared.block.BlockParseOutcome.{BlockParseOutcome}
 use Rattle.grammar.specs.Bump.{bump, error-here, error-token}
 use Rattle.grammar.specs.Instruction.{parse-instruction}
+use Rattle.grammar.specs.Laws.Here.{if-arm}
 use Rattle.grammar.specs.Block.{Blocks, block-round, block-in, recover, reject-excessive-control-flow-nesting, parse-control-flow}
 use Rattle.grammar.specs.Theorems.NoFuel.{block-eq}
 use Rattle.blocks.specs.declared.arm.Taken.{Taken}
 use Rattle.blocks.specs.declared.arm.Closing.{Closing}
-use Rattle.blocks.specs.declared.arm.Arm.{Arm}
+use Rattle.blocks.specs.declared.arm.BlockArm.{BlockArm}
 
 -- the tests of block-round, in its order
-unfoldable pub inner-arm : List Sym → Arm
+unfoldable pub inner-arm : List Sym → BlockArm
 inner-arm r =
-    cond (at-top-level-form-starter-in-block r) (Arm.Closes Closing.Item)
-    (cond (at-kind DocComment r) (Arm.Takes Taken.Doc)
-    (cond (at-control-flow-operation r) Arm.Control
-    (cond (can-start-instruction r) (Arm.Takes Taken.Instruction)
-    (Arm.Takes Taken.Bad))))
+    cond (at-top-level-form-starter-in-block r) (BlockArm.Closes Closing.Item)
+    (cond (at-kind DocComment r) (BlockArm.Takes Taken.Doc)
+    (cond (at-control-flow-operation r) BlockArm.Control
+    (cond (can-start-instruction r) (BlockArm.Takes Taken.Instruction)
+    (BlockArm.Takes Taken.Bad))))
 
-unfoldable pub arm-of : Terminators → List Sym → Arm
-arm-of terminators r =
-    cond (eof r) (Arm.Closes Closing.Eof)
-    (cond (at-terminator terminators r) (Arm.Closes Closing.Terminator)
-    (cond (at-regular-trivia r) (Arm.Takes Taken.Trivia)
-    (cond (at-stray-else terminators r) (Arm.Closes Closing.StrayElse)
+unfoldable pub block-arm : Terminators → List Sym → BlockArm
+block-arm terminators r =
+    cond (eof r) (BlockArm.Closes Closing.Eof)
+    (cond (at-terminator terminators r) (BlockArm.Closes Closing.Terminator)
+    (cond (at-regular-trivia r) (BlockArm.Takes Taken.Trivia)
+    (cond (at-stray-else terminators r) (BlockArm.Closes Closing.StrayElse)
     (inner-arm r))))
 
 -- f, whose answer is not asked
@@ -50,38 +51,29 @@ taking Taken.Doc = error-token (Message.Block DocCommentInBlock)
 taking Taken.Instruction = silent parse-instruction
 taking Taken.Bad = error-token (Message.Block UnexpectedTokenInBlock)
 
-unfoldable pub ending : Closing → BlockOwner → P BlockParseOutcome
-ending Closing.Eof owner = error-here (Message.MissingEnd owner) >> pure BlockParseOutcome.ReachedEof
-ending Closing.Terminator owner = pure BlockParseOutcome.FoundTerminator
-ending Closing.StrayElse owner = recover owner BlockRecoveryBoundary.Else
-ending Closing.Item owner = recover owner BlockRecoveryBoundary.TopLevelItem
+unfoldable pub block-ending : Closing → BlockOwner → P BlockParseOutcome
+block-ending Closing.Eof owner = error-here (Message.MissingEnd owner) >> pure BlockParseOutcome.ReachedEof
+block-ending Closing.Terminator owner = pure BlockParseOutcome.FoundTerminator
+block-ending Closing.StrayElse owner = recover owner BlockRecoveryBoundary.Else
+block-ending Closing.Item owner = recover owner BlockRecoveryBoundary.TopLevelItem
 
 -- what block-round does in each
-unfoldable pub by-arm : Arm → Blocks → ℕ → Blocks
-by-arm (Arm.Takes t) again limit owner terminators depth = taking t >> again owner terminators depth
-by-arm (Arm.Closes k) again limit owner terminators depth = ending k owner
-by-arm Arm.Control again limit owner terminators depth =
+unfoldable pub by-block-arm : BlockArm → Blocks → ℕ → Blocks
+by-block-arm (BlockArm.Takes t) again limit owner terminators depth = taking t >> again owner terminators depth
+by-block-arm (BlockArm.Closes k) again limit owner terminators depth = block-ending k owner
+by-block-arm BlockArm.Control again limit owner terminators depth =
     pick (leb limit depth) (reject-excessive-control-flow-nesting >> pure BlockParseOutcome.ReachedEof)
     (parse-control-flow (λ o t d. inNode Block (again o t d)) (suc depth) >>= λ ended-here. pick ended-here (pure BlockParseOutcome.ReachedEof) (again owner terminators depth))
-
--- an `if`, as its test chooses between two arms
-pub if-arm : {A X : Type 0} (h : X → Res A) (t : List Sym → Bool) (f g : P A) (r : List Sym) {a b : X} → f r ≡ h a → g r ≡ h b → (if t then f else g) r ≡ h (cond (t r) a b)
-unfolding _>>=_ peek
-if-arm h t f g r {a} {b} p q = go (t r)
-  where
-    go : (u : Bool) → pick u f g r ≡ h (cond u a b)
-    go true = p
-    go false = q
 
 silent-is : {A B : Type 0} (f : P A) (g : P B) (r : List Sym) → (f >> g) r ≡ (silent f >> g) r
 unfolding _>>=_ silent
 silent-is f g r = refl
 
 round-is : (again : Blocks) (limit : ℕ) (owner : BlockOwner) (terminators : Terminators) (depth : ℕ) (r : List Sym)
-    → block-round again limit owner terminators depth r ≡ by-arm (arm-of terminators r) again limit owner terminators depth r
-unfolding block-round arm-of inner-arm by-arm taking ending
+    → block-round again limit owner terminators depth r ≡ by-block-arm (block-arm terminators r) again limit owner terminators depth r
+unfolding block-round block-arm inner-arm by-block-arm taking block-ending
 round-is again limit owner terminators depth r =
-    let h : Arm → Res BlockParseOutcome = λ a. by-arm a again limit owner terminators depth r in
+    let h : BlockArm → Res BlockParseOutcome = λ a. by-block-arm a again limit owner terminators depth r in
     if-arm h eof _ _ r refl
     (if-arm h (at-terminator terminators) _ _ r refl
     (if-arm h at-regular-trivia _ _ r refl
@@ -92,7 +84,7 @@ round-is again limit owner terminators depth r =
     (if-arm h can-start-instruction _ _ r (silent-is parse-instruction (again owner terminators depth) r) refl)))))))
 
 -- parse_block's loop, where this is the arm: the arm, and then the loop
-pub block-by : (limit : ℕ) (owner : BlockOwner) (terminators : Terminators) (depth : ℕ) (r : List Sym) (a : Arm) → a ≡ arm-of terminators r
-    → block-in limit owner terminators depth r ≡ by-arm a (block-in limit) limit owner terminators depth r
+pub block-by : (limit : ℕ) (owner : BlockOwner) (terminators : Terminators) (depth : ℕ) (r : List Sym) (a : BlockArm) → a ≡ block-arm terminators r
+    → block-in limit owner terminators depth r ≡ by-block-arm a (block-in limit) limit owner terminators depth r
 block-by limit owner terminators depth r a e =
-    block-eq limit owner terminators depth r ∙ round-is (block-in limit) limit owner terminators depth r ∙ ap (λ b. by-arm b (block-in limit) limit owner terminators depth r) (sym e)
+    block-eq limit owner terminators depth r ∙ round-is (block-in limit) limit owner terminators depth r ∙ ap (λ b. by-block-arm b (block-in limit) limit owner terminators depth r) (sym e)

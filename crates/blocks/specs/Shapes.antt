@@ -16,8 +16,8 @@ use Rattle.grammar.specs.Line.{parse-line-tail}
 use Rattle.grammar.specs.Block.{MAX-CONTROL-FLOW-NESTING as limit, Blocks, parse-structured-header-suffixes, found-terminator, reached-eof, ended, block-in, parse-block}
 use Rattle.parser.specs.Rep.{World, Onward, Past, Wrote, Ran, RanTo}
 use Rattle.blocks.specs.declared.arm.Closing.{Closing}
-use Rattle.blocks.specs.declared.arm.Arm.{Arm}
-use Rattle.blocks.specs.Arms.{arm-of, ending}
+use Rattle.blocks.specs.declared.arm.BlockArm.{BlockArm}
+use Rattle.blocks.specs.Arms.{block-arm, block-ending}
 
 -- What stands before a form's block, and then the rest of the form.
 abbrev pub header : Sym → P Bool → P Bool
@@ -69,7 +69,7 @@ pub record Recovered (owner : BlockOwner) (boundary : BlockRecoveryBoundary) (w 
 -- a block's end, and its closing event
 pub record Ended (k : Closing) (owner : BlockOwner) (w w′ : World) (outcome : BlockParseOutcome) (item : Bool) : Type 0 where
   pub mid : World
-  pub ran : (F : File) → RanTo F (ending k owner) w mid outcome
+  pub ran : (F : File) → RanTo F (block-ending k owner) w mid outcome
   pub wrote : (F : File) → Wrote F 0 mid w′
   pub onward : Onward w w′
   pub pos : w′ .c .pos ≡ w .c .pos
@@ -87,7 +87,7 @@ pub record Finished (F : File) (owner : BlockOwner) (outcome : BlockParseOutcome
 -- They come to a form below the limit: what is left of the block from there is what was left of it before.
 pub record AtForm (F : File) (owner : BlockOwner) (terminators : Terminators) (depth : ℕ) (w w′ : World) (word : Sym) : Type 0 where
   pub on : (v : World) (r : BlockParseOutcome) → RanTo F (block-in limit owner terminators depth) w′ v r → RanTo F (block-in limit owner terminators depth) w v r
-  pub arm : arm-of terminators (from F (w′ .c .pos)) ≡ Arm.Control
+  pub arm : block-arm terminators (from F (w′ .c .pos)) ≡ BlockArm.Control
   pub first : word ≡ current (from F (w′ .c .pos))
   pub below : depth < limit
 
@@ -106,7 +106,7 @@ pub record Rounded (F : File) (owner : BlockOwner) (terminators : Terminators) (
 -- at a form, in whatever block
 pub record FormHere (F : File) (depth : ℕ) (w w′ : World) (outcome : BlockParseOutcome) (item control : Bool) (word : Sym) : Type 0 where
   pub onward : Onward w w′
-  pub of : (owner : BlockOwner) (terminators : Terminators) → arm-of terminators (from F (w .c .pos)) ≡ Arm.Control → Rounded F owner terminators depth w w′ outcome item control word
+  pub of : (owner : BlockOwner) (terminators : Terminators) → block-arm terminators (from F (w .c .pos)) ≡ BlockArm.Control → Rounded F owner terminators depth w w′ outcome item control word
 
 -- the same behind the block's opening event
 pub record Begun (F : File) (owner : BlockOwner) (terminators : Terminators) (depth : ℕ) (w w′ : World) (outcome : BlockParseOutcome) (item control : Bool) (word : Sym) : Type 0 where

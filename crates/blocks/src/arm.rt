@@ -16,7 +16,7 @@ ghost use mathlib.Core.Path.{_≡_};
 ghost use lib.ListN.{length, drop};
 ghost use Rattle.grammar.specs.Look.{control-flow};
 ghost use Rattle.parser.specs.Ahead.{DocKnown};
-ghost use Rattle.blocks.specs.Arms.{arm-of, inner-arm};
+ghost use Rattle.blocks.specs.Arms.{block-arm, inner-arm};
 ghost use Rattle.blocks.specs.Shapes.{ItemAt};
 
 // Tokens are taken, and there is another round.
@@ -35,7 +35,7 @@ pub enum Closing {
     Item,
 }
 
-pub enum Arm {
+pub enum BlockArm {
     Takes(Taken),
     Closes(Closing),
     Control,
@@ -43,7 +43,7 @@ pub enum Arm {
 
 // The arm, and what is remembered of the lookahead behind doc comments.
 pub struct Seen {
-    pub arm: Arm,
+    pub arm: BlockArm,
     pub known: Remembered,
 }
 
@@ -53,14 +53,14 @@ fn is_control_flow(k: u16) -> bool
     in_words(CONTROL_FLOW, k)
 }
 
-// The tests behind those of `arm_here`. Where `item` holds, a block inside ended at an item that starts here.
+// The tests behind those of `block_arm_here`. Where `item` holds, a block inside ended at an item that starts here.
 fn inner_arm(kinds: &[u16], p: usize, known: Remembered, item: bool) -> Seen
     requires { ⌜ (DocKnown (now kinds) p known) × (ItemAt (now kinds) p item) ⌝ }
     ensures { λ r. ⌜ (r .arm ≡ inner-arm (drop p (now (kinds .entry)))) × (DocKnown (now (kinds .entry)) p (r .known)) ⌝ }
 {
     if item {
         return Seen {
-            arm: Arm::Closes(Closing::Item),
+            arm: BlockArm::Closes(Closing::Item),
             known: known,
         };
     }
@@ -69,42 +69,42 @@ fn inner_arm(kinds: &[u16], p: usize, known: Remembered, item: bool) -> Seen
         let doc = starts_behind_doc(kinds, p, known);
         if doc.starts {
             return Seen {
-                arm: Arm::Closes(Closing::Item),
+                arm: BlockArm::Closes(Closing::Item),
                 known: doc,
             };
         }
         return Seen {
-            arm: Arm::Takes(Taken::Doc),
+            arm: BlockArm::Takes(Taken::Doc),
             known: doc,
         };
     }
     if is_top_level_starter(kinds, p) {
         return Seen {
-            arm: Arm::Closes(Closing::Item),
+            arm: BlockArm::Closes(Closing::Item),
             known: known,
         };
     }
     if is_control_flow(k) {
         return Seen {
-            arm: Arm::Control,
+            arm: BlockArm::Control,
             known: known,
         };
     }
     if starts_instruction(k) {
         return Seen {
-            arm: Arm::Takes(Taken::Instruction),
+            arm: BlockArm::Takes(Taken::Instruction),
             known: known,
         };
     }
     Seen {
-        arm: Arm::Takes(Taken::Bad),
+        arm: BlockArm::Takes(Taken::Bad),
         known: known,
     }
 }
 
 // The tests of a round. Trivia and identifiers that are no words are met most, and are neither the end of the file nor a
 // terminator nor a form's or an item's start, so they are tested first.
-pub fn arm_here(
+pub fn block_arm_here(
     kinds: &[u16],
     p: usize,
     terminators: Terminators,
@@ -112,36 +112,36 @@ pub fn arm_here(
     item: bool,
 ) -> Seen
     requires { ⌜ (DocKnown (now kinds) p known) × (ItemAt (now kinds) p item) ⌝ }
-    ensures { λ r. ⌜ (r .arm ≡ arm-of terminators (drop p (now (kinds .entry)))) × (DocKnown (now (kinds .entry)) p (r .known)) ⌝ }
+    ensures { λ r. ⌜ (r .arm ≡ block-arm terminators (drop p (now (kinds .entry)))) × (DocKnown (now (kinds .entry)) p (r .known)) ⌝ }
 {
     let k = current(kinds, p);
     if is_regular_trivia(k) {
         return Seen {
-            arm: Arm::Takes(Taken::Trivia),
+            arm: BlockArm::Takes(Taken::Trivia),
             known: known,
         };
     }
     if k == IDENT {
         return Seen {
-            arm: Arm::Takes(Taken::Instruction),
+            arm: BlockArm::Takes(Taken::Instruction),
             known: known,
         };
     }
     if eof(kinds, p) {
         return Seen {
-            arm: Arm::Closes(Closing::Eof),
+            arm: BlockArm::Closes(Closing::Eof),
             known: known,
         };
     }
     if at_terminator(kinds, p, terminators) {
         return Seen {
-            arm: Arm::Closes(Closing::Terminator),
+            arm: BlockArm::Closes(Closing::Terminator),
             known: known,
         };
     }
     if at_stray_else(kinds, p, terminators) {
         return Seen {
-            arm: Arm::Closes(Closing::StrayElse),
+            arm: BlockArm::Closes(Closing::StrayElse),
             known: known,
         };
     }

@@ -1,6 +1,6 @@
 // The rounds of parse_block's loop up to its next form. They make no call into the cycle, so their locals stand in none of its frames.
-use crate::arm::Arm;
-use crate::arm::arm_here;
+use crate::arm::BlockArm;
+use crate::arm::block_arm_here;
 use crate::close::close;
 use crate::reject::reject_excessive_control_flow_nesting;
 use crate::step::take;
@@ -95,17 +95,17 @@ fn rounds(
         starts: false,
     };
     loop {
-        let seen = arm_here(kinds, c.pos, terminators, known, item);
+        let seen = block_arm_here(kinds, c.pos, terminators, known, item);
         let a = seen.arm;
         known = seen.known;
         match a {
-            Arm::Takes(t) => {
+            BlockArm::Takes(t) => {
                 let d = take(kinds, ev, dm, ds, c, t);
                 c = bump_regular_trivia(kinds, ev, dm, ds, d);
                 item = false;
                 continue;
             }
-            Arm::Closes(k) => {
+            BlockArm::Closes(k) => {
                 let e = close(ev, dm, ds, c, owner, k);
                 let ec = e.c;
                 let outcome = e.outcome;
@@ -117,7 +117,7 @@ fn rounds(
                     item: e.item,
                 };
             }
-            Arm::Control => {
+            BlockArm::Control => {
                 return form_here(kinds, ev, dm, ds, c, depth);
             }
         }

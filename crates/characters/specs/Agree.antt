@@ -10,7 +10,7 @@ use lib.ListN.{length, take, drop, length-append}
 use lib.Seq.{take-append-seam, drop-append-seam}
 use Rattle.lexer.specs.Syntax.{SpecialIdent, Error}
 use Rattle.lexer.specs.Chars.{word}
-use Rattle.lexer.specs.Lexer.{Lexeme, Lex, one, later, pick, follow, advance-while, run, same, kernel, exec, special}
+use Rattle.lexer.specs.Lexer.{Lexeme, LexRule, lex-one, later, choose, follow, advance-while, lex-while, same, kernel, exec, special}
 use Rattle.utf8.specs.Scalar.{encode}
 use Rattle.characters.specs.Text.{encode-all}
 use Rattle.characters.specs.Spelling.{HighBytes, Spelling, ascii, wide, spelling}
@@ -21,16 +21,16 @@ abbrev pub spelled : Lexeme → List ℕ → Lexeme
 spelled t cs = record { kind = t .kind; more = length (encode-all (take (t .more) cs)) }
 
 -- over the bytes f takes the bytes of those characters that it takes over the characters, and gives them the same kind
-pub record Agrees (f : Lex) : Type 0 where
+pub record Agrees (f : LexRule) : Type 0 where
   pub agrees : (cs : List ℕ) → f (encode-all cs) ≡ spelled (f cs) cs
 
-pub agree-one : (k : ℕ) → Agrees (one k)
+pub agree-one : (k : ℕ) → Agrees (lex-one k)
 unfolding encode-all
 agree-one k = record { agrees = λ cs. refl }
 
-pub agree-pick : (t : Bool) {f g : Lex} → Agrees f → Agrees g → Agrees (pick t f g)
-agree-pick true p q = p
-agree-pick false p q = q
+pub agree-choose : (t : Bool) {f g : LexRule} → Agrees f → Agrees g → Agrees (choose t f g)
+agree-choose true p q = p
+agree-choose false p q = q
 
 -- one ASCII character more in front
 pub spelled-later : (c : ℕ) (t : Lexeme) (r : List ℕ) → encode c ≡ c ∷ [] → spelled (later t) (c ∷ r) ≡ later (spelled t r)
@@ -38,7 +38,7 @@ unfolding encode-all
 spelled-later c t r e = rw e
 
 -- current_char() == Some(x), of an x in ASCII
-module _ (x : ℕ) (l : ltb x 0x80 ≡ true) (f g : Lex) (p : Agrees f) (q : Agrees g) where
+module _ (x : ℕ) (l : ltb x 0x80 ≡ true) (f g : LexRule) (p : Agrees f) (q : Agrees g) where
   follows : (cs : List ℕ) → follow x f g (encode-all cs) ≡ spelled (follow x f g cs) cs
   unfolding follow encode-all
   follows [] = q .agrees []
@@ -54,20 +54,20 @@ module _ (x : ℕ) (l : ltb x 0x80 ≡ true) (f g : Lex) (p : Agrees f) (q : Agr
       by-spelling (wide b bs h e w n) =
           rw (e, follow, not-at b (w .0) x l, not-at c h x l) (rw e at (q .agrees (c ∷ r)))
 
-pub agree-follow : (x : ℕ) {f g : Lex} → ltb x 0x80 ≡ true → Agrees f → Agrees g → Agrees (follow x f g)
+pub agree-follow : (x : ℕ) {f g : LexRule} → ltb x 0x80 ≡ true → Agrees f → Agrees g → Agrees (follow x f g)
 agree-follow x {f} {g} l p q = record { agrees = follows x l f g p q }
 
 -- advance_while, with a test that gives one answer on all numbers from 0x80 on
-abbrev pub Plain : (ℕ → Bool) → Bool → Type 0
-Plain p t = (n : ℕ) → 0x80 ≤ n → p n ≡ t
+abbrev pub UniformAboveAscii : (ℕ → Bool) → Bool → Type 0
+UniformAboveAscii p t = (n : ℕ) → 0x80 ≤ n → p n ≡ t
 
-advance-high : (p : ℕ → Bool) → Plain p true → (bs s : List ℕ) → HighBytes bs → advance-while p (bs ++ s) ≡ length bs + advance-while p s
+advance-high : (p : ℕ → Bool) → UniformAboveAscii p true → (bs s : List ℕ) → HighBytes bs → advance-while p (bs ++ s) ≡ length bs + advance-while p s
 unfolding advance-while
 advance-high p a [] s w = omega arith
 advance-high p a (b ∷ bs) s w = rw (a b (w .0), advance-high p a bs s (w .1)) (omega arith)
 
 module _ (p : ℕ → Bool) where
-  advance-wide : (t : Bool) → Plain p t → (c : ℕ) (r : List ℕ) (b : ℕ) (bs : List ℕ) → 0x80 ≤ c → encode c ≡ b ∷ bs → HighBytes (b ∷ bs)
+  advance-wide : (t : Bool) → UniformAboveAscii p t → (c : ℕ) (r : List ℕ) (b : ℕ) (bs : List ℕ) → 0x80 ≤ c → encode c ≡ b ∷ bs → HighBytes (b ∷ bs)
       → advance-while p (encode-all r) ≡ length (encode-all (take (advance-while p r) r))
       → advance-while p (b ∷ (bs ++ encode-all r)) ≡ length (encode-all (take (advance-while p (c ∷ r)) (c ∷ r)))
   unfolding advance-while encode-all
@@ -75,7 +75,7 @@ module _ (p : ℕ → Bool) where
       rw (a c h, e, length-append, ← again) (advance-high p a (b ∷ bs) (encode-all r) w)
   advance-wide false a c r b bs h e w again = rw (a b (w .0), a c h)
 
-  pub advance-agrees : (t : Bool) → Plain p t → (cs : List ℕ)
+  pub advance-agrees : (t : Bool) → UniformAboveAscii p t → (cs : List ℕ)
       → advance-while p (encode-all cs) ≡ length (encode-all (take (advance-while p cs) cs))
   unfolding advance-while encode-all
   advance-agrees t a [] = refl
@@ -91,9 +91,9 @@ module _ (p : ℕ → Bool) where
           by-test false = refl
       by-spelling (wide b bs h e w n) again = rw e (advance-wide t a c r b bs h e w again)
 
-pub agree-run : (k : ℕ) (p : ℕ → Bool) (t : Bool) → Plain p t → Agrees (run k p)
-unfolding run
-agree-run k p t a = record { agrees = λ cs. ap (λ (n : ℕ). record { kind = k; more = n }) (advance-agrees p t a cs) }
+pub agree-while : (k : ℕ) (p : ℕ → Bool) (t : Bool) → UniformAboveAscii p t → Agrees (lex-while k p)
+unfolding lex-while
+agree-while k p t a = record { agrees = λ cs. ap (λ (n : ℕ). record { kind = k; more = n }) (advance-agrees p t a cs) }
 
 -- the bytes of the first m characters, and those behind them
 encode-split : (m : ℕ) (cs : List ℕ) → encode-all cs ≡ encode-all (take m cs) ++ encode-all (drop m cs)
@@ -115,7 +115,7 @@ module _ (m : ℕ) (cs : List ℕ) where
       ap (drop (length front)) (encode-split m cs) ∙ drop-append-seam front (encode-all (drop m cs))
 
 -- lex_identifier: what is passed over is ASCII, and so its own bytes
-ascii-run : (p : ℕ → Bool) → Plain p false → (cs : List ℕ) → encode-all (take (advance-while p cs) cs) ≡ take (advance-while p cs) cs
+ascii-run : (p : ℕ → Bool) → UniformAboveAscii p false → (cs : List ℕ) → encode-all (take (advance-while p cs) cs) ≡ take (advance-while p cs) cs
 unfolding advance-while encode-all
 ascii-run p a [] = refl
 ascii-run p a (c ∷ r) = by-test (p c) refl (spelling c) (ascii-run p a r)

@@ -12,29 +12,29 @@ use lib.Seq.{take-append-seam}
 use Rattle.utf8.specs.Width.{width, width-one}
 use Rattle.lexer.specs.Syntax.{Error, Ident}
 use Rattle.lexer.specs.Chars.{blank, letter, word, decimal, hex, binary, class, punctuation}
-use Rattle.lexer.specs.Lexer.{Lex, one, pick, run, special, in-line, comment, number, stray, arm, next}
+use Rattle.lexer.specs.Lexer.{LexRule, lex-one, choose, lex-while, special, in-line, comment, lex-number, stray, arm, next}
 use Rattle.characters.specs.Text.{encode-all}
 use Rattle.characters.specs.CharLexer.{char-quoted, char-match, char-next}
 use Rattle.characters.specs.Tests.{no-blank, no-hex, no-binary, no-decimal, no-word, all-in-line, match-other}
-use Rattle.characters.specs.Agree.{Agrees, spelled, agree-one, agree-pick, agree-follow, agree-run, agree-special}
+use Rattle.characters.specs.Agree.{Agrees, spelled, agree-one, agree-choose, agree-follow, agree-while, agree-special}
 use Rattle.characters.specs.AgreeQuoted.{agree-quoted}
 use Rattle.characters.specs.Quote.{char-quoted-is}
 
 -- the arm of a class that is chosen by a test
-arm-cond : (t : Bool) (x y b : ℕ) → arm (cond t x y) b ≡ pick t (arm x b) (arm y b)
+arm-cond : (t : Bool) (x y b : ℕ) → arm (cond t x y) b ≡ choose t (arm x b) (arm y b)
 arm-cond true x y b = refl
 arm-cond false x y b = refl
 
 -- a match in a match is one match
-trivia-flat : (x y z w : Bool) (f g h k o : Lex)
-    → pick (x || (y || (z || w))) (pick x f (pick y g (pick z h k))) o ≡ pick x f (pick y g (pick z h (pick w k o)))
+trivia-flat : (x y z w : Bool) (f g h k o : LexRule)
+    → choose (x || (y || (z || w))) (choose x f (choose y g (choose z h k))) o ≡ choose x f (choose y g (choose z h (choose w k o)))
 trivia-flat true y z w f g h k o = refl
 trivia-flat false true z w f g h k o = refl
 trivia-flat false false true w f g h k o = refl
 trivia-flat false false false true f g h k o = refl
 trivia-flat false false false false f g h k o = refl
 
-identifier-flat : (x y : Bool) (f g o : Lex) → (x ≡ true → y ≡ false) → pick (x || y) (pick y f g) o ≡ pick x g (pick y f o)
+identifier-flat : (x y : Bool) (f g o : LexRule) → (x ≡ true → y ≡ false) → choose (x || y) (choose y f g) o ≡ choose x g (choose y f o)
 identifier-flat true y f g o v = rw (v refl)
 identifier-flat false true f g o v = refl
 identifier-flat false false f g o v = refl
@@ -51,55 +51,55 @@ next-match : (b : ℕ) → next b ≡ char-match b (stray b)
 unfolding next class punctuation char-match
 next-match b =
     simp arm-cond
-    (rw (char-quoted-is, trivia-flat, identifier-flat (letter b) (eqb b 36) special (run Ident word) _ (no-dollar b))
+    (rw (char-quoted-is, trivia-flat, identifier-flat (letter b) (eqb b 36) special (lex-while Ident word) _ (no-dollar b))
     (unfold arm in refl))
 
 -- the runs of lexer.rs: in-line goes on over every number from 0x80 on, the others stop
 module _ (k : ℕ) where
-  run-blank : Agrees (run k blank)
-  run-blank = agree-run k blank false no-blank
+  run-blank : Agrees (lex-while k blank)
+  run-blank = agree-while k blank false no-blank
 
-  run-word : Agrees (run k word)
-  run-word = agree-run k word false no-word
+  run-word : Agrees (lex-while k word)
+  run-word = agree-while k word false no-word
 
-  run-decimal : Agrees (run k decimal)
-  run-decimal = agree-run k decimal false no-decimal
+  run-decimal : Agrees (lex-while k decimal)
+  run-decimal = agree-while k decimal false no-decimal
 
-  run-hex : Agrees (run k hex)
-  run-hex = agree-run k hex false no-hex
+  run-hex : Agrees (lex-while k hex)
+  run-hex = agree-while k hex false no-hex
 
-  run-binary : Agrees (run k binary)
-  run-binary = agree-run k binary false no-binary
+  run-binary : Agrees (lex-while k binary)
+  run-binary = agree-while k binary false no-binary
 
-  run-in-line : Agrees (run k in-line)
-  run-in-line = agree-run k in-line true all-in-line
+  run-in-line : Agrees (lex-while k in-line)
+  run-in-line = agree-while k in-line true all-in-line
 
 agree-comment : Agrees comment
 agree-comment = search (agree-follow, run-in-line)
 
-agree-number : (c : ℕ) → Agrees (number c)
-agree-number c = search (agree-pick, agree-follow, run-decimal, run-hex, run-binary) depth 8
+agree-number : (c : ℕ) → Agrees (lex-number c)
+agree-number c = search (agree-choose, agree-follow, run-decimal, run-hex, run-binary) depth 8
 
 agree-char-quoted : Agrees (char-quoted false true)
 agree-char-quoted = rw char-quoted-is (agree-quoted true)
 
-agree-match : (c : ℕ) → Agrees (char-match c (one Error))
+agree-match : (c : ℕ) → Agrees (char-match c (lex-one Error))
 unfolding char-match
 agree-match c =
-    search (agree-one, agree-pick, agree-follow, run-blank, run-word, agree-comment, agree-number, agree-special, agree-char-quoted)
+    search (agree-one, agree-choose, agree-follow, run-blank, run-word, agree-comment, agree-number, agree-special, agree-char-quoted)
     depth 40
 
 -- a character that is its own byte
-stray-ascii : (c : ℕ) → c < 0x80 → stray c ≡ one Error
+stray-ascii : (c : ℕ) → c < 0x80 → stray c ≡ lex-one Error
 unfolding stray
 stray-ascii c h =
-    ap {B = Lex} (λ (n : ℕ) (r : List ℕ). record { kind = Error; more = length (take (pred n) r) }) (width-one c (omega arith))
+    ap {B = LexRule} (λ (n : ℕ) (r : List ℕ). record { kind = Error; more = length (take (pred n) r) }) (width-one c (omega arith))
 
 pub next-ascii : (c : ℕ) → c < 0x80 → (r : List ℕ) → next c (encode-all r) ≡ spelled (char-next c r) r
 unfolding char-next
 next-ascii c h r =
-    ap (λ (f : Lex). f (encode-all r)) (next-match c)
-    ∙ ap (λ (f : Lex). char-match c f (encode-all r)) (stray-ascii c h)
+    ap (λ (f : LexRule). f (encode-all r)) (next-match c)
+    ∙ ap (λ (f : LexRule). char-match c f (encode-all r)) (stray-ascii c h)
     ∙ agree-match c .agrees r
 
 -- the first byte of any other, and the bytes behind it: one stray character
@@ -107,9 +107,9 @@ pub next-wide : (b : ℕ) (bs s : List ℕ) → 0x80 ≤ b → width b ≡ suc (
     → next b (bs ++ s) ≡ record { kind = Error; more = length bs }
 unfolding stray
 next-wide b bs s h n =
-    ap (λ (f : Lex). f (bs ++ s)) (next-match b ∙ match-other b h (stray b))
+    ap (λ (f : LexRule). f (bs ++ s)) (next-match b ∙ match-other b h (stray b))
     ∙ rw (n, take-append-seam)
 
-pub char-next-wide : (c : ℕ) (r : List ℕ) → 0x80 ≤ c → char-next c r ≡ one Error r
+pub char-next-wide : (c : ℕ) (r : List ℕ) → 0x80 ≤ c → char-next c r ≡ lex-one Error r
 unfolding char-next
-char-next-wide c r h = ap (λ (f : Lex). f r) (match-other c h (one Error))
+char-next-wide c r h = ap (λ (f : LexRule). f r) (match-other c h (lex-one Error))

@@ -11,7 +11,7 @@ use lib.Dec.{eqb}
 use lib.ListN.{take}
 use Rattle.lexer.specs.Syntax.{Error, Whitespace, Newline, Ident, QuotedIdent, QuotedString, At, Bang, Colon, ColonColon, Comma, Equal, LAngle, LBrace, LBracket, LParen, Minus, Plus, RAngle, RArrow, RBrace, RBracket, RParen, Semicolon, Slash, SlashSlash, Star}
 use Rattle.lexer.specs.Chars.{blank, line-end, decimal, letter, word, graphic}
-use Rattle.lexer.specs.Lexer.{Lexeme, Lex, one, later, pick, follow, run, cr, comment, special, number, dots, Token}
+use Rattle.lexer.specs.Lexer.{Lexeme, LexRule, lex-one, later, choose, follow, lex-while, cr, comment, special, lex-number, dots, Token}
 use Rattle.characters.specs.Text.{encode-all}
 
 -- ch == x
@@ -19,16 +19,16 @@ abbrev pub is-char : Char → ℕ → Bool
 is-char x c = eqb c (code x)
 
 -- lex_trivia
-abbrev pub char-trivia : ℕ → Lex
+abbrev pub char-trivia : ℕ → LexRule
 char-trivia first =
-    pick (blank first) (run Whitespace blank)
-    (pick (is-char "\n" first) (one Newline)
-    (pick (is-char "\r" first) cr
+    choose (blank first) (lex-while Whitespace blank)
+    (choose (is-char "\n" first) (lex-one Newline)
+    (choose (is-char "\r" first) cr
     comment))
 
 -- lex_identifier
-abbrev pub char-identifier : ℕ → Lex
-char-identifier first = pick (is-char "$" first) special (run Ident word)
+abbrev pub char-identifier : ℕ → LexRule
+char-identifier first = choose (is-char "$" first) special (lex-while Ident word)
 
 -- what lex_quoted gives where the quote was not closed, and where it was, by its flags
 abbrev pub unclosed-quote : Lexeme
@@ -39,7 +39,7 @@ closed-quote escaped identifier-like = record { kind = cond (escaped || not iden
 
 -- while let Some(ch) = self.current_char() { match ch { .. } }; behind a backslash the next character is taken, if there is one
 unfoldable mutual
-  pub char-quoted : (escaped identifier-like : Bool) → Lex
+  pub char-quoted : (escaped identifier-like : Bool) → LexRule
   char-quoted escaped identifier-like [] = unclosed-quote
   char-quoted escaped identifier-like (c ∷ r) =
       let t = later (char-escaped r) in
@@ -49,41 +49,41 @@ unfoldable mutual
       (cond (is-char "\"" c) (closed-quote escaped identifier-like)
       u))
 
-  pub char-escaped : Lex
+  pub char-escaped : LexRule
   char-escaped [] = unclosed-quote
   char-escaped (c ∷ r) = later (char-quoted true false r)
 
 -- match current { .. }; `other` stands for what its last arm, `_`, does
-unfoldable pub char-match : ℕ → Lex → Lex
+unfoldable pub char-match : ℕ → LexRule → LexRule
 char-match c other =
-    pick (blank c || (is-char "\n" c || (is-char "\r" c || is-char "#" c))) (char-trivia c)
-    (pick (letter c || is-char "$" c) (char-identifier c)
-    (pick (decimal c) (number c)
-    (pick (is-char "\"" c) (char-quoted false true)
-    (pick (is-char "@" c) (one At)
-    (pick (is-char "!" c) (one Bang)
-    (pick (is-char ":" c) (follow (code ":") (one ColonColon) (one Colon))
-    (pick (is-char "," c) (one Comma)
-    (pick (is-char "." c) dots
-    (pick (is-char "=" c) (one Equal)
-    (pick (is-char "<" c) (one LAngle)
-    (pick (is-char ">" c) (one RAngle)
-    (pick (is-char "{" c) (one LBrace)
-    (pick (is-char "}" c) (one RBrace)
-    (pick (is-char "[" c) (one LBracket)
-    (pick (is-char "]" c) (one RBracket)
-    (pick (is-char "(" c) (one LParen)
-    (pick (is-char ")" c) (one RParen)
-    (pick (is-char "-" c) (follow (code ">") (one RArrow) (one Minus))
-    (pick (is-char "+" c) (one Plus)
-    (pick (is-char "/" c) (follow (code "/") (one SlashSlash) (one Slash))
-    (pick (is-char "*" c) (one Star)
-    (pick (is-char ";" c) (one Semicolon)
+    choose (blank c || (is-char "\n" c || (is-char "\r" c || is-char "#" c))) (char-trivia c)
+    (choose (letter c || is-char "$" c) (char-identifier c)
+    (choose (decimal c) (lex-number c)
+    (choose (is-char "\"" c) (char-quoted false true)
+    (choose (is-char "@" c) (lex-one At)
+    (choose (is-char "!" c) (lex-one Bang)
+    (choose (is-char ":" c) (follow (code ":") (lex-one ColonColon) (lex-one Colon))
+    (choose (is-char "," c) (lex-one Comma)
+    (choose (is-char "." c) dots
+    (choose (is-char "=" c) (lex-one Equal)
+    (choose (is-char "<" c) (lex-one LAngle)
+    (choose (is-char ">" c) (lex-one RAngle)
+    (choose (is-char "{" c) (lex-one LBrace)
+    (choose (is-char "}" c) (lex-one RBrace)
+    (choose (is-char "[" c) (lex-one LBracket)
+    (choose (is-char "]" c) (lex-one RBracket)
+    (choose (is-char "(" c) (lex-one LParen)
+    (choose (is-char ")" c) (lex-one RParen)
+    (choose (is-char "-" c) (follow (code ">") (lex-one RArrow) (lex-one Minus))
+    (choose (is-char "+" c) (lex-one Plus)
+    (choose (is-char "/" c) (follow (code "/") (lex-one SlashSlash) (lex-one Slash))
+    (choose (is-char "*" c) (lex-one Star)
+    (choose (is-char ";" c) (lex-one Semicolon)
     other))))))))))))))))))))))
 
 -- _ => { self.advance_char(); Error }
-unfoldable pub char-next : ℕ → Lex
-char-next c = char-match c (one Error)
+unfoldable pub char-next : ℕ → LexRule
+char-next c = char-match c (lex-one Error)
 
 -- tokenize, with as many characters to pass over first: those of the token before
 unfoldable pub char-tokens : ℕ → List ℕ → List Token

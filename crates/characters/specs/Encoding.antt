@@ -7,7 +7,7 @@ use mathlib.Core.List.{List, [], _∷_}
 use native.Mathlib.Omega.{arith}
 use borrow.Author.Tests.{ltb-true, ltb-false, lt-ltb, le-ltb}
 use lib.Dec.{ltb}
-use Rattle.utf8.specs.Table.{_⋯_, Row, table}
+use Rattle.utf8.specs.Table.{_⋯_, Row, table-3-7}
 use Rattle.utf8.specs.Last.{Continuation}
 use Rattle.utf8.specs.WellFormed.{Sequence, done, byte, Character, here, there}
 use Rattle.utf8.specs.Scalar.{Scalar, below, above, encode}
@@ -63,19 +63,19 @@ below-or-from c n P f g = go (ltb c n) refl
     go false e = g (ltb-false c n e)
 
 -- every scalar value's encoding is a sequence of the table
-pub encode-character : {c : ℕ} → Scalar c → Character table (encode c)
-unfolding table
+pub encode-character : {c : ℕ} → Scalar c → Character table-3-7 (encode c)
+unfolding table-3-7
 encode-character (below {c} h) =
-    below-or-from c 0x80 (Character table (encode c)) (λ a. rw (encode-one c a) (of-row 0 table _ (omega arith))) (λ a.
-    below-or-from c 0x800 (Character table (encode c)) (λ b. rw (encode-two c a b) (of-row 1 table _ (omega arith))) (λ b.
+    below-or-from c 0x80 (Character table-3-7 (encode c)) (λ a. rw (encode-one c a) (of-row 0 table-3-7 _ (omega arith))) (λ a.
+    below-or-from c 0x800 (Character table-3-7 (encode c)) (λ b. rw (encode-two c a b) (of-row 1 table-3-7 _ (omega arith))) (λ b.
     rw (encode-three c b (omega arith))
-    (below-or-from c 0x1000 _ (λ d. of-row 2 table _ (omega arith)) (λ d.
-    below-or-from c 0xD000 _ (λ e. of-row 3 table _ (omega arith)) (λ e. of-row 4 table _ (omega arith))))))
+    (below-or-from c 0x1000 _ (λ d. of-row 2 table-3-7 _ (omega arith)) (λ d.
+    below-or-from c 0xD000 _ (λ e. of-row 3 table-3-7 _ (omega arith)) (λ e. of-row 4 table-3-7 _ (omega arith))))))
 encode-character (above {c} l h) =
-    below-or-from c 0x10000 (Character table (encode c)) (λ a. rw (encode-three c (omega arith) a) (of-row 5 table _ (omega arith))) (λ a.
+    below-or-from c 0x10000 (Character table-3-7 (encode c)) (λ a. rw (encode-three c (omega arith) a) (of-row 5 table-3-7 _ (omega arith))) (λ a.
     rw (encode-four c a)
-    (below-or-from c 0x40000 _ (λ d. of-row 6 table _ (omega arith)) (λ d.
-    below-or-from c 0x100000 _ (λ e. of-row 7 table _ (omega arith)) (λ e. of-row 8 table _ (omega arith)))))
+    (below-or-from c 0x40000 _ (λ d. of-row 6 table-3-7 _ (omega arith)) (λ d.
+    below-or-from c 0x100000 _ (λ e. of-row 7 table-3-7 _ (omega arith)) (λ e. of-row 8 table-3-7 _ (omega arith)))))
 
 -- the number that a sequence encodes
 unfoldable pub scalar-of : List ℕ → ℕ
@@ -136,8 +136,8 @@ four a b c d w s =
     let t : 0x80 + n % 64 ≡ d = omega arith in
     record { scalar = s; encodes = encode-four n (omega arith) ∙ cc }
 
-all-decoded : EachRow table Decoded
-unfolding table scalar-of
+all-decoded : EachRow table-3-7 Decoded
+unfolding table-3-7 scalar-of
 all-decoded = (
   λ a l h. record { scalar = below {c = a} (omega arith); encodes = encode-one a (omega arith) },
   (
@@ -168,7 +168,7 @@ all-decoded = (
 )
 
 -- every sequence of the table is the encoding of a scalar value
-pub decoded : {bs : List ℕ} → Character table bs → Decoded bs
+pub decoded : {bs : List ℕ} → Character table-3-7 bs → Decoded bs
 decoded k = by-rows Decoded all-decoded k
 
 -- what is read off an encoding is what was encoded: no two characters have one encoding

@@ -9,8 +9,8 @@ use Rattle.utf8.specs.Width.{width}
 use Rattle.utf8.specs.Scalar.{encode}
 use Rattle.lexer.specs.Syntax.{Error, Newline, Comment, Ident, Number, QuotedString}
 use Rattle.lexer.specs.Chars.{class, punctuation}
-use Rattle.lexer.specs.Lexer.{follow, advance-while, run, same, special, quoted, stray, arm, next, tokens, tokenize}
-use Rattle.lexer.specs.Tokens.{kindOf, ends, token-ends}
+use Rattle.lexer.specs.Lexer.{follow, advance-while, lex-while, same, special, quoted, stray, arm, next, tokens, tokenize}
+use Rattle.lexer.specs.Tokens.{token-kind, ends, token-ends}
 use Rattle.characters.specs.Text.{encode-all}
 use Rattle.characters.specs.CharLexer.{char-quoted, char-match, char-next, char-tokens, char-tokenize}
 
@@ -31,7 +31,7 @@ lexed-both-ways e =
     let cs = characters-of (e .source) in
     record {
       source = e .source;
-      kinds = map kindOf (char-tokenize cs);
+      kinds = map token-kind (char-tokenize cs);
       in-characters = ends 0 (char-tokenize cs);
       in-bytes = token-ends (encode-all cs);
     }
@@ -50,5 +50,5 @@ wide-examples =
 
 pub wide-shown : map lexed-both-ways wide-examples ≡ wide-examples
 unfolding wide-examples lexed-both-ways characters-of encode-all encode char-tokenize char-tokens char-next char-match char-quoted
-    tokenize tokens next arm class punctuation follow advance-while run same special quoted stray ends width
+    tokenize tokens next arm class punctuation follow advance-while lex-while same special quoted stray ends width
 wide-shown = refl

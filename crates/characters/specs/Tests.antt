@@ -8,14 +8,14 @@ use borrow.Author.Tests.{ne-eqb, ltb-true}
 use lib.Dec.{eqb, ltb}
 use Rattle.utf8.specs.TableLaws.{in-range-over}
 use Rattle.lexer.specs.Chars.{within, blank, line-end, decimal, hex, binary, letter, word, graphic}
-use Rattle.lexer.specs.Lexer.{Lex, pick, in-line}
+use Rattle.lexer.specs.Lexer.{LexRule, choose, in-line}
 use Rattle.characters.specs.CharLexer.{char-match}
 
 neither : (x y : Bool) → x ≡ false → y ≡ false → x || y ≡ false
 neither true y e f = e
 neither false y e f = f
 
-past : (t : Bool) (f g h : Lex) → t ≡ false → g ≡ h → pick t f g ≡ h
+past : (t : Bool) (f g h : LexRule) → t ≡ false → g ≡ h → choose t f g ≡ h
 past true f g h e i = absurd (let z : _≡_ {A = ℕ} 0 1 = cc in omega arith)
 past false f g h e i = i
 
@@ -54,6 +54,6 @@ module _ (n : ℕ) (h : 0x80 ≤ n) where
   all-in-line = rw no-line-end
 
   -- it starts nothing
-  pub match-other : (f : Lex) → char-match n f ≡ f
+  pub match-other : (f : LexRule) → char-match n f ≡ f
   unfolding char-match
   match-other f = search (past, neither, no-blank, no-letter, no-decimal, not-at) depth 40

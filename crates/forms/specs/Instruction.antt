@@ -44,7 +44,7 @@ open-behind Significant.Nothing = plain-kinds
 open-behind (Significant.Kind k) = cond (expects-continuation-operand k) plain-kinds plain-punctuation
 
 -- The loop's first rounds, from c to c′, leave the counts as they were: what goes on behind them goes on from the start.
-pub record Led (F : File) (ev : List ℕ) (c : Cursor) (ev′ : List ℕ) (c′ : Cursor) (previous : Significant) : Type 0 where
+pub record PlainTokens (F : File) (ev : List ℕ) (c : Cursor) (ev′ : List ℕ) (c′ : Cursor) (previous : Significant) : Type 0 where
   pub leads : (dm ds : List ℕ) (w′ : World) (l : Inst)
       → RanTo F (scan instruction-round (behind previous)) (world ev′ dm ds c′) w′ l
       → RanTo F (scan instruction-round before-first) (world ev dm ds c) w′ l

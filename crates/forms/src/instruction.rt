@@ -37,7 +37,7 @@ ghost use Rattle.grammar.specs.Instruction.{should-stop-instruction-before as s
 ghost use Rattle.grammar.specs.Instruction.{parse-instruction};
 ghost use Rattle.parser.specs.Rep.{entry, exit, Ran};
 ghost use Rattle.grammar.specs.declared.nesting.Significant.the-variants.{Kind};
-ghost use Rattle.forms.specs.Instruction.{starts-next, instruction-ends, behind, open-behind, Led};
+ghost use Rattle.forms.specs.Instruction.{starts-next, instruction-ends, behind, open-behind, PlainTokens};
 
 fn is_some(previous: Significant) -> bool
     ensures { λ r. ⌜ r ≡ is-some previous ⌝ }
@@ -157,7 +157,7 @@ struct Lead {
 
 // The first rounds, for as long as one look at the token tells that it is taken and all that it changes is `previous`.
 fn plain_tokens(kinds: &[u16], ev: &mut [u16], c0: Cursor) -> Lead
-    ensures { λ r. ⌜ Led (now (kinds .entry)) (now (ev .entry)) c0 (now (ev .exit)) (r .c) (r .previous) ⌝ }
+    ensures { λ r. ⌜ PlainTokens (now (kinds .entry)) (now (ev .entry)) c0 (now (ev .exit)) (r .c) (r .previous) ⌝ }
 {
     let mut c = c0;
     let mut previous = Significant::Nothing;

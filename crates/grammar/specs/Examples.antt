@@ -21,8 +21,8 @@ unfolding again
 text-bytes = refl
 
 -- ---- The table T1 to T10: sources and their readings.
-pub table : List Reading
-table =
+pub worked-readings : List Reading
+worked-readings =
     -- T1
     record {
       source = bytes "";
@@ -119,8 +119,8 @@ table =
     }
     ∷ []
 
-pub shown : map again table ≡ table
-unfolding again table
+pub shown : map again worked-readings ≡ worked-readings
+unfolding again worked-readings
 shown = refl
 
 -- ---- Document 01's other sources, and its slips of the trade.

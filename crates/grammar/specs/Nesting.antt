@@ -56,7 +56,7 @@ unfoldable pub bump-nesting : {L : Type 0} → Nesting → Sym → (Nesting → 
 bump-nesting n kind locals = counted n locals (bump-by n kind)
 
 -- ---- For the code: each count is below n.
-pub record Below (n : ℕ) (c : Nesting) : Type 0 where
+pub record NestingBelow (n : ℕ) (c : Nesting) : Type 0 where
   pub parens : c .parens < n
   pub brackets : c .brackets < n
   pub braces : c .braces < n

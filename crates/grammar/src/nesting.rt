@@ -8,7 +8,7 @@ use crate::kind::R_PAREN;
 ghost use mathlib.Core.Path.{_≡_};
 ghost use Prim.Native.Nat.{_<_, _^_};
 ghost use Rattle.grammar.specs.Nesting.{default, is-root, open-paren, open-bracket, open-brace, close-paren, close-bracket};
-ghost use Rattle.grammar.specs.Nesting.{close-brace, bump-by, Below};
+ghost use Rattle.grammar.specs.Nesting.{close-brace, bump-by, NestingBelow};
 
 pub enum Closer {
     Paren,
@@ -129,7 +129,7 @@ impl Nesting {
 
     // What a token of this kind does to the counts.
     pub fn bump(self, kind: u16) -> Bumped
-        requires { ⌜ Below (2 ^ 63) self ⌝ }
+        requires { ⌜ NestingBelow (2 ^ 63) self ⌝ }
         ensures { λ r. ⌜ r ≡ bump-by self kind ⌝ }
     {
         if L_PAREN == kind {

@@ -14,40 +14,40 @@ use Rattle.grammar.specs.declared.message.ItemMessage.the-variants.{UnexpectedT
 use Rattle.grammar.specs.Bump.{bump, error-token}
 use Rattle.grammar.specs.Block.{Blocks}
 use Rattle.grammar.specs.Item.{parse-doc-form, parse-namespace, parse-submodule, parse-procedure, parse-begin-block, parse-constant, parse-type-decl, parse-advice-map, at-declaration, at-procedure, parse-source-item}
-use Rattle.blocks.specs.Arms.{if-arm}
-use Rattle.items.specs.declared.arm.Arm.{Arm}
+use Rattle.grammar.specs.Laws.Here.{if-arm}
+use Rattle.items.specs.declared.arm.ItemArm.{ItemArm}
 
 -- the tests, in their order
-unfoldable pub arm-of : List Sym → Arm
-arm-of r =
-    cond (at-kind DocComment r) Arm.Doc
-    (cond (at-regular-trivia r) Arm.Trivia
-    (cond (at-keyword NAMESPACE r) Arm.Namespace
-    (cond (at-declaration (MOD ∷ []) r) Arm.Submodule
-    (cond (at-procedure r) Arm.Procedure
-    (cond (at-keyword BEGIN r) Arm.Begin
-    (cond (at-declaration (CONST ∷ []) r) Arm.Constant
-    (cond (at-declaration (TYPE ∷ ENUM ∷ []) r) Arm.Type
-    (cond (at-keyword ADV-MAP r) Arm.AdviceMap
-    Arm.Bad))))))))
+unfoldable pub item-arm : List Sym → ItemArm
+item-arm r =
+    cond (at-kind DocComment r) ItemArm.Doc
+    (cond (at-regular-trivia r) ItemArm.Trivia
+    (cond (at-keyword NAMESPACE r) ItemArm.Namespace
+    (cond (at-declaration (MOD ∷ []) r) ItemArm.Submodule
+    (cond (at-procedure r) ItemArm.Procedure
+    (cond (at-keyword BEGIN r) ItemArm.Begin
+    (cond (at-declaration (CONST ∷ []) r) ItemArm.Constant
+    (cond (at-declaration (TYPE ∷ ENUM ∷ []) r) ItemArm.Type
+    (cond (at-keyword ADV-MAP r) ItemArm.AdviceMap
+    ItemArm.Bad))))))))
 
 -- what parse_source_item does in each arm
-unfoldable pub by-arm : Arm → Blocks → P Bool
-by-arm Arm.Doc block = parse-doc-form
-by-arm Arm.Trivia block = bump
-by-arm Arm.Namespace block = parse-namespace
-by-arm Arm.Submodule block = parse-submodule
-by-arm Arm.Procedure block = parse-procedure block
-by-arm Arm.Begin block = parse-begin-block block
-by-arm Arm.Constant block = parse-constant
-by-arm Arm.Type block = parse-type-decl
-by-arm Arm.AdviceMap block = parse-advice-map
-by-arm Arm.Bad block = error-token (Message.Item UnexpectedTopLevelToken)
+unfoldable pub by-item-arm : ItemArm → Blocks → P Bool
+by-item-arm ItemArm.Doc block = parse-doc-form
+by-item-arm ItemArm.Trivia block = bump
+by-item-arm ItemArm.Namespace block = parse-namespace
+by-item-arm ItemArm.Submodule block = parse-submodule
+by-item-arm ItemArm.Procedure block = parse-procedure block
+by-item-arm ItemArm.Begin block = parse-begin-block block
+by-item-arm ItemArm.Constant block = parse-constant
+by-item-arm ItemArm.Type block = parse-type-decl
+by-item-arm ItemArm.AdviceMap block = parse-advice-map
+by-item-arm ItemArm.Bad block = error-token (Message.Item UnexpectedTopLevelToken)
 
-pub item-is : (block : Blocks) (r : List Sym) → parse-source-item block r ≡ by-arm (arm-of r) block r
-unfolding parse-source-item arm-of by-arm
+pub item-is : (block : Blocks) (r : List Sym) → parse-source-item block r ≡ by-item-arm (item-arm r) block r
+unfolding parse-source-item item-arm by-item-arm
 item-is block r =
-    let h : Arm → Res Bool = λ a. by-arm a block r in
+    let h : ItemArm → Res Bool = λ a. by-item-arm a block r in
     if-arm h (at-kind DocComment) _ _ r refl
     (if-arm h at-regular-trivia _ _ r refl
     (if-arm h (at-keyword NAMESPACE) _ _ r refl
@@ -59,16 +59,16 @@ item-is block r =
     (if-arm h (at-keyword ADV-MAP) _ _ r refl refl))))))))
 
 -- the arms behind the first three, by the token k here and the token d that says which declaration starts here
-unfoldable pub declared-arm : Sym → Sym → Arm
+unfoldable pub declared-arm : Sym → Sym → ItemArm
 declared-arm k d =
-    cond (is MOD d) Arm.Submodule
-    (cond (is At k || is PROC d) Arm.Procedure
-    (cond (is BEGIN k) Arm.Begin
-    (cond (is CONST d) Arm.Constant
-    (cond (is TYPE d || is ENUM d) Arm.Type
-    (cond (is ADV-MAP k) Arm.AdviceMap
-    Arm.Bad)))))
+    cond (is MOD d) ItemArm.Submodule
+    (cond (is At k || is PROC d) ItemArm.Procedure
+    (cond (is BEGIN k) ItemArm.Begin
+    (cond (is CONST d) ItemArm.Constant
+    (cond (is TYPE d || is ENUM d) ItemArm.Type
+    (cond (is ADV-MAP k) ItemArm.AdviceMap
+    ItemArm.Bad)))))
 
 -- all arms
-unfoldable pub arm-by : Sym → Sym → Arm
-arm-by k d = cond (is DocComment k) Arm.Doc (cond (regular-trivia k) Arm.Trivia (cond (is NAMESPACE k) Arm.Namespace (declared-arm k d)))
+unfoldable pub arm-by : Sym → Sym → ItemArm
+arm-by k d = cond (is DocComment k) ItemArm.Doc (cond (regular-trivia k) ItemArm.Trivia (cond (is NAMESPACE k) ItemArm.Namespace (declared-arm k d)))

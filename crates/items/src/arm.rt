@@ -15,10 +15,10 @@ use parser::look::declared;
 ghost use mathlib.Core.Path.{_≡_};
 ghost use Prim.Native.Nat.{_≤_};
 ghost use lib.ListN.{length, drop};
-ghost use Rattle.items.specs.Arms.{arm-of, declared-arm as declaredArm};
+ghost use Rattle.items.specs.Arms.{item-arm, declared-arm as declaredArm};
 
 // The arms of parse_source_item.
-pub enum Arm {
+pub enum ItemArm {
     Doc,
     Trivia,
     Namespace,
@@ -32,49 +32,49 @@ pub enum Arm {
 }
 
 // The arms behind the first three, by the token and by the declaration that it starts.
-fn declared_arm(k: u16, d: u16) -> Arm
+fn declared_arm(k: u16, d: u16) -> ItemArm
     ensures { λ r. ⌜ r ≡ declaredArm k d ⌝ }
 {
     if MOD == d {
-        return Arm::Submodule;
+        return ItemArm::Submodule;
     }
     if AT == k {
-        return Arm::Procedure;
+        return ItemArm::Procedure;
     }
     if PROC == d {
-        return Arm::Procedure;
+        return ItemArm::Procedure;
     }
     if BEGIN == k {
-        return Arm::Begin;
+        return ItemArm::Begin;
     }
     if CONST == d {
-        return Arm::Constant;
+        return ItemArm::Constant;
     }
     if TYPE == d {
-        return Arm::Type;
+        return ItemArm::Type;
     }
     if ENUM == d {
-        return Arm::Type;
+        return ItemArm::Type;
     }
     if ADV_MAP == k {
-        return Arm::AdviceMap;
+        return ItemArm::AdviceMap;
     }
-    Arm::Bad
+    ItemArm::Bad
 }
 
 // The tests of parse_source_item, in its order.
-pub fn arm_here(kinds: &[u16], p: usize) -> Arm
-    ensures { λ r. ⌜ r ≡ arm-of (drop p (now (kinds .entry))) ⌝ }
+pub fn item_arm_here(kinds: &[u16], p: usize) -> ItemArm
+    ensures { λ r. ⌜ r ≡ item-arm (drop p (now (kinds .entry))) ⌝ }
 {
     let k = current(kinds, p);
     if DOC_COMMENT == k {
-        return Arm::Doc;
+        return ItemArm::Doc;
     }
     if is_regular_trivia(k) {
-        return Arm::Trivia;
+        return ItemArm::Trivia;
     }
     if NAMESPACE == k {
-        return Arm::Namespace;
+        return ItemArm::Namespace;
     }
     declared_arm(k, declared(kinds, p))
 }

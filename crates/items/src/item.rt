@@ -1,6 +1,6 @@
 // An item, by the token that it starts with.
-use crate::arm::Arm;
-use crate::arm::arm_here;
+use crate::arm::ItemArm;
+use crate::arm::item_arm_here;
 use crate::procedure::parse_begin_block;
 use crate::procedure::parse_procedure;
 use declarations::advice_map::parse_advice_map;
@@ -19,7 +19,7 @@ use parser::cursor::put;
 ghost use Rattle.grammar.specs.Block.{MAX-CONTROL-FLOW-NESTING as limit, parse-block};
 ghost use Rattle.grammar.specs.Item.{parse-doc-form, parse-source-item};
 ghost use Rattle.parser.specs.Rep.{entry, exit, Ran};
-ghost use Rattle.items.specs.Arms.{by-arm};
+ghost use Rattle.items.specs.Arms.{by-item-arm};
 
 pub fn parse_doc_form(
     kinds: &[u16],
@@ -42,21 +42,21 @@ fn parse_arm(
     dm: &mut [u16],
     ds: &mut [u32],
     c0: Cursor,
-    a: Arm,
+    a: ItemArm,
 ) -> Cursor
-    ensures { λ r. ⌜ Ran (now (kinds .entry)) (by-arm a (parse-block limit)) (entry ev dm ds c0) (exit ev dm ds r) ⌝ }
+    ensures { λ r. ⌜ Ran (now (kinds .entry)) (by-item-arm a (parse-block limit)) (entry ev dm ds c0) (exit ev dm ds r) ⌝ }
 {
     match a {
-        Arm::Doc => parse_doc_form(kinds, ev, dm, ds, c0),
-        Arm::Trivia => bump(kinds, ev, dm, ds, c0),
-        Arm::Namespace => parse_namespace(kinds, ev, dm, ds, c0),
-        Arm::Submodule => parse_submodule(kinds, ev, dm, ds, c0),
-        Arm::Procedure => parse_procedure(kinds, ev, dm, ds, c0),
-        Arm::Begin => parse_begin_block(kinds, ev, dm, ds, c0),
-        Arm::Constant => parse_constant(kinds, ev, dm, ds, c0),
-        Arm::Type => parse_type_decl(kinds, ev, dm, ds, c0),
-        Arm::AdviceMap => parse_advice_map(kinds, ev, dm, ds, c0),
-        Arm::Bad => error_token(
+        ItemArm::Doc => parse_doc_form(kinds, ev, dm, ds, c0),
+        ItemArm::Trivia => bump(kinds, ev, dm, ds, c0),
+        ItemArm::Namespace => parse_namespace(kinds, ev, dm, ds, c0),
+        ItemArm::Submodule => parse_submodule(kinds, ev, dm, ds, c0),
+        ItemArm::Procedure => parse_procedure(kinds, ev, dm, ds, c0),
+        ItemArm::Begin => parse_begin_block(kinds, ev, dm, ds, c0),
+        ItemArm::Constant => parse_constant(kinds, ev, dm, ds, c0),
+        ItemArm::Type => parse_type_decl(kinds, ev, dm, ds, c0),
+        ItemArm::AdviceMap => parse_advice_map(kinds, ev, dm, ds, c0),
+        ItemArm::Bad => error_token(
             kinds,
             ev,
             dm,
@@ -76,6 +76,6 @@ pub fn parse_source_item(
 ) -> Cursor
     ensures { λ r. ⌜ Ran (now (kinds .entry)) (parse-source-item (parse-block limit)) (entry ev dm ds c0) (exit ev dm ds r) ⌝ }
 {
-    let a = arm_here(kinds, c0.pos);
+    let a = item_arm_here(kinds, c0.pos);
     parse_arm(kinds, ev, dm, ds, c0, a)
 }

@@ -14,7 +14,7 @@ use lib.Seq.{drop-drop}
 pub use Rattle.utf8.proofs.Laws.{next-byte}
 use Rattle.lexer.specs.declared.lexer.Token.{Token}
 use Rattle.lexer.specs.Chars.{tabulate}
-use Rattle.lexer.specs.Lexer.{Lex, later, follow, advance-while}
+use Rattle.lexer.specs.Lexer.{LexRule, later, follow, advance-while}
 use Rattle.lexer.specs.Code.{placed, starts-with, AllHold}
 
 from : (f : ℕ → ℕ) (i n k : ℕ) → k < n → getD (tabulate f i n) k 0 ≡ f (i + k)
@@ -67,7 +67,7 @@ module _ (x : ℕ) (s : List ℕ) (at : ℕ) where
   starts-here h = rw (next-byte s at h)
 
 -- the byte x follows, or not
-module _ (x : ℕ) (f g : Lex) where
+module _ (x : ℕ) (f g : LexRule) where
   yes : (r : List ℕ) → starts-with x r ≡ true → follow x f g r ≡ later (f (drop 1 r))
   unfolding starts-with follow
   yes [] e = absurd (false≢true e)
@@ -98,7 +98,7 @@ starts-within x s at e = go (ltb at (length s)) refl
 pub one-here : (k n : ℕ) → _≡_ {A = Token} (record { kind = k; end = n }) (placed n (record { kind = k; more = 0 }))
 one-here k n = ap (λ (m : ℕ). record { kind = k; end = m }) (omega arith)
 
-pub placed-no : (x : ℕ) (f g : Lex) (n : ℕ) (r : List ℕ) → starts-with x r ≡ false → placed n (g r) ≡ placed n (follow x f g r)
+pub placed-no : (x : ℕ) (f g : LexRule) (n : ℕ) (r : List ℕ) → starts-with x r ≡ false → placed n (g r) ≡ placed n (follow x f g r)
 placed-no x f g n r e = ap (placed n) (sym (follow-no x f g r e))
 
 -- a run goes over bytes that all hold

@@ -7,7 +7,7 @@ use lib.Dec.{T}
 use Rattle.utf8.specs.Width.{width}
 use Rattle.lexer.specs.Syntax.{Error, Newline, Number, QuotedIdent, QuotedString}
 use Rattle.lexer.specs.Chars.{class}
-use Rattle.lexer.specs.Lexer.{follow, advance-while, run, same, special, quoted, stray, arm, next, tokens, tokenize}
+use Rattle.lexer.specs.Lexer.{follow, advance-while, lex-while, same, special, quoted, stray, arm, next, tokens, tokenize}
 use Rattle.lexer.specs.Tokens.{ends, token-kinds, token-ends}
 
 -- a source, and the kinds and the ends of its tokens
@@ -35,5 +35,5 @@ every [] = true
 every (e ∷ es) = right e && every es
 
 pub lexer-shown : T (every lexer-table)
-unfolding every lexer-table right tokenize tokens next arm class follow advance-while run same special quoted stray ends width
+unfolding every lexer-table right tokenize tokens next arm class follow advance-while lex-while same special quoted stray ends width
 lexer-shown = tt

@@ -12,20 +12,20 @@ use lib.ListN.{length, length-take}
 use lib.Seq.{take-append-le}
 use Rattle.utf8.specs.Width.{width}
 use Rattle.lexer.specs.Chars.{line-end, graphic, word, class}
-use Rattle.lexer.specs.Lexer.{Lexeme, Lex, one, later, pick, follow, advance-while, run, special, unescaped, quoted, stray, arm, next}
+use Rattle.lexer.specs.Lexer.{Lexeme, LexRule, lex-one, later, choose, follow, advance-while, lex-while, special, unescaped, quoted, stray, arm, next}
 
-pub record GoodLex (f : Lex) : Type 0 where
+pub record GoodLex (f : LexRule) : Type 0 where
   pub within : (r : List ℕ) → f r .more ≤ length r
   pub local : (x y : List ℕ) → f x .more < length x → f (x ++ y) ≡ f x
 
-pub good-one : (k : ℕ) → GoodLex (one k)
+pub good-one : (k : ℕ) → GoodLex (lex-one k)
 good-one k = record { within = λ r. zero-le; local = λ x y h. refl }
 
-pub good-lex-pick : (t : Bool) {f g : Lex} → GoodLex f → GoodLex g → GoodLex (pick t f g)
-good-lex-pick true p q = p
-good-lex-pick false p q = q
+pub good-lex-choose : (t : Bool) {f g : LexRule} → GoodLex f → GoodLex g → GoodLex (choose t f g)
+good-lex-choose true p q = p
+good-lex-choose false p q = q
 
-module _ (x : ℕ) (f g : Lex) (p : GoodLex f) (q : GoodLex g) where
+module _ (x : ℕ) (f g : LexRule) (p : GoodLex f) (q : GoodLex g) where
   follow-within : (r : List ℕ) → follow x f g r .more ≤ length r
   unfolding follow
   follow-within [] = q .within []
@@ -45,7 +45,7 @@ module _ (x : ℕ) (f g : Lex) (p : GoodLex f) (q : GoodLex g) where
       go true k = ap later (p .local r y (le-of-suc-le-suc k))
       go false k = q .local (b ∷ r) y k
 
-pub good-follow : (x : ℕ) {f g : Lex} → GoodLex f → GoodLex g → GoodLex (follow x f g)
+pub good-follow : (x : ℕ) {f g : LexRule} → GoodLex f → GoodLex g → GoodLex (follow x f g)
 good-follow x {f} {g} p q = record { within = follow-within x f g p q; local = follow-local x f g p q }
 
 -- advance_while
@@ -71,9 +71,9 @@ module _ (p : ℕ → Bool) where
       go true k ih = ap suc (ih (le-of-suc-le-suc k))
       go false k ih = refl
 
-pub good-run : (k : ℕ) (p : ℕ → Bool) → GoodLex (run k p)
-unfolding run
-good-run k p = record {
+pub good-lex-while : (k : ℕ) (p : ℕ → Bool) → GoodLex (lex-while k p)
+unfolding lex-while
+good-lex-while k p = record {
   within = advance-within p;
   local = λ x y h. ap (λ (n : ℕ). record { kind = k; more = n }) (advance-local p x y h);
 }
@@ -122,7 +122,7 @@ good-stray b = record {
 
 pub good-arm : (c b : ℕ) → GoodLex (arm c b)
 unfolding arm
-good-arm c b = search (good-one, good-lex-pick, good-follow, good-run, good-special, good-quoted, good-stray) depth 30
+good-arm c b = search (good-one, good-lex-choose, good-follow, good-lex-while, good-special, good-quoted, good-stray) depth 30
 
 pub good-next : (b : ℕ) → GoodLex (next b)
 unfolding next

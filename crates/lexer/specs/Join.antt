@@ -12,31 +12,31 @@ use lib.ListN.{length, take, drop, length-append, drop-of-length-le}
 use lib.Seq.{take-append-le, drop-append-seam}
 use Rattle.lexer.specs.Syntax.{Newline, SpecialIdent, Error, QuotedIdent, QuotedString}
 use Rattle.lexer.specs.Chars.{line-end, Cr, punctuation, class, graphic, word}
-use Rattle.lexer.specs.Lexer.{Lexeme, Lex, Token, one, later, pick, follow, run, special, unescaped, quoted, stray, arm, next, same, kernel, exec, advance-while, tokens, tokenize}
-use Rattle.lexer.specs.Tokens.{kindOf, ends, token-kinds, token-ends}
+use Rattle.lexer.specs.Lexer.{Lexeme, LexRule, Token, lex-one, later, choose, follow, lex-while, special, unescaped, quoted, stray, arm, next, same, kernel, exec, advance-while, tokens, tokenize}
+use Rattle.lexer.specs.Tokens.{token-kind, ends, token-kinds, token-ends}
 use Rattle.lexer.specs.Good.{good-next}
-use Rattle.lexer.specs.Laws.{token, tokens-skip, tokenize-nil, bytes, last, lossless}
+use Rattle.lexer.specs.Laws.{token, tokens-skip, tokenize-nil, token-bytes, last, lossless}
 
 -- a function that gives no newline
-record NoNewline (f : Lex) : Type 0 where
+record NoNewline (f : LexRule) : Type 0 where
   none : (r : List ℕ) → eqb (f r .kind) Newline ≡ false
 
-none-one : (k : ℕ) → eqb k Newline ≡ false → NoNewline (one k)
+none-one : (k : ℕ) → eqb k Newline ≡ false → NoNewline (lex-one k)
 none-one k e = record { none = λ r. e }
 
-none-run : (k : ℕ) (p : ℕ → Bool) → eqb k Newline ≡ false → NoNewline (run k p)
-unfolding run
-none-run k p e = record { none = λ r. e }
+none-while : (k : ℕ) (p : ℕ → Bool) → eqb k Newline ≡ false → NoNewline (lex-while k p)
+unfolding lex-while
+none-while k p e = record { none = λ r. e }
 
-none-pick : (t : Bool) {f g : Lex} → NoNewline f → NoNewline g → NoNewline (pick t f g)
+none-pick : (t : Bool) {f g : LexRule} → NoNewline f → NoNewline g → NoNewline (choose t f g)
 none-pick true p q = p
 none-pick false p q = q
 
 -- the arm of a test that fails is free
-none-past : (t : Bool) (f : Lex) {g : Lex} → t ≡ false → NoNewline g → NoNewline (pick t f g)
+none-past : (t : Bool) (f : LexRule) {g : LexRule} → t ≡ false → NoNewline g → NoNewline (choose t f g)
 none-past t f e q = rw e q
 
-none-follow : (x : ℕ) {f g : Lex} → NoNewline f → NoNewline g → NoNewline (follow x f g)
+none-follow : (x : ℕ) {f g : LexRule} → NoNewline f → NoNewline g → NoNewline (follow x f g)
 unfolding follow
 none-follow x {f} {g} p q = record { none = go }
   where
@@ -82,7 +82,7 @@ none-stray b = record { none = λ r. refl }
 -- the arms of every other class
 none-arm : (c b : ℕ) → eqb c Newline ≡ false → eqb c Cr ≡ false → NoNewline (arm c b)
 unfolding arm
-none-arm c b e f = search (none-one, none-run, none-past, none-pick, none-follow, none-special, none-quoted, none-stray) depth 30
+none-arm c b e f = search (none-one, none-while, none-past, none-pick, none-follow, none-special, none-quoted, none-stray) depth 30
 
 -- the class of a byte that is neither LF nor CR
 no-mark : (b : ℕ) → (eqb (punctuation b) Newline ≡ false) × (eqb (punctuation b) Cr ≡ false)
@@ -141,7 +141,7 @@ after-all k r b e =
     ∙ ap (λ (ts : List Token). ts ++ tokenize b) (sym (none-left k r (omega arith)))
 
 -- a token with more behind it, or the last one
-joins-first : (x : ℕ) (r b : List ℕ) → last (next x r .kind) (map kindOf (tokens (next x r .more) r)) ≡ Newline → last x r ≡ 10
+joins-first : (x : ℕ) (r b : List ℕ) → last (next x r .kind) (map token-kind (tokens (next x r .more) r)) ≡ Newline → last x r ≡ 10
     → (next x r .more < length r → tokens (next x r .more) (r ++ b) ≡ tokens (next x r .more) r ++ tokenize b)
     → tokens 0 (x ∷ (r ++ b)) ≡ tokens 0 (x ∷ r) ++ tokenize b
 joins-first x r b p q ih = go (ltb (next x r .more) (length r)) refl
@@ -156,7 +156,7 @@ joins-first x r b p q ih = go (ltb (next x r .more) (length r)) refl
         let w = good-next x .within r in
         first-same x r b (newline-next x r b (rw (none-left m r n) at p) q) (after-all m r b (omega arith))
 
-joins : (k : ℕ) (a b : List ℕ) (d e : ℕ) → k < length a → last d (map kindOf (tokens k a)) ≡ Newline → last e a ≡ 10
+joins : (k : ℕ) (a b : List ℕ) (d e : ℕ) → k < length a → last d (map token-kind (tokens k a)) ≡ Newline → last e a ≡ 10
     → tokens k (a ++ b) ≡ tokens k a ++ tokenize b
 unfolding tokens
 joins k [] b d e h p q = absurd (not-suc-le-zero h)
@@ -172,13 +172,13 @@ pub join : (a b : List ℕ) → last 0 (token-kinds a) ≡ Newline → last 0 a 
 unfolding tokenize
 join a b p q = joins 0 a b 0 0 (some-tokens a q) p q
 
-ends-append : (n : ℕ) (xs ys : List Token) → ends n (xs ++ ys) ≡ ends n xs ++ ends (n + length (bytes xs)) ys
+ends-append : (n : ℕ) (xs ys : List Token) → ends n (xs ++ ys) ≡ ends n xs ++ ends (n + length (token-bytes xs)) ys
 unfolding ends
 ends-append n [] ys = ap (λ (k : ℕ). ends k ys) (sym (add-zero n))
 ends-append n (t ∷ xs) ys =
     let e = n + length (t .text) in
     ap (λ (l : List ℕ). e ∷ l) (ends-append e xs ys
-    ∙ ap (λ (k : ℕ). ends e xs ++ ends k ys) (omega (arith, length-append (t .text) (bytes xs))))
+    ∙ ap (λ (k : ℕ). ends e xs ++ ends k ys) (omega (arith, length-append (t .text) (token-bytes xs))))
 
 -- moved on by m
 ends-move : (m n : ℕ) (ts : List Token) → ends (m + n) ts ≡ map (λ e. m + e) (ends n ts)
@@ -198,4 +198,4 @@ join-ends a b p q =
     ∙ ap (λ (l : List ℕ). token-ends a ++ l) (ends-move (length a) 0 (tokenize b))
 
 pub join-kinds : (a b : List ℕ) → last 0 (token-kinds a) ≡ Newline → last 0 a ≡ 10 → token-kinds (a ++ b) ≡ token-kinds a ++ token-kinds b
-join-kinds a b p q = ap (map kindOf) (join a b p q) ∙ map-append kindOf (tokenize a) (tokenize b)
+join-kinds a b p q = ap (map token-kind) (join a b p q) ∙ map-append token-kind (tokenize a) (tokenize b)

@@ -9,31 +9,31 @@ use lib.Dec.{eqb, ltb}
 use lib.ListN.{take}
 use Rattle.lexer.specs.Syntax.{SpecialIdent, Error, QuotedIdent, QuotedString}
 use Rattle.lexer.specs.Chars.{line-end, graphic, word, Letter, Digit, punctuation, class}
-use Rattle.lexer.specs.Lexer.{Lexeme, Lex, one, later, pick, follow, advance-while, run, same, kernel, exec, special, unescaped, quoted, stray, arm, next, tokens, tokenize}
+use Rattle.lexer.specs.Lexer.{Lexeme, LexRule, lex-one, later, choose, follow, advance-while, lex-while, same, kernel, exec, special, unescaped, quoted, stray, arm, next, tokens, tokenize}
 use Rattle.lexer.specs.Laws.{Every}
 
 abbrev low : ℕ → Bool
 low k = ltb k 60
 
-record Low (f : Lex) : Type 0 where
+record Low (f : LexRule) : Type 0 where
   is : (r : List ℕ) → low (f r .kind) ≡ true
 
 low-cond : (t : Bool) (a b : ℕ) → low a ≡ true → low b ≡ true → low (cond t a b) ≡ true
 low-cond true a b p q = p
 low-cond false a b p q = q
 
-low-one : (k : ℕ) → low k ≡ true → Low (one k)
+low-one : (k : ℕ) → low k ≡ true → Low (lex-one k)
 low-one k e = record { is = λ r. e }
 
-low-run : (k : ℕ) (p : ℕ → Bool) → low k ≡ true → Low (run k p)
-unfolding run
+low-run : (k : ℕ) (p : ℕ → Bool) → low k ≡ true → Low (lex-while k p)
+unfolding lex-while
 low-run k p e = record { is = λ r. e }
 
-low-pick : (t : Bool) {f g : Lex} → Low f → Low g → Low (pick t f g)
+low-pick : (t : Bool) {f g : LexRule} → Low f → Low g → Low (choose t f g)
 low-pick true p q = p
 low-pick false p q = q
 
-low-follow : (x : ℕ) {f g : Lex} → Low f → Low g → Low (follow x f g)
+low-follow : (x : ℕ) {f g : LexRule} → Low f → Low g → Low (follow x f g)
 unfolding follow
 low-follow x {f} {g} p q = record { is = go }
   where
@@ -85,11 +85,11 @@ unfolding class
 low-class b = search (classes-cond, low-punctuation) depth 20
 
 -- past a test that fails
-low-else : (t : Bool) {f g : Lex} → Low f → (t ≡ false → Low g) → Low (pick t f g)
+low-else : (t : Bool) {f g : LexRule} → Low f → (t ≡ false → Low g) → Low (choose t f g)
 low-else true p q = p
 low-else false p q = q refl
 
-low-other : (c : ℕ) → classes c ≡ true → eqb c Letter ≡ false → eqb c Digit ≡ false → Low (one c)
+low-other : (c : ℕ) → classes c ≡ true → eqb c Letter ≡ false → eqb c Digit ≡ false → Low (lex-one c)
 low-other c h e f = record { is = λ r. rw (e, f) at h }
 
 low-arm : (c b : ℕ) → classes c ≡ true → Low (arm c b)

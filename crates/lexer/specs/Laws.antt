@@ -54,11 +54,11 @@ unfolding tokenize
 every-filled s = filled 0 s
 
 -- the bytes of tokens, in order
-abbrev pub bytes : List Token → List ℕ
-bytes [] = []
-bytes (t ∷ ts) = t .text ++ bytes ts
+abbrev pub token-bytes : List Token → List ℕ
+token-bytes [] = []
+token-bytes (t ∷ ts) = t .text ++ token-bytes ts
 
-bytes-rest : (k : ℕ) (s : List ℕ) → bytes (tokens k s) ≡ drop k s
+bytes-rest : (k : ℕ) (s : List ℕ) → token-bytes (tokens k s) ≡ drop k s
 unfolding tokens
 bytes-rest zero [] = refl
 bytes-rest (suc k) [] = refl
@@ -68,7 +68,7 @@ bytes-rest zero (b ∷ r) =
 bytes-rest (suc k) (b ∷ r) = bytes-rest k r
 
 -- the tokens' bytes in order are the source
-pub lossless : (s : List ℕ) → bytes (tokenize s) ≡ s
+pub lossless : (s : List ℕ) → token-bytes (tokenize s) ≡ s
 unfolding tokenize
 lossless s = bytes-rest 0 s
 
@@ -87,10 +87,10 @@ unfolding ends
 ends-rise n [] h = tt
 ends-rise n (t ∷ ts) h = (omega arith, ends-rise (n + length (t .text)) ts (h .1))
 
-ends-last : (n : ℕ) (ts : List Token) → last n (ends n ts) ≡ n + length (bytes ts)
+ends-last : (n : ℕ) (ts : List Token) → last n (ends n ts) ≡ n + length (token-bytes ts)
 unfolding ends
 ends-last n [] = sym (add-zero n)
-ends-last n (t ∷ ts) = ends-last (n + length (t .text)) ts ∙ omega (arith, length-append (t .text) (bytes ts))
+ends-last n (t ∷ ts) = ends-last (n + length (t .text)) ts ∙ omega (arith, length-append (t .text) (token-bytes ts))
 
 -- the ends rise, and the last is the source's length
 pub rising : (s : List ℕ) → Rising 0 (token-ends s)

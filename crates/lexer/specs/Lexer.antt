@@ -15,22 +15,22 @@ pub record Lexeme : Type 0 where
   pub more : ℕ
 
 -- A function of the lexer reads the bytes behind the token's first one.
-abbrev pub Lex : Type 0
-Lex = List ℕ → Lexeme
+abbrev pub LexRule : Type 0
+LexRule = List ℕ → Lexeme
 
 -- nothing is taken
-abbrev pub one : ℕ → Lex
-one k r = record { kind = k; more = 0 }
+abbrev pub lex-one : ℕ → LexRule
+lex-one k r = record { kind = k; more = 0 }
 
 abbrev pub later : Lexeme → Lexeme
 later t = record { kind = t .kind; more = suc (t .more) }
 
-abbrev pub pick : Bool → Lex → Lex → Lex
-pick true f g = f
-pick false f g = g
+abbrev pub choose : Bool → LexRule → LexRule → LexRule
+choose true f g = f
+choose false f g = g
 
 -- if self.current_char() == Some(x) { self.advance_char(); f } else { g }
-unfoldable pub follow : ℕ → Lex → Lex → Lex
+unfoldable pub follow : ℕ → LexRule → LexRule → LexRule
 follow x f g [] = g []
 follow x f g (b ∷ r) = let t = later (f r) in let u = g (b ∷ r) in cond (eqb b x) t u
 
@@ -39,18 +39,18 @@ unfoldable pub advance-while : (ℕ → Bool) → List ℕ → ℕ
 advance-while p [] = 0
 advance-while p (b ∷ r) = let n = suc (advance-while p r) in cond (p b) n 0
 
-unfoldable pub run : ℕ → (ℕ → Bool) → Lex
-run k p r = record { kind = k; more = advance-while p r }
+unfoldable pub lex-while : ℕ → (ℕ → Bool) → LexRule
+lex-while k p r = record { kind = k; more = advance-while p r }
 
 abbrev pub in-line : ℕ → Bool
 in-line b = not (line-end b)
 
 -- lex_trivia: CR LF is one newline; `#!` opens a doc comment
-abbrev pub cr : Lex
-cr = follow 10 (one Newline) (one Newline)
+abbrev pub cr : LexRule
+cr = follow 10 (lex-one Newline) (lex-one Newline)
 
-abbrev pub comment : Lex
-comment = follow 33 (run DocComment in-line) (run Comment in-line)
+abbrev pub comment : LexRule
+comment = follow 33 (lex-while DocComment in-line) (lex-while Comment in-line)
 
 -- two texts are the same
 unfoldable pub same : List ℕ → List ℕ → Bool
@@ -66,21 +66,21 @@ abbrev pub exec : List ℕ
 exec = 101 ∷ 120 ∷ 101 ∷ 99 ∷ []
 
 -- lex_identifier: behind `$` only `kernel` and `exec`
-unfoldable pub special : Lex
+unfoldable pub special : LexRule
 special r = let n = advance-while word r in
     record { kind = cond (same (take n r) kernel || same (take n r) exec) SpecialIdent Error; more = n }
 
 -- lex_number: `0x` and `0b` need no digit behind them
-abbrev pub zero-led : Lex
+abbrev pub zero-led : LexRule
 zero-led =
-    follow 120 (run Number hex)
-    (follow 88 (run Number hex)
-    (follow 98 (run Number binary)
-    (follow 66 (run Number binary)
-    (run Number decimal))))
+    follow 120 (lex-while Number hex)
+    (follow 88 (lex-while Number hex)
+    (follow 98 (lex-while Number binary)
+    (follow 66 (lex-while Number binary)
+    (lex-while Number decimal))))
 
-abbrev pub number : ℕ → Lex
-number b = pick (eqb b 48) zero-led (run Number decimal)
+abbrev pub lex-number : ℕ → LexRule
+lex-number b = choose (eqb b 48) zero-led (lex-while Number decimal)
 
 -- lex_quoted, at a byte that no backslash stands before: a line end, the closing quote, or else it is taken and t follows
 abbrev pub unescaped : (line closes identifier-like : Bool) → Lexeme → Lexeme
@@ -89,37 +89,37 @@ unescaped false true i t = record { kind = cond i QuotedIdent QuotedString; more
 unescaped false false i t = later t
 
 -- lex_quoted: `taken`, a backslash stands before; `identifier-like`, no backslash so far and all of it graphic
-unfoldable pub quoted : (taken identifier-like : Bool) → Lex
+unfoldable pub quoted : (taken identifier-like : Bool) → LexRule
 quoted t i [] = record { kind = Error; more = 0 }
 quoted true i (b ∷ r) = later (quoted false i r)
 quoted false i (b ∷ r) = let t = quoted (eqb b 92) (i && (graphic b && not (eqb b 92))) r in unescaped (line-end b) (eqb b 34) i t
 
 -- `.`, `..` and `...`
-abbrev pub dots : Lex
-dots = follow 46 (follow 46 (one DotDotDot) (one DotDot)) (one Dot)
+abbrev pub dots : LexRule
+dots = follow 46 (follow 46 (lex-one DotDotDot) (lex-one DotDot)) (lex-one Dot)
 
 -- a character that starts nothing: all its bytes
-unfoldable pub stray : ℕ → Lex
+unfoldable pub stray : ℕ → LexRule
 stray b r = record { kind = Error; more = length (take (pred (width b)) r) }
 
 -- `next`, by the class of the first byte
-unfoldable pub arm : ℕ → ℕ → Lex
+unfoldable pub arm : ℕ → ℕ → LexRule
 arm c b =
-    pick (eqb c Whitespace) (run Whitespace blank)
-    (pick (eqb c Cr) cr
-    (pick (eqb c Comment) comment
-    (pick (eqb c Letter) (run Ident word)
-    (pick (eqb c SpecialIdent) special
-    (pick (eqb c Digit) (number b)
-    (pick (eqb c QuotedIdent) (quoted false true)
-    (pick (eqb c Colon) (follow 58 (one ColonColon) (one Colon))
-    (pick (eqb c Dot) dots
-    (pick (eqb c Minus) (follow 62 (one RArrow) (one Minus))
-    (pick (eqb c Slash) (follow 47 (one SlashSlash) (one Slash))
-    (pick (eqb c Error) (stray b)
-    (one c))))))))))))
+    choose (eqb c Whitespace) (lex-while Whitespace blank)
+    (choose (eqb c Cr) cr
+    (choose (eqb c Comment) comment
+    (choose (eqb c Letter) (lex-while Ident word)
+    (choose (eqb c SpecialIdent) special
+    (choose (eqb c Digit) (lex-number b)
+    (choose (eqb c QuotedIdent) (quoted false true)
+    (choose (eqb c Colon) (follow 58 (lex-one ColonColon) (lex-one Colon))
+    (choose (eqb c Dot) dots
+    (choose (eqb c Minus) (follow 62 (lex-one RArrow) (lex-one Minus))
+    (choose (eqb c Slash) (follow 47 (lex-one SlashSlash) (lex-one Slash))
+    (choose (eqb c Error) (stray b)
+    (lex-one c))))))))))))
 
-unfoldable pub next : ℕ → Lex
+unfoldable pub next : ℕ → LexRule
 next b = arm (class b) b
 
 -- A token: its kind and its bytes.

@@ -11,8 +11,8 @@ use Rattle.lexer.specs.Lexer.{Token, tokenize}
 abbrev pub MAX-SOURCE : ℕ
 MAX-SOURCE = 1048576
 
-abbrev pub kindOf : Token → ℕ
-kindOf t = t .kind
+abbrev pub token-kind : Token → ℕ
+token-kind t = t .kind
 
 -- Where each token ends, the first starting at n: a token starts where the one before ended.
 unfoldable pub ends : ℕ → List Token → List ℕ
@@ -20,7 +20,7 @@ ends n [] = []
 ends n (t ∷ ts) = let e = n + length (t .text) in e ∷ ends e ts
 
 abbrev pub token-kinds : List ℕ → List ℕ
-token-kinds s = map kindOf (tokenize s)
+token-kinds s = map token-kind (tokenize s)
 
 abbrev pub token-ends : List ℕ → List ℕ
 token-ends s = ends 0 (tokenize s)
@@ -41,4 +41,4 @@ pub record TokensFit (f : Token → ℕ) (source kinds ends : List ℕ) (count :
   pub ends-are : ends′ ≡ fit (room kinds ends) (token-ends source) ends
 
 abbrev pub Tokenize : (source kinds ends : List ℕ) (count : ℕ) (kinds′ ends′ : List ℕ) → Type 0
-Tokenize = TokensFit kindOf
+Tokenize = TokensFit token-kind

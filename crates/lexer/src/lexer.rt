@@ -31,10 +31,10 @@ ghost use Prim.Native.Nat.{_+_, _≤_, _<_};
 ghost use lib.ListN.{length, getD, drop, set};
 ghost use Rattle.lexer.specs.Syntax.{Ident};
 ghost use Rattle.lexer.specs.Chars.{class-table, holds, word};
-ghost use Rattle.lexer.specs.Lexer.{one, follow, run as runOf, comment as commentOf, number, zero-led};
+ghost use Rattle.lexer.specs.Lexer.{lex-one, follow, lex-while as runOf, comment as commentOf, lex-number, zero-led};
 ghost use Rattle.lexer.specs.Lexer.{special as specialOf, stray as strayOf, dots, next as nextOf};
 ghost use Rattle.lexer.specs.Code.{placed};
-ghost use Rattle.lexer.specs.Tokens.{MAX-SOURCE, kindOf, TokensOver, Tokenize};
+ghost use Rattle.lexer.specs.Tokens.{MAX-SOURCE, token-kind, TokensOver, Tokenize};
 
 // The most bytes that a source may have.
 pub const MAX_SOURCE: usize = 1048576;
@@ -58,7 +58,7 @@ fn run(kind: u8, run: Run, source: &[u8], from: usize) -> Token
 // A token of one byte, or of two where x follows.
 fn pair(x: u8, longer: u8, shorter: u8, source: &[u8], from: usize) -> Token
     requires { ⌜ from ≤ length (now source) ⌝ }
-    ensures { λ r. ⌜ r ≡ placed from (follow x (one longer) (one shorter) (drop from (now (source .entry)))) ⌝ }
+    ensures { λ r. ⌜ r ≡ placed from (follow x (lex-one longer) (lex-one shorter) (drop from (now (source .entry)))) ⌝ }
 {
     if current_is(source, from, x) {
         return Token {
@@ -144,7 +144,7 @@ fn zero_led(source: &[u8], from: usize) -> Token
 
 fn lex_number(b: u8, source: &[u8], from: usize) -> Token
     requires { ⌜ from ≤ length (now source) ⌝ }
-    ensures { λ r. ⌜ r ≡ placed from (number b (drop from (now (source .entry)))) ⌝ }
+    ensures { λ r. ⌜ r ≡ placed from (lex-number b (drop from (now (source .entry)))) ⌝ }
 {
     if b == 48 {
         return zero_led(source, from);
@@ -228,7 +228,7 @@ pub fn put_token(kinds: &mut [u16], ends: &mut [u32], n: usize, kind: u16, end: 
 fn tokens(source: &[u8], kinds: &mut [u16], ends: &mut [u32]) -> usize
     requires { ⌜ (length (now source) ≤ MAX-SOURCE) × (length (now kinds) ≡ length (now ends)) ⌝ }
     ensures { λ r. ⌜ TokensOver
-        kindOf (now (source .entry)) (now (kinds .entry)) (now (ends .entry))
+        token-kind (now (source .entry)) (now (kinds .entry)) (now (ends .entry))
         r (now (kinds .exit)) (now (ends .exit)) ⌝ }
 {
     let table = classes();

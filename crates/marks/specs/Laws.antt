@@ -13,7 +13,7 @@ use Rattle.lexer.specs.Syntax.{Ident, Newline}
 use Rattle.lexer.specs.Lexer.{Token, tokenize}
 use Rattle.lexer.specs.Tokens.{token-kinds}
 use Rattle.lexer.specs.Tokens
-use Rattle.lexer.specs.Laws.{Every, bytes, last, lossless}
+use Rattle.lexer.specs.Laws.{Every, token-bytes, last, lossless}
 use Rattle.lexer.specs.Join.{join}
 use Rattle.grammar.specs.Words.{key, wordOf, symOf, kindOf}
 use Rattle.marks.specs.declared.Refusal.{Refusal}
@@ -78,7 +78,7 @@ pub record FirstRefused (n : ℕ) (ts : List Token) (m : ℕ) : Type 0 where
   pub split : ts ≡ before ++ token ∷ behind
   pub kept : Every NotRefused before
   pub refused : is-refused token ≡ true
-  pub start : m ≡ n + length (bytes before)
+  pub start : m ≡ n + length (token-bytes before)
 
 abbrev pub Says : Refusal → ℕ → List Token → Type 0
 Says Nothing n ts = Every NotRefused ts
@@ -93,7 +93,7 @@ longer (At m) n t ts e h = record {
   split = ap (λ (l : List Token). t ∷ l) (h .split);
   kept = (e, h .kept);
   refused = h .refused;
-  start = omega (arith, h .start, length-append (t .text) (bytes (h .before)));
+  start = omega (arith, h .start, length-append (t .text) (token-bytes (h .before)));
 }
 
 pub says : (n : ℕ) (ts : List Token) → Says (first-refused n ts) n ts
@@ -126,13 +126,13 @@ abbrev pub moved : ℕ → Refusal → Refusal
 moved m Nothing = Nothing
 moved m (At n) = At (m + n)
 
-pub first-append : (n : ℕ) (xs ys : List Token) → first-refused n (xs ++ ys) ≡ or-else (first-refused n xs) (first-refused (n + length (bytes xs)) ys)
+pub first-append : (n : ℕ) (xs ys : List Token) → first-refused n (xs ++ ys) ≡ or-else (first-refused n xs) (first-refused (n + length (token-bytes xs)) ys)
 unfolding first-refused
 first-append n [] ys = ap (λ (k : ℕ). first-refused k ys) (sym (add-zero n))
 first-append n (t ∷ xs) ys =
     by-test (is-refused t) _ _ _
     (first-append (n + length (t .text)) xs ys
-    ∙ ap (λ (k : ℕ). or-else (first-refused (n + length (t .text)) xs) (first-refused k ys)) (omega (arith, length-append (t .text) (bytes xs))))
+    ∙ ap (λ (k : ℕ). or-else (first-refused (n + length (t .text)) xs) (first-refused k ys)) (omega (arith, length-append (t .text) (token-bytes xs))))
   where
     by-test : (u : Bool) (p q r : Refusal) → p ≡ or-else q r → cond u (At n) p ≡ or-else (cond u (At n) q) r
     by-test true p q r h = refl

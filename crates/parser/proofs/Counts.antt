@@ -15,16 +15,16 @@ use Rattle.grammar.specs.Message.{number}
 use Rattle.grammar.specs.declared.nesting.Closer.{Closer}
 use Rattle.grammar.specs.declared.nesting.Nesting.{Nesting}
 use Rattle.grammar.specs.declared.nesting.Bumped.{Bumped}
-use Rattle.grammar.specs.Nesting.{default, counted, bump-nesting, bump-by, Below, open-paren, open-bracket, open-brace, close-paren, close-bracket, close-brace}
+use Rattle.grammar.specs.Nesting.{default, counted, bump-nesting, bump-by, NestingBelow, open-paren, open-bracket, open-brace, close-paren, close-bracket, close-brace}
 use Rattle.parser.specs.declared.cursor.Cursor.{Cursor}
 use Rattle.parser.specs.Rep.{World, world, Ran, RanTo, Said}
 use Rattle.parser.specs.Counts.{reported, counts, Counted}
 use Rattle.parser.proofs.Kit.{scan-go-eq, scan-warn-eq, like-to, done, _then-to_}
 
 -- ---- a token adds at most 1 to a count
-module _ (b : ℕ) (n : Nesting) (h : Below b n) where
+module _ (b : ℕ) (n : Nesting) (h : NestingBelow b n) where
   record Grown (x : Bumped) : Type 0 where
-    below : Below (b + 1) (counts n x)
+    below : NestingBelow (b + 1) (counts n x)
 
   either : (t : Bool) {x y : Bumped} → Grown x → Grown y → Grown (cond t x y)
   either true p q = p
@@ -41,7 +41,7 @@ module _ (b : ℕ) (n : Nesting) (h : Below b n) where
   unfolding counts
   refused c = record { below = record { parens = omega (arith, h); brackets = omega (arith, h); braces = omega (arith, h) } }
 
-  pub bump-below : (k : Sym) → Below (b + 1) (counts n (bump-by n k))
+  pub bump-below : (k : Sym) → NestingBelow (b + 1) (counts n (bump-by n k))
   unfolding bump-by open-paren open-bracket open-brace close-paren close-bracket close-brace
   bump-below k =
       let p : Nesting = record { parens = pred (n .parens); brackets = n .brackets; braces = n .braces } in
@@ -55,10 +55,10 @@ module _ (b : ℕ) (n : Nesting) (h : Below b n) where
       (either (is RBrace k) (either (eqb 0 (n .braces)) (refused Closer.Brace) (grown r (omega arith, omega arith, omega (arith, pred-le (n .braces)))))
       (grown n (omega arith, omega arith, omega arith))))))) .below
 
-pub below-le : {b b′ : ℕ} {n : Nesting} → b ≤ b′ → Below b n → Below b′ n
+pub below-le : {b b′ : ℕ} {n : Nesting} → b ≤ b′ → NestingBelow b n → NestingBelow b′ n
 below-le h l = record { parens = omega (arith, l); brackets = omega (arith, l); braces = omega (arith, l) }
 
-pub below-default : (b : ℕ) → 0 < b → Below b default
+pub below-default : (b : ℕ) → 0 < b → NestingBelow b default
 below-default b h = record { parens = h; brackets = h; braces = h }
 
 -- ---- scan
@@ -89,7 +89,7 @@ module _ {n : Nesting} {k : Sym} {dm ds : List ℕ} {c : Cursor} (x : Bumped) (b
       record {
         ran = λ F ev. subst (λ x. Ran F (reported x) (world ev dm ds c) (world ev dm ds c)) (sym q) (done true);
         is = sym (ap (counts n) q);
-        below = λ i h. subst (Below (i + 1)) (ap (counts n) q) (bump-below i n h k);
+        below = λ i h. subst (NestingBelow (i + 1)) (ap (counts n) q) (bump-below i n h k);
         pos = refl;
       }
 
@@ -101,6 +101,6 @@ module _ {n : Nesting} {k : Sym} {dm ds : List ℕ} {c : Cursor} (x : Bumped) (b
       record {
         ran = λ F ev. subst (λ x. Ran F (reported x) (world ev dm ds c) (world ev dm′ ds′ c′)) (sym q) (s .ran F ev);
         is = sym (ap (counts n) q);
-        below = λ i h. subst (Below (i + 1)) (ap (counts n) q) (bump-below i n h k);
+        below = λ i h. subst (NestingBelow (i + 1)) (ap (counts n) q) (bump-below i n h k);
         pos = s .pos;
       }

@@ -9,7 +9,7 @@ use Rattle.grammar.specs.declared.message.Message.{Message}
 use Rattle.grammar.specs.declared.nesting.Nesting.{Nesting}
 use Rattle.grammar.specs.declared.nesting.Bumped.{Bumped}
 use Rattle.grammar.specs.Bump.{error-here, nop}
-use Rattle.grammar.specs.Nesting.{bump-by, Below}
+use Rattle.grammar.specs.Nesting.{bump-by, NestingBelow}
 use Rattle.parser.specs.declared.cursor.Cursor.{Cursor}
 use Rattle.parser.specs.Rep.{world, Ran}
 
@@ -25,5 +25,5 @@ counts n (Bumped.Refused c) = n
 pub record Counted (n : Nesting) (k : Sym) (dm ds : List ℕ) (c : Cursor) (dm′ ds′ : List ℕ) (c′ : Cursor) (n′ : Nesting) : Type 0 where
   pub ran : (F : File) (ev : List ℕ) → Ran F (reported (bump-by n k)) (world ev dm ds c) (world ev dm′ ds′ c′)
   pub is : n′ ≡ counts n (bump-by n k)
-  pub below : (b : ℕ) → Below b n → Below (b + 1) n′
+  pub below : (b : ℕ) → NestingBelow b n → NestingBelow (b + 1) n′
   pub pos : c′ .pos ≡ c .pos

@@ -90,7 +90,7 @@ pub record Said (m : ℕ) (dm ds : List ℕ) (c : Cursor) (dm′ ds′ : List �
   pub pos : c′ .pos ≡ c .pos
 
 -- the token at p is not Error, and its event is v
-pub record Plain (F : File) (p v : ℕ) : Type 0 where
+pub record PlainToken (F : File) (p v : ℕ) : Type 0 where
   pub within : p < length F
   pub no-error : getD F p 0 ≡ Syntax.Error → ⊥
   pub event : v ≡ kind (getD F p 0)

@@ -11,7 +11,7 @@ ghost use mathlib.Core.Path.{_≡_};
 ghost use Prim.Native.Nat.{_+_, _<_, _^_};
 ghost use Rattle.grammar.specs.Message.{number as numberOf};
 ghost use Rattle.grammar.specs.Out.{kind};
-ghost use Rattle.parser.specs.Rep.{entry, exit, Put, Said, Plain, Bumped, Took};
+ghost use Rattle.parser.specs.Rep.{entry, exit, Put, Said, PlainToken, Bumped, Took};
 
 pub struct Cursor {
     pub pos: usize,
@@ -85,7 +85,7 @@ fn event_of(k: u16) -> u16
 
 // bump at a token that is not Error, and whose event is v.
 pub fn bump_plain(kinds: &[u16], ev: &mut [u16], c: Cursor, v: u16) -> Cursor
-    requires { ⌜ Plain (now kinds) (c .pos) v ⌝ }
+    requires { ⌜ PlainToken (now kinds) (c .pos) v ⌝ }
     ensures { λ r. ⌜ Took (now (kinds .entry)) (now (ev .entry)) c (now (ev .exit)) r ⌝ }
 {
     let next = c.pos + 1;

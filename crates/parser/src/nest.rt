@@ -5,7 +5,7 @@ use grammar::message::Message;
 use grammar::nesting::Bumped;
 use grammar::nesting::Nesting;
 ghost use Prim.Native.Nat.{_^_};
-ghost use Rattle.grammar.specs.Nesting.{Below};
+ghost use Rattle.grammar.specs.Nesting.{NestingBelow};
 ghost use Rattle.parser.specs.Counts.{Counted};
 
 pub struct Nested {
@@ -21,7 +21,7 @@ pub fn bump_nesting(
     nesting: Nesting,
     kind: u16,
 ) -> Nested
-    requires { ⌜ Below (2 ^ 63) nesting ⌝ }
+    requires { ⌜ NestingBelow (2 ^ 63) nesting ⌝ }
     ensures { λ r. ⌜ Counted nesting kind (now (dm .entry)) (now (ds .entry)) c
         (now (dm .exit)) (now (ds .exit)) (r .c) (r .nesting) ⌝ }
 {

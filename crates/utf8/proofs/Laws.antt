@@ -8,7 +8,7 @@ use native.Mathlib.Numerals.{add-one}
 use native.Mathlib.Nat.{add-zero}
 use lib.ListN.{length, getD, drop, length-drop, drop-of-length-le}
 use lib.Seq.{drop-cons, drop-drop}
-use Rattle.utf8.specs.Table.{Range, Row, table, agree, row-fits, charLength}
+use Rattle.utf8.specs.Table.{Range, Row, table-3-7, agree, row-fits, charLength}
 use Rattle.utf8.specs.TableLaws.{char-of-length}
 use Rattle.utf8.specs.Rows.{tailLength, FirstRow, first-row, Between, no-row, fits-then, fits-not}
 use Rattle.utf8.specs.Validate.{validate-from}
@@ -46,14 +46,14 @@ module _ (s : List ℕ) (at : ℕ) where
 
   -- the character's length by its first byte's row
   module _ (h : at < length s) where
-    pub row-length : (i : ℕ) → FirstRow i table (getD s at 0) → charLength (drop at s) ≡ tailLength (drop 1 (getD table i [])) (drop (at + 1) s)
+    pub row-length : (i : ℕ) → FirstRow i table-3-7 (getD s at 0) → charLength (drop at s) ≡ tailLength (drop 1 (getD table-3-7 i [])) (drop (at + 1) s)
     row-length i f = rw (next-byte h) (first-row i (getD s at 0) (drop (at + 1) s) f)
 
-    pub no-length : (i : ℕ) → Between i table (getD s at 0) → charLength (drop at s) ≡ 0
+    pub no-length : (i : ℕ) → Between i table-3-7 (getD s at 0) → charLength (drop at s) ≡ 0
     no-length i f = rw (next-byte h) (no-row i (getD s at 0) (drop (at + 1) s) f)
 
     pub ascii-length : getD s at 0 < 0x80 → charLength (drop at s) ≡ 1
-    unfolding table agree
+    unfolding table-3-7 agree
     ascii-length b = row-length 0 (omega arith)
 
   -- the answer at the end, and where no character stands

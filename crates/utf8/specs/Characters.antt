@@ -5,7 +5,7 @@ use Prim.Native.Nat.{ℕ, zero, suc, _+_, _≤_, _<_}
 use native.Mathlib.Omega.{arith}
 use lib.ListN.{length, getD, take, drop}
 use lib.Seq.{length-take-le, getD-take}
-use Rattle.utf8.specs.Table.{table, charLength}
+use Rattle.utf8.specs.Table.{table-3-7, charLength}
 use Rattle.utf8.specs.TableLaws.{char-of-length}
 use Rattle.utf8.specs.FirstByte.{char-width, tail-bytes}
 use Rattle.utf8.specs.Width.{width}
@@ -16,7 +16,7 @@ use Rattle.utf8.specs.Laws.{steps, stops, accepts, valid-from, not-both}
 pub record Starts (b : ℕ) (bs : List ℕ) : Type 0 where
   pub length-is : charLength (b ∷ bs) ≡ width b
   pub within : width b ≤ suc (length bs)
-  pub character : Character table (take (width b) (b ∷ bs))
+  pub character : Character table-3-7 (take (width b) (b ∷ bs))
   pub rest : WellFormed (drop (width b) (b ∷ bs))
 
 pub character-starts : (b : ℕ) (bs : List ℕ) → WellFormed (b ∷ bs) → Starts b bs
@@ -30,7 +30,7 @@ character-starts b bs w = by-length (charLength (b ∷ bs)) refl
         record {
           length-is = e ∙ i;
           within = omega arith;
-          character = subst (λ (m : ℕ). Character table (take m (b ∷ bs))) i (c .1);
+          character = subst (λ (m : ℕ). Character table-3-7 (take m (b ∷ bs))) i (c .1);
           rest =
               subst (λ (m : ℕ). WellFormed (drop m (b ∷ bs))) i
               (valid-from (0 + suc k) (drop (suc k) (b ∷ bs)) (sym (steps 0 (b ∷ bs) k e) ∙ accepts (b ∷ bs) w));
@@ -40,7 +40,7 @@ character-starts b bs w = by-length (charLength (b ∷ bs)) refl
 pub continuation : (b : ℕ) (bs : List ℕ) → WellFormed (b ∷ bs) → (k : ℕ) → suc k < width b → (0x80 ≤ getD bs k 0) × (getD bs k 0 ≤ 0xBF)
 continuation b bs w k i = by-width (width b) (character-starts b bs w .within) (character-starts b bs w .character) i
   where
-    by-width : (m : ℕ) → m ≤ suc (length bs) → Character table (take m (b ∷ bs)) → suc k < m → (0x80 ≤ getD bs k 0) × (getD bs k 0 ≤ 0xBF)
+    by-width : (m : ℕ) → m ≤ suc (length bs) → Character table-3-7 (take m (b ∷ bs)) → suc k < m → (0x80 ≤ getD bs k 0) × (getD bs k 0 ≤ 0xBF)
     by-width zero l c i = absurd (omega arith)
     by-width (suc j) l c i =
         let t = tail-bytes c k (omega (arith, length-take-le j bs (omega arith))) in

@@ -7,7 +7,7 @@ use native.Mathlib.Omega.{arith}
 use lib.Dec.{leb}
 use borrow.Author.Tests.{leb-true}
 use lib.ListN.{length, getD}
-use Rattle.utf8.specs.Table.{_⋯_, Row, table}
+use Rattle.utf8.specs.Table.{_⋯_, Row, table-3-7}
 use Rattle.utf8.specs.TableLaws.{both, sequence-length}
 use Rattle.utf8.specs.WellFormed.{Sequence, done, byte, Character, here, there}
 use Rattle.utf8.specs.Width.{width, width-one, width-two, width-three, width-four}
@@ -18,8 +18,8 @@ Widths [] = Unit {0}
 Widths ([] ∷ rows) = ⊥
 Widths ((low ⋯ high ∷ row) ∷ rows) = ((b : ℕ) → low ≤ b → b ≤ high → width b ≡ suc (length row)) × Widths rows
 
-widths : Widths table
-unfolding table
+widths : Widths table-3-7
+unfolding table-3-7
 widths = (
   λ b l h. width-one b (omega arith),
   (
@@ -55,7 +55,7 @@ width-in w (there {row = []} k) = absurd w
 width-in w (there {row = low ⋯ high ∷ row} k) = width-in (w .1) k
 
 -- a character is as long as its first byte says
-pub char-width : {b : ℕ} {bs : List ℕ} → Character table (b ∷ bs) → suc (length bs) ≡ width b
+pub char-width : {b : ℕ} {bs : List ℕ} → Character table-3-7 (b ∷ bs) → suc (length bs) ≡ width b
 char-width k = width-in widths k
 
 -- every range after a row's first lies in 0x80 to 0xBF
@@ -86,6 +86,6 @@ tail-in t (there {row = []} c) k i = tail-in t c k i
 tail-in t (there {row = r ∷ row} {rows = rows} c) k i = tail-in (both (continues row) (all-continue rows) t .1) c k i
 
 -- the bytes after a character's first are continuation bytes
-pub tail-bytes : {b : ℕ} {bs : List ℕ} → Character table (b ∷ bs) → (k : ℕ) → k < length bs → (0x80 ≤ getD bs k 0) × (getD bs k 0 ≤ 0xBF)
-unfolding table
+pub tail-bytes : {b : ℕ} {bs : List ℕ} → Character table-3-7 (b ∷ bs) → (k : ℕ) → k < length bs → (0x80 ≤ getD bs k 0) × (getD bs k 0 ≤ 0xBF)
+unfolding table-3-7
 tail-bytes c k i = tail-in refl c k i

@@ -10,7 +10,7 @@ use borrow.Author.Tests.{ltb-true, ltb-false}
 use lib.Dec.{ltb}
 use lib.ListN.{length, getD, length-append, List·getD-append}
 use lib.Seq.{getD-append-add, getD-append-seam}
-use Rattle.utf8.specs.Table.{table}
+use Rattle.utf8.specs.Table.{table-3-7}
 use Rattle.utf8.specs.TableLaws.{char-some}
 use Rattle.utf8.specs.FirstByte.{char-width, tail-bytes}
 use Rattle.utf8.specs.Rows.{no-row}
@@ -47,7 +47,7 @@ unfolding last-from
 starts-here m n [] h = absurd (omega arith)
 starts-here m n (b ∷ bs) h = refl
 
-first : {c : List ℕ} → Character table c → (s : List ℕ) → last-char (c ++ s) ≡ last-from 0 0 (length c) s
+first : {c : List ℕ} → Character table-3-7 c → (s : List ℕ) → last-char (c ++ s) ≡ last-from 0 0 (length c) s
 unfolding last-from
 first {c = []} k s = absurd (omega (arith, char-some k))
 first {c = b ∷ c} k s =
@@ -55,11 +55,11 @@ first {c = b ∷ c} k s =
     ∙ through 0 (0 + 1) c s
     ∙ ap (λ (i : ℕ). last-from 0 0 i s) (omega arith)
 
-alone : {c : List ℕ} → Character table c → last-char (c ++ []) ≡ 0
+alone : {c : List ℕ} → Character table-3-7 c → last-char (c ++ []) ≡ 0
 unfolding last-from
 alone k = first k []
 
-past : {c : List ℕ} → Character table c → (s : List ℕ) → 0 < length s → last-char (c ++ s) ≡ length c + last-char s
+past : {c : List ℕ} → Character table-3-7 c → (s : List ℕ) → 0 < length s → last-char (c ++ s) ≡ length c + last-char s
 past {c} k s h =
     first k s ∙ starts-here 0 (length c) s h
     ∙ ap (λ (i : ℕ). last-from 0 i i s) (sym (add-zero (length c)))
@@ -78,15 +78,15 @@ Continuation b = (0x80 ≤ b) × (b ≤ 0xBF)
 
 -- a well-formed text does not start with a continuation byte
 lead : (b : ℕ) (bs : List ℕ) → WellFormed (b ∷ bs) → Continuation b → ⊥
-unfolding table
+unfolding table-3-7
 lead b bs w h = omega (arith, character-starts b bs w .length-is, width-pos b, no-row 1 b bs (omega arith))
 
 -- the bytes of a first character behind its first byte
-tail-of : {c : List ℕ} → Character table c → (s : List ℕ) (j : ℕ) → suc j < length c → Continuation (getD (c ++ s) (suc j) 0)
+tail-of : {c : List ℕ} → Character table-3-7 c → (s : List ℕ) (j : ℕ) → suc j < length c → Continuation (getD (c ++ s) (suc j) 0)
 tail-of {c = []} k s j h = absurd (omega arith)
 tail-of {c = b ∷ c} k s j h = rw (List·getD-append c s 0 j (omega arith)) (tail-bytes k j (omega arith))
 
-only : {c : List ℕ} → Character table c → (at : ℕ) → at < length (c ++ []) → (Continuation (getD (c ++ []) at 0) → ⊥) → 0 ≡ at
+only : {c : List ℕ} → Character table-3-7 c → (at : ℕ) → at < length (c ++ []) → (Continuation (getD (c ++ []) at 0) → ⊥) → 0 ≡ at
 only k zero h here = refl
 only {c} k (suc j) h here = absurd (here (tail-of k [] j (omega (arith, length-append c []))))
 

@@ -6,7 +6,7 @@ use native.Mathlib.Omega.{arith}
 use native.Mathlib.Nat.{add-zero}
 use lib.ListN.{length, take, drop, length-append, length-drop, take-append-drop}
 use lib.Seq.{take-add, drop-nil, drop-append-seam, length-take-le}
-use Rattle.utf8.specs.Table.{table, agree, lengthIn, charLength}
+use Rattle.utf8.specs.Table.{table-3-7, agree, lengthIn, charLength}
 use Rattle.utf8.specs.TableLaws.{char-length, char-of-length, char-some}
 use Rattle.utf8.specs.WellFormed.{Character, WellFormed, empty, more}
 use Rattle.utf8.specs.Validate.{validate-from, validate}
@@ -21,7 +21,7 @@ skips (suc k) n [] = refl
 skips (suc k) n (b ∷ bs) = skips k (n + 1) bs ∙ ap (λ (m : ℕ). validate-from 0 m (drop k bs)) (omega arith)
 
 pub steps : (n : ℕ) (s : List ℕ) (k : ℕ) → charLength s ≡ suc k → validate-from 0 n s ≡ validate-from 0 (n + suc k) (drop (suc k) s)
-unfolding validate-from lengthIn table agree
+unfolding validate-from lengthIn table-3-7 agree
 steps n [] k e = absurd (omega arith)
 steps n (b ∷ bs) k e = rw (e, validate-from) (skips k (n + 1) bs ∙ ap (λ (m : ℕ). validate-from 0 m (drop k bs)) (omega arith))
 
@@ -31,7 +31,7 @@ stops n [] h e = absurd (omega arith)
 stops n (b ∷ bs) h e = rw (e, validate-from)
 
 -- what a start of characters comes to
-past : {c : List ℕ} → Character table c → (n : ℕ) (s : List ℕ) → validate-from 0 n (c ++ s) ≡ validate-from 0 (n + length c) s
+past : {c : List ℕ} → Character table-3-7 c → (n : ℕ) (s : List ℕ) → validate-from 0 n (c ++ s) ≡ validate-from 0 (n + length c) s
 past {c} k n s = by-length (length c) refl
   where
     by-length : (j : ℕ) → length c ≡ j → validate-from 0 n (c ++ s) ≡ validate-from 0 (n + length c) s

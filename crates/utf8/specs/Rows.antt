@@ -5,7 +5,7 @@ use mathlib.Core.Bool.{Bool, true, false, true≢false, cond}
 use Prim.Native.Nat.{ℕ, zero, suc, _≤_, _<_}
 use native.Mathlib.Omega.{arith}
 use lib.ListN.{length, getD, drop}
-use Rattle.utf8.specs.Table.{Range, _⋯_, Row, table, in-range, agree, row-fits, lengthIn, charLength}
+use Rattle.utf8.specs.Table.{Range, _⋯_, Row, table-3-7, in-range, agree, row-fits, lengthIn, charLength}
 use Rattle.utf8.specs.TableLaws.{in-range-yes, in-range-under, in-range-over, fits-on, fits-off, fits-none, RowsRise, rows-rise}
 
 -- the length of a character whose bytes after the first are those of the row, 0 where the bytes do not start so
@@ -59,11 +59,11 @@ in-none n ((low ⋯ high ∷ row) ∷ rows) u (suc i) b f bs =
     rw (fits-off (low ⋯ high) row b bs (in-range-over low high b (f .0))) (in-none (suc high) rows (u .2) i b (f .1) bs)
 
 -- the character's length where its first byte is one of row i, and where it is one of no row
-pub first-row : (i b : ℕ) (bs : List ℕ) → FirstRow i table b → charLength (b ∷ bs) ≡ tailLength (drop 1 (getD table i [])) bs
-first-row i b bs f = in-row 0 table rows-rise i b f bs
+pub first-row : (i b : ℕ) (bs : List ℕ) → FirstRow i table-3-7 b → charLength (b ∷ bs) ≡ tailLength (drop 1 (getD table-3-7 i [])) bs
+first-row i b bs f = in-row 0 table-3-7 rows-rise i b f bs
 
-pub no-row : (i b : ℕ) (bs : List ℕ) → Between i table b → charLength (b ∷ bs) ≡ 0
-no-row i b bs f = in-none 0 table rows-rise i b f bs
+pub no-row : (i b : ℕ) (bs : List ℕ) → Between i table-3-7 b → charLength (b ∷ bs) ≡ 0
+no-row i b bs f = in-none 0 table-3-7 rows-rise i b f bs
 
 -- a row's bytes one by one
 pub fits-one : (r : Range) (b : ℕ) (bs : List ℕ) → row-fits (r ∷ []) (b ∷ bs) ≡ in-range r b

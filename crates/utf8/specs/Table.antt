@@ -14,8 +14,8 @@ pub data Range : Type 0 where
 abbrev pub Row : Type 0
 Row = List Range
 
-unfoldable pub table : List Row
-table =
+unfoldable pub table-3-7 : List Row
+table-3-7 =
     (0x00 ⋯ 0x7F ∷ [])
     ∷ (0xC2 ⋯ 0xDF ∷ 0x80 ⋯ 0xBF ∷ [])
     ∷ (0xE0 ⋯ 0xE0 ∷ 0xA0 ⋯ 0xBF ∷ 0x80 ⋯ 0xBF ∷ [])
@@ -47,4 +47,4 @@ lengthIn (row ∷ rows) bs = cond (row-fits row bs) (length row) (lengthIn rows 
 
 -- the length of the character that the bytes start with, 0 where there is none
 abbrev pub charLength : List ℕ → ℕ
-charLength bs = lengthIn table bs
+charLength bs = lengthIn table-3-7 bs

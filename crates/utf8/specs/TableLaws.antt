@@ -7,7 +7,7 @@ use native.Mathlib.Omega.{arith}
 use lib.Dec.{leb, eqb·zero-suc, eqb·suc-suc}
 use borrow.Author.Tests.{le-leb, lt-leb, leb-true}
 use lib.ListN.{length, take}
-use Rattle.utf8.specs.Table.{Range, _⋯_, Row, table, in-range, agree, row-fits, lengthIn, charLength}
+use Rattle.utf8.specs.Table.{Range, _⋯_, Row, table-3-7, in-range, agree, row-fits, lengthIn, charLength}
 use Rattle.utf8.specs.WellFormed.{Sequence, done, byte, Character, here, there}
 
 -- a byte against a range
@@ -79,8 +79,8 @@ RowsRise n [] = Unit {0}
 RowsRise n ([] ∷ rows) = ⊥
 RowsRise n ((low ⋯ high ∷ row) ∷ rows) = (n ≤ low) × (low ≤ high) × RowsRise (suc high) rows
 
-pub rows-rise : RowsRise 0 table
-unfolding table
+pub rows-rise : RowsRise 0 table-3-7
+unfolding table-3-7
 rows-rise = omega arith
 
 -- a sequence of a later row is none of this one
@@ -98,7 +98,7 @@ length-in n u (there {row = []} k) s = absurd u
 length-in n u (there {row = low ⋯ high ∷ row} k) s = rw (later low high row (omega arith) (u .2) k s) (length-in (suc high) (u .2) k s)
 
 -- bytes that start with a character have its length
-pub char-length : {c : List ℕ} → Character table c → (s : List ℕ) → charLength (c ++ s) ≡ length c
+pub char-length : {c : List ℕ} → Character table-3-7 c → (s : List ℕ) → charLength (c ++ s) ≡ length c
 char-length k s = length-in 0 rows-rise k s
 
 abbrev Led : List Row → List ℕ → ℕ → Type 0
@@ -115,8 +115,8 @@ in-rows (row ∷ rows) s k e = by-test (row-fits row s) refl e (in-rows rows s k
     by-test false f e again = let q = again e in (q .0, there (q .1))
 
 -- bytes that have a length start with a character of that length
-pub char-of-length : (s : List ℕ) (k : ℕ) → charLength s ≡ suc k → (suc k ≤ length s) × Character table (take (suc k) s)
-char-of-length s k e = in-rows table s k e
+pub char-of-length : (s : List ℕ) (k : ℕ) → charLength s ≡ suc k → (suc k ≤ length s) × Character table-3-7 (take (suc k) s)
+char-of-length s k e = in-rows table-3-7 s k e
 
 -- no character is empty
 some-byte : (n : ℕ) {rows : List Row} {c : List ℕ} → RowsRise n rows → Character rows c → 0 < length c
@@ -125,5 +125,5 @@ some-byte n u (here (byte l h q)) = omega arith
 some-byte n u (there {row = []} k) = absurd u
 some-byte n u (there {row = low ⋯ high ∷ row} k) = some-byte (suc high) (u .2) k
 
-pub char-some : {c : List ℕ} → Character table c → 0 < length c
+pub char-some : {c : List ℕ} → Character table-3-7 c → 0 < length c
 char-some k = some-byte 0 rows-rise k

@@ -1,7 +1,7 @@
 -- Well-formed UTF-8: characters one after another, each a sequence of a row of table 3-7.
 use mathlib.Core.List.{List, [], _∷_, _++_}
 use Prim.Native.Nat.{ℕ, _≤_}
-use Rattle.utf8.specs.Table.{_⋯_, Row, table}
+use Rattle.utf8.specs.Table.{_⋯_, Row, table-3-7}
 
 -- a sequence of a row: a byte of each range, in order
 pub data Sequence : Row → List ℕ → Type 0 where
@@ -16,4 +16,4 @@ pub data Character : List Row → List ℕ → Type 0 where
 -- the empty text, and a character with a well-formed text after it
 pub data WellFormed : List ℕ → Type 0 where
   empty : WellFormed []
-  more : {c s : List ℕ} → Character table c → WellFormed s → WellFormed (c ++ s)
+  more : {c s : List ℕ} → Character table-3-7 c → WellFormed s → WellFormed (c ++ s)

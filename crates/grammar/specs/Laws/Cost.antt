@@ -18,7 +18,7 @@ use Rattle.grammar.specs.Laws.Here.{while-rest, bind-nothing, expect-her
 use Rattle.grammar.specs.Item.{parse-visibility, optional-visibility}
 use Rattle.grammar.specs.Laws.LiveItem.{opens}
 use Rattle.grammar.specs.Laws.Stops.{Stops}
-use Rattle.grammar.specs.Laws.Live.{any, some, takes, Truly}
+use Rattle.grammar.specs.Laws.Live.{anywhere, some, takes, Truly}
 
 -- A token pays for itself and a diagnostic.
 pub record Price : Type 0 where
@@ -60,25 +60,25 @@ module _ {p : Price} where
   cost-weak C i h = record { cost = λ r k. omega (arith, C .cost r (i r k)) }
 
   -- Wherever; where it is known to hold already.
-  pub cost-any : {q : List Sym → Bool} {c e c′ e′ : ℕ} {A : Type 0} {f : P A} → Cost p any c e f → c + e′ ≤ c′ + e → Cost p q c′ e′ f
+  pub cost-any : {q : List Sym → Bool} {c e c′ e′ : ℕ} {A : Type 0} {f : P A} → Cost p anywhere c e f → c + e′ ≤ c′ + e → Cost p q c′ e′ f
   cost-any C h = cost-weak C (λ r k. refl) h
 
   pub cost-le : {q : List Sym → Bool} {c e c′ e′ : ℕ} {A : Type 0} {f : P A} → Cost p q c e f → c + e′ ≤ c′ + e → Cost p q c′ e′ f
   cost-le C h = cost-weak C (λ r k. k) h
 
-  pub cost-pure : {A : Type 0} (a : A) → Cost p any 0 0 (pure a)
+  pub cost-pure : {A : Type 0} (a : A) → Cost p anywhere 0 0 (pure a)
   unfolding pure
   cost-pure a = record { cost = λ r k. omega arith }
 
-  pub cost-err : (m : ℕ) → Cost p any (p .ofSay) 0 (err m)
+  pub cost-err : (m : ℕ) → Cost p anywhere (p .ofSay) 0 (err m)
   unfolding err
   cost-err m = record { cost = λ r k. omega arith }
 
-  pub cost-take-any : Cost p any 0 0 take-token
+  pub cost-take-any : Cost p anywhere 0 0 take-token
   unfolding take-token
   cost-take-any = record { cost = c }
     where
-      c : (r : List Sym) → any r ≡ true → weigh p (take-token r .out) + p .pay * length (take-token r .rest) + 0 ≤ p .pay * length r + 0
+      c : (r : List Sym) → anywhere r ≡ true → weigh p (take-token r .out) + p .pay * length (take-token r .rest) + 0 ≤ p .pay * length r + 0
       c [] k = omega arith
       c (s ∷ r) k = omega (arith, p .fits s)
 
@@ -103,7 +103,7 @@ module _ {p : Price} where
   cost-pick true F G = F
   cost-pick false F G = G
 
-  pub cost-bind : {q : List Sym → Bool} {c e c′ e′ : ℕ} {A B : Type 0} {f : P A} {g : A → P B} → Cost p q c e f → ((a : A) → Cost p any c′ e′ (g a)) → Cost p q (c + c′) (e + e′) (f >>= g)
+  pub cost-bind : {q : List Sym → Bool} {c e c′ e′ : ℕ} {A B : Type 0} {f : P A} {g : A → P B} → Cost p q c e f → ((a : A) → Cost p anywhere c′ e′ (g a)) → Cost p q (c + c′) (e + e′) (f >>= g)
   unfolding _>>=_
   cost-bind {f} {g} F G = record { cost = λ r k. omega (arith, F .cost r k, G (f r .val) .cost (f r .rest) refl, weigh-app p (f r .out) (g (f r .val) (f r .rest) .out)) }
 
@@ -113,10 +113,10 @@ module _ {p : Price} where
   cost-said m G = record { cost = λ r k. omega (arith, G true .cost r k) }
 
   -- Behind what costs nothing; behind what lacks c.
-  pub cost-then : {c e : ℕ} {A B : Type 0} {f : P A} {g : A → P B} → Cost p any 0 0 f → ((a : A) → Cost p any c e (g a)) → Cost p any c e (f >>= g)
+  pub cost-then : {c e : ℕ} {A B : Type 0} {f : P A} {g : A → P B} → Cost p anywhere 0 0 f → ((a : A) → Cost p anywhere c e (g a)) → Cost p anywhere c e (f >>= g)
   cost-then F G = cost-any (cost-bind F G) (omega arith)
 
-  pub cost-after : {c : ℕ} {A B : Type 0} {f : P A} {g : A → P B} → Cost p any c 0 f → ((a : A) → Cost p any 0 0 (g a)) → Cost p any c 0 (f >>= g)
+  pub cost-after : {c : ℕ} {A B : Type 0} {f : P A} {g : A → P B} → Cost p anywhere c 0 f → ((a : A) → Cost p anywhere 0 0 (g a)) → Cost p anywhere c 0 (f >>= g)
   cost-after F G = cost-any (cost-bind F G) (omega arith)
 
   -- Where f does nothing.
@@ -156,15 +156,15 @@ module _ {p : Price} where
   unfolding inNode
   cost-node j F = record { cost = λ r k. omega (arith, F .cost r k) }
 
-  pub cost-eof : {c e : ℕ} {A : Type 0} {f g : P A} → Cost p any c e f → Cost p some c e g → Cost p any c e (if eof then f else g)
+  pub cost-eof : {c e : ℕ} {A : Type 0} {f g : P A} → Cost p anywhere c e f → Cost p some c e g → Cost p anywhere c e (if eof then f else g)
   unfolding _>>=_ peek eof some
   cost-eof {c} {e} {f} {g} F G = record { cost = d }
     where
-      d : (r : List Sym) → any r ≡ true → weigh p ((if eof then f else g) r .out) + p .pay * length ((if eof then f else g) r .rest) + e ≤ p .pay * length r + c
+      d : (r : List Sym) → anywhere r ≡ true → weigh p ((if eof then f else g) r .out) + p .pay * length ((if eof then f else g) r .rest) + e ≤ p .pay * length r + c
       d [] k = F .cost [] refl
       d (s ∷ r) k = G .cost (s ∷ r) refl
 
-  pub cost-scan : {L : Type 0} (step : L → List Sym → Round L) (l : L) → Cost p any 0 0 (scan step l)
+  pub cost-scan : {L : Type 0} (step : L → List Sym → Round L) (l : L) → Cost p anywhere 0 0 (scan step l)
   cost-scan step l = record { cost = λ r k. scan-cost p step l r }
 
   -- A loop whose first round takes a token.
@@ -181,7 +181,7 @@ module _ {p : Price} where
       c [] i = absurd (false≢true i)
       c (s ∷ r) i = d s r (step l (s ∷ r)) (f s r i)
 
-  pub cost-while : (t : Sym → Bool) → Cost p any 0 0 (bump-while t)
+  pub cost-while : (t : Sym → Bool) → Cost p anywhere 0 0 (bump-while t)
   unfolding bump-while
   cost-while t = cost-scan _ true
 
@@ -195,8 +195,8 @@ module _ {p : Price} where
       c (s ∷ r) i = rw (expect-here k m t s r i) (omega (arith, h s i))
 
   -- A block that found its closer is at it.
-  pub cost-outcome : {t : Terminators} {B : Type 0} {c c′ : ℕ} {f : P BlockParseOutcome} (g : BlockParseOutcome → P B) → Cost p any c 0 f → Stops t f → Cost p (at-terminator t) c′ 0 (g BlockParseOutcome.FoundTerminator) →
-      Cost p any c′ 0 (g BlockParseOutcome.RecoveredImplicitEnd) → Cost p any c′ 0 (g BlockParseOutcome.ReachedEof) → Cost p any (c + c′) 0 (f >>= g)
+  pub cost-outcome : {t : Terminators} {B : Type 0} {c c′ : ℕ} {f : P BlockParseOutcome} (g : BlockParseOutcome → P B) → Cost p anywhere c 0 f → Stops t f → Cost p (at-terminator t) c′ 0 (g BlockParseOutcome.FoundTerminator) →
+      Cost p anywhere c′ 0 (g BlockParseOutcome.RecoveredImplicitEnd) → Cost p anywhere c′ 0 (g BlockParseOutcome.ReachedEof) → Cost p anywhere (c + c′) 0 (f >>= g)
   unfolding _>>=_
   cost-outcome {t} {B} {c} {c′} {f} g F S G R E = record { cost = λ r k. omega (arith, F .cost r k, d (f r .val) (f r .rest) (S .stops r), weigh-app p (f r .out) (g (f r .val) (f r .rest) .out)) }
     where
@@ -209,7 +209,7 @@ module _ {p : Price} where
 pub record Rounds (p : Price) (c : ℕ) (f : P Bool) : Type 0 where
   pub rounds : (r : List Sym) → weigh p (f r .out) + p .pay * length (f r .rest) + cond (f r .val) c 0 ≤ p .pay * length r + c
 
-pub rounds-zero : {p : Price} {f : P Bool} → Cost p any 0 0 f → Rounds p 0 f
+pub rounds-zero : {p : Price} {f : P Bool} → Cost p anywhere 0 0 f → Rounds p 0 f
 rounds-zero {p} {f} F = record { rounds = λ r. d (f r .val) r (F .cost r refl) }
   where
     d : (u : Bool) (r : List Sym) → weigh p (f r .out) + p .pay * length (f r .rest) + 0 ≤ p .pay * length r + 0 → weigh p (f r .out) + p .pay * length (f r .rest) + cond u 0 0 ≤ p .pay * length r + 0
@@ -217,7 +217,7 @@ rounds-zero {p} {f} F = record { rounds = λ r. d (f r .val) r (F .cost r refl) 
     d false r h = h
 
 module _ {p : Price} {c : ℕ} where
-  pub rounds-then : {A : Type 0} {f : P A} {g : A → P Bool} → Cost p any 0 0 f → ((a : A) → Rounds p c (g a)) → Rounds p c (f >>= g)
+  pub rounds-then : {A : Type 0} {f : P A} {g : A → P Bool} → Cost p anywhere 0 0 f → ((a : A) → Rounds p c (g a)) → Rounds p c (f >>= g)
   unfolding _>>=_
   rounds-then {A} {f} {g} F G = record { rounds = λ r. omega (arith, F .cost r refl, G (f r .val) .rounds (f r .rest), weigh-app p (f r .out) (g (f r .val) (f r .rest) .out)) }
 
@@ -229,11 +229,11 @@ module _ {p : Price} {c : ℕ} where
       d true r = F .rounds r
       d false r = G .rounds r
 
-  pub rounds-true : {A : Type 0} {f : P A} → Cost p any 0 0 f → Rounds p c (f >> pure true)
+  pub rounds-true : {A : Type 0} {f : P A} → Cost p anywhere 0 0 f → Rounds p c (f >> pure true)
   unfolding _>>=_ pure
   rounds-true {A} {f} F = record { rounds = λ r. omega (arith, F .cost r refl, weigh-app p (f r .out) nil) }
 
-  pub rounds-false : {A : Type 0} {f : P A} → Cost p any c 0 f → Rounds p c (f >> pure false)
+  pub rounds-false : {A : Type 0} {f : P A} → Cost p anywhere c 0 f → Rounds p c (f >> pure false)
   unfolding _>>=_ pure
   rounds-false {A} {f} F = record { rounds = λ r. omega (arith, F .cost r refl, weigh-app p (f r .out) nil) }
 
@@ -255,7 +255,7 @@ module _ {p : Price} {c : ℕ} {f : P Bool} (F : Rounds p c f) (E : Truly f) whe
       d ih true e g = omega (arith, ih (omega (arith, E .truly r e)), g, weigh-app p (f r .out) (repeat n f (f r .rest) .out))
       d ih false e g = omega (arith, g, weigh-app p (f r .out) nil)
 
-  pub cost-loop : Cost p any c 0 (loop f)
+  pub cost-loop : Cost p anywhere c 0 (loop f)
   unfolding loop
   cost-loop = record { cost = λ r k. repeat-cost (suc (length r)) r (omega arith) }
 
@@ -288,13 +288,13 @@ module _ (p : Price) (k : Sym) (m : Message) (e : ℕ) (h : (s : Sym) → is k s
           d true j i = omega (arith, g, h s j, weigh-app p (bump-while regular-trivia r .out) (leaf s nil))
           d false j i = absurd (false≢true i)
 
-pub cost-expect : {p : Price} (k : Sym) (m : Message) → Cost p any (p .ofSay) 0 (expect-kind k m)
+pub cost-expect : {p : Price} (k : Sym) (m : Message) → Cost p anywhere (p .ofSay) 0 (expect-kind k m)
 unfolding expect-kind
 cost-expect {p} k m = cost-then (cost-while regular-trivia) (λ a. cost-if (at (is k)) (cost-any (cost-then cost-take-any (λ a. cost-pure true)) (omega arith)) (cost-after (cost-err _) (λ a. cost-pure false)))
 
 -- What follows an expect by its answer.
 pub cost-ok : {p : Price} (k : Sym) (m : Message) (e : ℕ) → ((s : Sym) → is k s ≡ true → p .ofLeaf s + e ≤ p .pay) → {a b c : ℕ} {A : Type 0} {f g : P A} →
-    Cost p any a 0 f → Cost p any b 0 g → p .ofSay + a ≤ c → b ≤ c + e → Cost p any c 0 (expect-kind k m >>= λ ok. pick (not ok) f g)
+    Cost p anywhere a 0 f → Cost p anywhere b 0 g → p .ofSay + a ≤ c → b ≤ c + e → Cost p anywhere c 0 (expect-kind k m >>= λ ok. pick (not ok) f g)
 unfolding _>>=_
 cost-ok {p} k m e h {a} {b} {c} {A} {f} {g} F G i j = record { cost = λ r q. d (expect-kind k m r .val) r refl }
   where
@@ -304,7 +304,7 @@ cost-ok {p} k m e h {a} {b} {c} {A} {f} {g} F G i j = record { cost = λ r q. d 
 
 -- A declaration: behind its visibility, or at one of its keywords.
 pub cost-declared : {p : Price} (ks : List Sym) {b c e o : ℕ} {A : Type 0} {g : Bool → P A} → Cost p (at (is PUB)) 0 e parse-visibility →
-    ((a : Bool) → Cost p any b 0 (g a)) → Cost p (at (oneOf ks)) c o (g true) → b + o ≤ c + e → Cost p (at (opens ks)) c o (optional-visibility >>= g)
+    ((a : Bool) → Cost p anywhere b 0 (g a)) → Cost p (at (oneOf ks)) c o (g true) → b + o ≤ c + e → Cost p (at (opens ks)) c o (optional-visibility >>= g)
 unfolding optional-visibility _>>=_ peek pure at
 cost-declared {p} ks {b} {c} {e} {o} {A} {g} X G E i = record { cost = f }
   where

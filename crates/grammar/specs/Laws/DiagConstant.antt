@@ -19,7 +19,7 @@ use Rattle.grammar.specs.Bump.{bump-while, expect-kind, expect-name}
 use Rattle.grammar.specs.Line.{no-token, expr-round, parse-expr-until-line-end, tail-round, parse-line-tail}
 use Rattle.grammar.specs.Item.{parse-visibility, optional-visibility, parse-constant, at-declaration}
 use Rattle.grammar.specs.Laws.Here.{and-l, not-true, is-not, is-same, while-rest, bind-assoc}
-use Rattle.grammar.specs.Laws.Live.{any, some, at-some, takes}
+use Rattle.grammar.specs.Laws.Live.{anywhere, some, at-some, takes}
 use Rattle.grammar.specs.Laws.Cost.{constant-value, constant-equal, constant-name, weigh, weigh-app, scan-cost, cost-weak, cost-any, cost-le, cost-bind, cost-node, cost-while, expect-true}
 use Rattle.grammar.specs.Laws.DiagCost.{errors, diags-price, Cost2, no-error, expects, cost-tail}
 use Rattle.grammar.specs.Laws.DiagItem.{cost-visibility, cost-value, cost-equal, cost-constant-name, cost-constant}
@@ -49,7 +49,7 @@ owes-le C h = record { owes = λ r k. omega (arith, C .owes r k) }
 left-skip : (r : List Sym) → left r ≡ true → left (skip regular-trivia r) ≡ true
 left-skip r e = rw (skip-at regular-trivia (skip regular-trivia r) (skip-no regular-trivia r)) e
 
-owes-expect : (k : Sym) (m : Message) → is k Syntax.Error ≡ false → {b c d e o : ℕ} {A : Type 0} {g : Bool → P A} → ((a : Bool) → Owes any b e (g a)) → ((a : Bool) → Owes left c o (g a)) → b ≤ d + e + 2 → suc c ≤ d + o → Owes left d 0 (expect-kind k m >>= g)
+owes-expect : (k : Sym) (m : Message) → is k Syntax.Error ≡ false → {b c d e o : ℕ} {A : Type 0} {g : Bool → P A} → ((a : Bool) → Owes anywhere b e (g a)) → ((a : Bool) → Owes left c o (g a)) → b ≤ d + e + 2 → suc c ≤ d + o → Owes left d 0 (expect-kind k m >>= g)
 unfolding _>>=_
 owes-expect k m x {b} {c} {d} {e} {o} {A} {g} F G i j = record { owes = λ r h. f r h (expect-kind k m r .val) refl }
   where
@@ -77,7 +77,7 @@ left-solid r e = rw (while-rest regular-trivia r) (c (skip regular-trivia r) e (
     c [] e h = absurd (false≢true e)
     c (s ∷ l) e h = rw h
 
-owes-name : (m : Message) → {b c d e o : ℕ} {A : Type 0} {g : Bool → P A} → ((a : Bool) → Owes any b e (g a)) → ((a : Bool) → Owes left c o (g a)) → b ≤ d + e + 2 → suc c ≤ d + o → Owes (at solid) d 0 (expect-name m >>= g)
+owes-name : (m : Message) → {b c d e o : ℕ} {A : Type 0} {g : Bool → P A} → ((a : Bool) → Owes anywhere b e (g a)) → ((a : Bool) → Owes left c o (g a)) → b ≤ d + e + 2 → suc c ≤ d + o → Owes (at solid) d 0 (expect-name m >>= g)
 unfolding expect-name _>>=_ peek take-token err at name-like oneOf
 owes-name m {b} {c} {d} {e} {o} {A} {g} F G i j = record { owes = f }
   where

@@ -18,7 +18,7 @@ use Rattle.grammar.specs.Block.{BlockOwner, Terminators, Blocks}
 use Rattle.grammar.specs.Item.{package-in-parens, parse-visibility, optional-visibility, parse-attribute, parse-results, parse-signature, parse-namespace, parse-submodule, attribute-round, procedure-body, parse-procedure, parse-constant, type-name-and-body, parse-type-decl, parse-advice-map, at-declaration, at-procedure}
 use Rattle.grammar.specs.Laws.Here.{at-not-one, none, one-of-one}
 use Rattle.grammar.specs.Laws.Stops.{Stops}
-use Rattle.grammar.specs.Laws.Live.{any}
+use Rattle.grammar.specs.Laws.Live.{anywhere}
 use Rattle.grammar.specs.Laws.LiveItem.{truly-attribute-round, after-attributes, opens, declaration-key, no-attributes}
 use Rattle.grammar.specs.Laws.DiagCost.{diags-price, Cost2, said, no-error, good-token, expects, expects-at, cost-name, cost-path, parens, cost-tail, cost-expr, cost-result, cost-key, cost-closed}
 use Rattle.grammar.specs.Laws.Cost.{constant-value, constant-equal, constant-name, cost-skip, weigh, cost-weak, cost-any, cost-le, cost-pure, cost-take-any, cost-pick, cost-bind, cost-then, cost-after, cost-nothing, cost-if, cost-case, cost-yes, cost-node, cost-scan, cost-while, rounds-zero, cost-loop-first, cost-ok, cost-declared, cost-trivia}
@@ -33,7 +33,7 @@ pub cost-visibility : Cost2 (at (is PUB)) 0 2 parse-visibility
 unfolding parse-visibility oneOf
 cost-visibility = cost-le (cost-node _ (cost-bind (expects-at PUB _ refl refl) (λ a. cost-case _ cost-package (cost-pure true)))) (lit≤ tt)
 
-cost-optional : Cost2 any 0 0 optional-visibility
+cost-optional : Cost2 anywhere 0 0 optional-visibility
 unfolding optional-visibility
 cost-optional = cost-case (at (is PUB)) (cost-le cost-visibility (lit≤ tt)) (cost-pure true)
 
@@ -46,11 +46,11 @@ cost-attribute-round : Cost2 (at (is At)) 0 1 attribute-round
 unfolding attribute-round none oneOf
 cost-attribute-round = cost-trivia (is At) refl _ (cost-yes (at (is At)) _ (cost-le (cost-bind cost-attribute (λ a. cost-pure true)) (lit≤ tt)))
 
-cost-attribute-rounds : Cost2 any 0 0 attribute-round
+cost-attribute-rounds : Cost2 anywhere 0 0 attribute-round
 unfolding attribute-round
 cost-attribute-rounds = cost-then (cost-while _) (λ a. cost-case (at (is At)) (cost-le (cost-bind cost-attribute (λ a. cost-pure true)) (lit≤ tt)) (cost-pure false))
 
-cost-results : Cost2 any 1 0 parse-results
+cost-results : Cost2 anywhere 1 0 parse-results
 unfolding parse-results
 cost-results = cost-then (cost-while _) (λ a. cost-then cost-take-any (λ a. cost-then (cost-while _) (λ a. cost-case (at (is LParen)) (cost-le (parens _) (lit≤ tt)) cost-result)))
 
@@ -63,7 +63,7 @@ unfolding parse-namespace oneOf
 cost-namespace = cost-key NAMESPACE refl refl _ _ (λ a. cost-then (cost-while _) (λ a. cost-any (cost-after (cost-path _) (λ a. cost-tail)) (lit≤ tt)))
 
 -- A name and the end of the line.
-cost-named : (m : Message) → Cost2 any 1 0 (bump-while regular-trivia >> expect-name m >> parse-line-tail)
+cost-named : (m : Message) → Cost2 anywhere 1 0 (bump-while regular-trivia >> expect-name m >> parse-line-tail)
 cost-named m = cost-then (cost-while _) (λ a. cost-after (cost-name _) (λ a. cost-tail))
 
 pub cost-submodule : Cost2 (at (opens (MOD ∷ []))) 0 0 parse-submodule
@@ -71,13 +71,13 @@ unfolding parse-submodule oneOf
 cost-submodule = cost-le (cost-node _ (cost-declared (MOD ∷ []) {b = 2} {c = 0} {o = 0} cost-visibility (λ a. cost-any (cost-bind (expects _ _) (λ a. cost-named _)) (lit≤ tt))
     (cost-weak (cost-bind (expects-at MOD _ refl refl) (λ a. cost-named _)) (one-of-one MOD) (lit≤ tt)) (lit≤ tt))) (lit≤ tt)
 
-pub cost-value : Cost2 any 0 0 constant-value
+pub cost-value : Cost2 anywhere 0 0 constant-value
 cost-value = cost-then cost-expr (λ a. cost-tail)
 
-pub cost-equal : Cost2 any 1 0 constant-equal
+pub cost-equal : Cost2 anywhere 1 0 constant-equal
 cost-equal = cost-after (expects _ _) (λ a. cost-value)
 
-pub cost-constant-name : Cost2 any 2 0 constant-name
+pub cost-constant-name : Cost2 anywhere 2 0 constant-name
 cost-constant-name = cost-then (cost-while _) (λ a. cost-any (cost-bind (cost-name _) (λ a. cost-equal)) (lit≤ tt))
 
 -- At `const`: there is no visibility.
@@ -89,7 +89,7 @@ pub cost-constant : Cost2 (at (oneOf (CONST ∷ []))) 0 0 parse-constant
 unfolding parse-constant oneOf
 cost-constant = cost-le (cost-node {c = 0} {e = 0} _ (cost-nothing _ true no-visibility (cost-weak (cost-bind (expects-at CONST _ refl refl) (λ a. cost-constant-name)) (one-of-one CONST) (lit≤ tt)))) (lit≤ tt)
 
-cost-type-name : Cost2 any 2 0 type-name-and-body
+cost-type-name : Cost2 anywhere 2 0 type-name-and-body
 unfolding type-name-and-body parse-type-body
 cost-type-name = cost-then (cost-while _) (λ a. cost-any (cost-bind (cost-name _) (λ a. cost-then (cost-while _) (λ a. cost-if _ (cost-any (cost-after (cost-node {c = 0} _ (cost-scan _ _)) (λ a. cost-pure true)) (lit≤ tt)) (said _)))) (lit≤ tt))
 
@@ -107,15 +107,15 @@ pub cost-advice-map : Cost2 (at (is ADV-MAP)) 0 0 parse-advice-map
 unfolding parse-advice-map oneOf
 cost-advice-map = cost-key ADV-MAP refl refl _ _ (λ a. cost-then (cost-while _) (λ a. cost-any (cost-bind (cost-name _) (λ a. cost-then (cost-while _) (λ a. cost-then (cost-case (at (is LParen)) (cost-le (parens _) (lit≤ tt)) (cost-pure true)) (λ a. cost-after (expects _ _) (λ a. cost-value))))) (lit≤ tt)))
 
-module _ {blk : Blocks} (h : (w : BlockOwner) (t : Terminators) (d : ℕ) → Cost2 any 1 0 (blk w t d)) (s : (w : BlockOwner) (t : Terminators) (d : ℕ) → Stops t (blk w t d)) where
-  cost-body : Cost2 any 2 0 (procedure-body blk)
+module _ {blk : Blocks} (h : (w : BlockOwner) (t : Terminators) (d : ℕ) → Cost2 anywhere 1 0 (blk w t d)) (s : (w : BlockOwner) (t : Terminators) (d : ℕ) → Stops t (blk w t d)) where
+  cost-body : Cost2 anywhere 2 0 (procedure-body blk)
   unfolding procedure-body
   cost-body = cost-then (cost-while _) (λ a. cost-any (cost-bind (cost-name _) (λ a. cost-then (cost-while _) (λ a. cost-then (cost-case (at (is LParen)) cost-signature (cost-pure true)) (λ a. cost-then cost-tail (λ a. cost-closed h s BlockOwner.Procedure 0))))) (lit≤ tt))
 
-  cost-proc : Cost2 any 1 0 (expect-kind PROC (Message.Procedure ExpectedProc) >>= λ declared. pick (not declared) (pure true) (procedure-body blk))
+  cost-proc : Cost2 anywhere 1 0 (expect-kind PROC (Message.Procedure ExpectedProc) >>= λ declared. pick (not declared) (pure true) (procedure-body blk))
   cost-proc = cost-ok PROC _ 2 (no-error (is PROC) refl) (cost-pure true) cost-body (lit≤ tt) (lit≤ tt)
 
-  cost-after-attributes : Cost2 any 1 0 (after-attributes blk)
+  cost-after-attributes : Cost2 anywhere 1 0 (after-attributes blk)
   cost-after-attributes = cost-then (cost-while _) (λ a. cost-then cost-optional (λ a. cost-then (cost-while _) (λ a. cost-proc)))
 
   cost-at-proc : Cost2 (at (oneOf (PROC ∷ []))) 0 0 (bump-while regular-trivia >> expect-kind PROC (Message.Procedure ExpectedProc) >>= λ declared. pick (not declared) (pure true) (procedure-body blk))

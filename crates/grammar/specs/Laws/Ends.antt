@@ -18,8 +18,8 @@ use Rattle.grammar.specs.Laws.Good.{goes-bind, goes-node, Calm, calm-app
 use Rattle.grammar.specs.Laws.Stable.{test-at, good-while, good-expect, good-name, good-error-token, good-tail}
 use Rattle.grammar.specs.Laws.StableBlock.{good-closing, equal, good-in}
 use Rattle.grammar.specs.Laws.StableItem.{good-visibility, good-attributes, good-signature, good-namespace, good-submodule, test-declaration, test-procedure, good-constant, good-type, good-advice-map}
-use Rattle.grammar.specs.Laws.Numbers.{stray}
-use Rattle.grammar.specs.Laws.Shut.{empty, endsEnd, endsLeaf, top, shuts, shutsLeaf, empty-app, ends-app, leaf-app, ends-tail, shuts-tail}
+use Rattle.grammar.specs.Laws.Numbers.{no-message}
+use Rattle.grammar.specs.Laws.Shut.{empty, endsEnd, endsLeaf, top-block, shuts, shutsLeaf, empty-app, ends-app, leaf-app, ends-tail, shuts-tail}
 use Rattle.grammar.specs.Laws.Here.{is-same}
 
 -- The last newline only is left.
@@ -28,23 +28,23 @@ LeftNl x = x .rest ≡ Newline ∷ []
 
 -- As Good, where the newline only is left, and the function's last tree is the `end` before it. If it is a token, it is that `end`.
 record Ends (b : List Sym) {A : Type 0} (f f′ : P A) : Type 0 where
-  good : Good b stray f f′
+  good : Good b no-message f f′
   word : (r : List Sym) → LeftNl (f r) → endsLeaf (f r .out) ≡ true → endsEnd (f r .out) ≡ true
   full : (r : List Sym) → LeftNl (f r) → empty (f r .out) ≡ false
-  goes : (r : List Sym) → LeftNl (f r) → endsEnd (f r .out) ≡ true → Calm stray (f r .out) → f′ (r ++ b) ≡ ext b (f r)
+  goes : (r : List Sym) → LeftNl (f r) → endsEnd (f r .out) ≡ true → Calm no-message (f r .out) → f′ (r ++ b) ≡ ext b (f r)
 
 -- And where its last tree is a node that this `end` closes.
 pub record Closes (b : List Sym) {A : Type 0} (f f′ : P A) : Type 0 where
-  pub good : Good b stray f f′
+  pub good : Good b no-message f f′
   pub word : (r : List Sym) → LeftNl (f r) → shutsLeaf (f r .out) ≡ true → shuts (f r .out) ≡ true
-  pub goes : (r : List Sym) → LeftNl (f r) → shuts (f r .out) ≡ true → Calm stray (f r .out) → f′ (r ++ b) ≡ ext b (f r)
+  pub goes : (r : List Sym) → LeftNl (f r) → shuts (f r .out) ≡ true → Calm no-message (f r .out) → f′ (r ++ b) ≡ ext b (f r)
 
 -- What f goes on with, at the value a: it ends so, or it never leaves the newline.
 data Then (b : List Sym) {A B : Type 0} (f : P A) (a : A) (g g′ : P B) : Type 0 where
   ends : Ends b g g′ → Then b f a g g′
-  never : Good b stray g g′ → ((r : List Sym) → f r .val ≡ a → LeftNl (g (f r .rest)) → ⊥) → Then b f a g g′
+  never : Good b no-message g g′ → ((r : List Sym) → f r .val ≡ a → LeftNl (g (f r .rest)) → ⊥) → Then b f a g g′
 
-then-good : {b : List Sym} {A B : Type 0} {f : P A} {a : A} {g g′ : P B} → Then b f a g g′ → Good b stray g g′
+then-good : {b : List Sym} {A B : Type 0} {f : P A} {a : A} {g g′ : P B} → Then b f a g g′ → Good b no-message g g′
 then-good (ends e) = e .good
 then-good (never h n) = h
 
@@ -59,7 +59,7 @@ trivia-stop (s ∷ r) = c (regular-trivia s) refl (trivia-stop r)
     c false e h = e
 
 module _ {b : List Sym} where
-  ends-bind : {A B : Type 0} {f f′ : P A} {g g′ : A → P B} → Good b stray f f′ → ((a : A) → Then b f a (g a) (g′ a)) → Ends b (f >>= g) (f′ >>= g′)
+  ends-bind : {A B : Type 0} {f f′ : P A} {g g′ : A → P B} → Good b no-message f f′ → ((a : A) → Then b f a (g a) (g′ a)) → Ends b (f >>= g) (f′ >>= g′)
   unfolding _>>=_
   ends-bind {A} {B} {f} {f′} {g} {g′} F G = record { good = good-bind F (λ a. then-good (G a)); word = λ r. w r (G (f r .val)); full = λ r. u r (G (f r .val)); goes = λ r. h r (G (f r .val)) }
     where
@@ -74,11 +74,11 @@ module _ {b : List Sym} where
       u r (ends E) e = rw (empty-app, E .full (f r .rest) e) (and-false (empty (f r .out)))
       u r (never H n) e = absurd (n r refl e)
 
-      h : (r : List Sym) → Then b f (f r .val) (g (f r .val)) (g′ (f r .val)) → LeftNl ((f >>= g) r) → endsEnd ((f >>= g) r .out) ≡ true → Calm stray ((f >>= g) r .out) → (f′ >>= g′) (r ++ b) ≡ ext b ((f >>= g) r)
+      h : (r : List Sym) → Then b f (f r .val) (g (f r .val)) (g′ (f r .val)) → LeftNl ((f >>= g) r) → endsEnd ((f >>= g) r .out) ≡ true → Calm no-message ((f >>= g) r .out) → (f′ >>= g′) (r ++ b) ≡ ext b ((f >>= g) r)
       h r (never H n) e m k = absurd (n r refl e)
       h r (ends E) e m k =
           let y : Res B = g (f r .val) (f r .rest) in
-          let p = calm-app stray (f r .out) (y .out) k in
+          let p = calm-app no-message (f r .out) (y .out) k in
           let q : endsEnd (y .out) ≡ true = sym (ends-app (f r .out) (y .out) (E .full (f r .rest) e)) ∙ m in
           let t : Tail (f r .rest) = subst Tail (ap (λ l. leaves (y .out) ++ l) (sym e) ∙ E .good .split (f r .rest)) (ends-tail (y .out) q) in
           goes-bind b f f′ g g′ r (F .goes r (more t) (p .0)) (E .goes (f r .rest) e q (p .1))
@@ -108,15 +108,15 @@ expect-word : (m : Message) (r : List Sym) → LeftNl (expect-kind END m r) → 
 unfolding expect-kind _>>=_ peek take-token err pure at
 expect-word m r e = rw (expect-left END m r e) (ends-app (bump-regular-trivia r .out) (leaf END nil) refl)
 
-expect-end : (b : List Sym) (m : Message) (r : List Sym) → LeftNl (expect-kind END m r) → Calm stray (expect-kind END m r .out) → expect-kind END m (r ++ b) ≡ ext b (expect-kind END m r)
+expect-end : (b : List Sym) (m : Message) (r : List Sym) → LeftNl (expect-kind END m r) → Calm no-message (expect-kind END m r .out) → expect-kind END m (r ++ b) ≡ ext b (expect-kind END m r)
 unfolding expect-kind _>>=_ peek take-token err pure at
 expect-end b m r e calm =
     let z : Res Bool = bump-regular-trivia r in
     let q : z .rest ≡ END ∷ Newline ∷ [] = expect-left END m r e in
-    rw (good-while regular-trivia .goes r (more (rw q here)) (calm-app stray (z .out) (key END m (z .rest) .out) calm .0), q)
+    rw (good-while regular-trivia .goes r (more (rw q here)) (calm-app no-message (z .out) (key END m (z .rest) .out) calm .0), q)
 
 -- A block and its `end`.
-ends-block : {b : List Sym} (j : Kind) (w : BlockOwner) {f f′ : P BlockParseOutcome} → Good b stray f f′ → Ends b (inNode j f >>= closing w) (inNode j f′ >>= closing w)
+ends-block : {b : List Sym} (j : Kind) (w : BlockOwner) {f f′ : P BlockParseOutcome} → Good b no-message f f′ → Ends b (inNode j f >>= closing w) (inNode j f′ >>= closing w)
 unfolding _>>=_ inNode closing pure
 ends-block {b} j w {f} {f′} F = record { good = good-bind (good-node j F) (λ o. good-closing w o); word = λ r. v (f r .val) (f r .rest); full = λ r e. refl; goes = h }
   where
@@ -125,16 +125,16 @@ ends-block {b} j w {f} {f′} F = record { good = good-bind (good-node j F) (λ 
     v BlockParseOutcome.RecoveredImplicitEnd l e n = absurd (false≢true n)
     v BlockParseOutcome.ReachedEof l e n = absurd (false≢true n)
 
-    c : (o : BlockParseOutcome) (l : List Sym) → LeftNl (closing w o l) → endsEnd (closing w o l .out) ≡ true → Calm stray (closing w o l .out) → Tail l × (closing w o (l ++ b) ≡ ext b (closing w o l))
+    c : (o : BlockParseOutcome) (l : List Sym) → LeftNl (closing w o l) → endsEnd (closing w o l .out) ≡ true → Calm no-message (closing w o l .out) → Tail l × (closing w o (l ++ b) ≡ ext b (closing w o l))
     c BlockParseOutcome.FoundTerminator l e n k =
         let x : Res Bool = expect-kind END (Message.MissingEnd w) l in (
-          subst Tail (ap (λ i. leaves (x .out) ++ i) (sym e) ∙ good-expect {b = b} {bad = stray} END (Message.MissingEnd w) .split l) (ends-tail (x .out) n),
+          subst Tail (ap (λ i. leaves (x .out) ++ i) (sym e) ∙ good-expect {b = b} {bad = no-message} END (Message.MissingEnd w) .split l) (ends-tail (x .out) n),
           expect-end b (Message.MissingEnd w) l e k,
         )
     c BlockParseOutcome.RecoveredImplicitEnd l e n k = absurd (false≢true n)
     c BlockParseOutcome.ReachedEof l e n k = absurd (false≢true n)
 
-    h : (r : List Sym) → LeftNl ((inNode j f >>= closing w) r) → endsEnd ((inNode j f >>= closing w) r .out) ≡ true → Calm stray ((inNode j f >>= closing w) r .out) → (inNode j f′ >>= closing w) (r ++ b) ≡ ext b ((inNode j f >>= closing w) r)
+    h : (r : List Sym) → LeftNl ((inNode j f >>= closing w) r) → endsEnd ((inNode j f >>= closing w) r .out) ≡ true → Calm no-message ((inNode j f >>= closing w) r .out) → (inNode j f′ >>= closing w) (r ++ b) ≡ ext b ((inNode j f >>= closing w) r)
     h r e n k = let q = c (f r .val) (f r .rest) e n (k .1) in goes-bind b (inNode j f) (inNode j f′) (closing w) (closing w) r (goes-node b j f f′ r (F .goes r (more (q .0)) (k .0))) (q .1)
 
 -- expect that fails leaves something else.
@@ -142,11 +142,11 @@ expect-fails : (k : Sym) (m : Message) (r : List Sym) → is k k ≡ true → ex
 unfolding expect-kind _>>=_ peek take-token err pure at
 expect-fails k m r h e n = true≢false (rw (expect-left k m r n, h) at e)
 
-closes-node : {b : List Sym} (j : Kind) {A : Type 0} {f f′ : P A} → top j ≡ true → Ends b f f′ → Closes b (inNode j f) (inNode j f′)
+closes-node : {b : List Sym} (j : Kind) {A : Type 0} {f f′ : P A} → top-block j ≡ true → Ends b f f′ → Closes b (inNode j f) (inNode j f′)
 unfolding inNode
 closes-node {b} j {A} {f} {f′} t E = record { good = good-node j (E .good); word = λ r e n. rw t (E .word r e (rw t at n)); goes = λ r e n k. goes-node b j f f′ r (E .goes r e (rw (← (ap (λ u. u && endsEnd (f r .out)) t)) n) (k .0)) }
 
-closes-never : {b : List Sym} {A : Type 0} {f f′ : P A} → Good b stray f f′ → ((r : List Sym) → (shuts (f r .out) ≡ false) × (shutsLeaf (f r .out) ≡ false)) → Closes b f f′
+closes-never : {b : List Sym} {A : Type 0} {f f′ : P A} → Good b no-message f f′ → ((r : List Sym) → (shuts (f r .out) ≡ false) × (shutsLeaf (f r .out) ≡ false)) → Closes b f f′
 closes-never G h = record { good = G; word = λ r e n. absurd (false≢true (sym (h r .1) ∙ n)); goes = λ r e n k. absurd (false≢true (sym (h r .0) ∙ n)) }
 
 closes-if : {b : List Sym} {A : Type 0} (t : List Sym → Bool) {f f′ g g′ : P A} → ((r : List Sym) → Cond b r → t (r ++ b) ≡ t r) → Closes b f f′ → Closes b g g′ → Closes b (if t then f else g) (if t then f′ else g′)
@@ -157,7 +157,7 @@ closes-if {b} {A} t {f} {f′} {g} {g′} h F G = record { good = good-if t h (F
     at-branch true = F
     at-branch false = G
 
-    c : (r : List Sym) → LeftNl ((if t then f else g) r) → shuts ((if t then f else g) r .out) ≡ true → Calm stray ((if t then f else g) r .out) → (if t then f′ else g′) (r ++ b) ≡ ext b ((if t then f else g) r)
+    c : (r : List Sym) → LeftNl ((if t then f else g) r) → shuts ((if t then f else g) r .out) ≡ true → Calm no-message ((if t then f else g) r .out) → (if t then f′ else g′) (r ++ b) ≡ ext b ((if t then f else g) r)
     c r e n k =
         let C : Closes b (pick (t r) f g) (pick (t r) f′ g′) = at-branch (t r) in
         let q : Tail r = subst Tail (ap (λ l. leaves (pick (t r) f g r .out) ++ l) (sym e) ∙ C .good .split r) (shuts-tail (pick (t r) f g r .out) n) in
@@ -166,7 +166,7 @@ closes-if {b} {A} t {f} {f′} {g} {g′} h F G = record { good = good-if t h (F
 module _ (b : List Sym) (side : at (is RParen) (next-relevant-top-level-token b) ≡ false) (lim : ℕ) where
   ends-blk : (w : BlockOwner) (t : Terminators) (d : ℕ) → Ends b (parse-block lim w t d >>= closing w) (parse-block lim w t d >>= closing w)
   unfolding parse-block
-  ends-blk w t d = ends-block Block w (good-in b side stray refl lim lim (equal refl) w t d)
+  ends-blk w t d = ends-block Block w (good-in b side no-message refl lim lim (equal refl) w t d)
 
   closes-begin : Closes b (parse-begin-block (parse-block lim)) (parse-begin-block (parse-block lim))
   unfolding parse-begin-block

@@ -20,7 +20,7 @@ use Rattle.grammar.specs.Block.{BlockOwner, Terminators, BlockRecoveryBo
 use Rattle.grammar.specs.Item.{package-in-parens, parse-visibility, optional-visibility, parse-attribute, parse-results, parse-signature, parse-namespace, parse-submodule, attribute-round, procedure-body, parse-procedure, parse-begin-block, parse-constant, type-name-and-body, parse-type-decl, parse-advice-map, at-declaration, at-procedure, parse-source-item, items, items-in, parse}
 use Rattle.grammar.specs.Laws.Here.{none, one-of-one}
 use Rattle.grammar.specs.Laws.Stops.{Stops, stops-node, stops-loop, stops-block}
-use Rattle.grammar.specs.Laws.Live.{any, some}
+use Rattle.grammar.specs.Laws.Live.{anywhere, some}
 use Rattle.grammar.specs.Laws.LiveLine.{truly-path-round, truly-suffix-round, instruction-first}
 use Rattle.grammar.specs.Laws.LiveBlock.{bare-while, repeat-left}
 use Rattle.grammar.specs.Laws.LiveItem.{truly-attribute-round, after-attributes, opens, declaration-key, no-attributes}
@@ -33,7 +33,7 @@ events-price = record { ofLeaf = λ s. 1; ofNode = 2; ofSay = 0; pay = 7; fits =
 abbrev Cost7 : (List Sym → Bool) → ℕ → ℕ → {A : Type 0} → P A → Type 0
 Cost7 q lack over f = Cost events-price q lack over f
 
-quiet : (m : ℕ) → Cost7 any 0 0 (err m)
+quiet : (m : ℕ) → Cost7 anywhere 0 0 (err m)
 quiet m = cost-err m
 
 one-token : (t : Sym → Bool) → Cost7 (at t) 0 6 take-token
@@ -41,13 +41,13 @@ one-token t = cost-take-at t 6 (λ s e. lit≤ tt)
 
 ruleset zero·rules = (cost-pure, quiet, cost-take-any, cost-pick, cost-if, cost-then, cost-while, cost-scan)
 
-cost-expects : (k : Sym) (m : Message) → Cost7 any 0 0 (expect-kind k m)
+cost-expects : (k : Sym) (m : Message) → Cost7 anywhere 0 0 (expect-kind k m)
 cost-expects k m = cost-expect k m
 
 expects-at : (k : Sym) (m : Message) → regular-trivia k ≡ false → Cost7 (at (is k)) 0 6 (expect-kind k m)
 expects-at k m t = cost-expect-at k m 6 t (λ s e. lit≤ tt)
 
-cost-name : (m : Message) → Cost7 any 0 0 (expect-name m)
+cost-name : (m : Message) → Cost7 anywhere 0 0 (expect-name m)
 unfolding expect-name
 cost-name m = search zero·rules
 
@@ -55,27 +55,27 @@ cost-error-token : (m : Message) → Cost7 some 0 4 (error-token m)
 unfolding error-token
 cost-error-token m = cost-le (cost-node _ (cost-said _ (λ a. cost-take 6 (λ s. lit≤ tt)))) (lit≤ tt)
 
-cost-segments : Cost7 any 0 0 (loop path-round)
+cost-segments : Cost7 anywhere 0 0 (loop path-round)
 unfolding path-round path-segment
 cost-segments = cost-loop (rounds-zero (search zero·rules depth 12)) truly-path-round
 
-cost-path : (m : Message) → Cost7 any 2 0 (parse-path-with-message m)
+cost-path : (m : Message) → Cost7 anywhere 2 0 (parse-path-with-message m)
 unfolding parse-path-with-message
 cost-path m = cost-node {c = 0} _ (search (zero·rules, cost-segments) depth 12)
 
-cost-group : (o k : Sym) (m : Message) → Cost7 any 0 0 (parse-balanced-group o k m)
+cost-group : (o k : Sym) (m : Message) → Cost7 anywhere 0 0 (parse-balanced-group o k m)
 unfolding parse-balanced-group
 cost-group o k m = search (zero·rules, cost-expects) depth 9
 
-cost-tail : Cost7 any 0 0 parse-line-tail
+cost-tail : Cost7 anywhere 0 0 parse-line-tail
 unfolding parse-line-tail
 cost-tail = cost-scan _ true
 
-cost-expr : Cost7 any 2 0 parse-expr-until-line-end
+cost-expr : Cost7 anywhere 2 0 parse-expr-until-line-end
 unfolding parse-expr-until-line-end
 cost-expr = cost-then (cost-while _) (λ a. cost-node _ (cost-scan _ _))
 
-cost-result : Cost7 any 0 0 parse-signature-result-until-line-end
+cost-result : Cost7 anywhere 0 0 parse-signature-result-until-line-end
 unfolding parse-signature-result-until-line-end
 cost-result = search zero·rules
 
@@ -83,32 +83,32 @@ cost-instruction : Cost7 (at starts-instruction) 0 4 parse-instruction
 unfolding parse-instruction
 cost-instruction = cost-le (cost-node _ (cost-scan-first starts-instruction instruction-round before-first 6 (λ s. lit≤ tt) instruction-first)) (lit≤ tt)
 
-cost-suffixes : Cost7 any 0 0 parse-structured-header-suffixes
+cost-suffixes : Cost7 anywhere 0 0 parse-structured-header-suffixes
 unfolding parse-structured-header-suffixes suffix-round suffix-operand
 cost-suffixes = cost-loop (rounds-zero (search (zero·rules, cost-group) depth 12)) truly-suffix-round
 
-cost-reject : Cost7 any 2 0 reject-excessive-control-flow-nesting
+cost-reject : Cost7 anywhere 2 0 reject-excessive-control-flow-nesting
 unfolding reject-excessive-control-flow-nesting
 cost-reject = cost-node {c = 0} _ (search zero·rules)
 
-cost-closing : (w : BlockOwner) (o : BlockParseOutcome) → Cost7 any 0 0 (closing w o)
+cost-closing : (w : BlockOwner) (o : BlockParseOutcome) → Cost7 anywhere 0 0 (closing w o)
 unfolding closing
 cost-closing w o = search (zero·rules, cost-expects)
 
-cost-ended : (w : BlockOwner) (o : BlockParseOutcome) → Cost7 any 0 0 (ended w o)
+cost-ended : (w : BlockOwner) (o : BlockParseOutcome) → Cost7 anywhere 0 0 (ended w o)
 unfolding ended
 cost-ended w o = search (zero·rules, cost-closing)
 
-cost-recover : (w : BlockOwner) (x : BlockRecoveryBoundary) → Cost7 any 2 0 (recover w x)
+cost-recover : (w : BlockOwner) (x : BlockRecoveryBoundary) → Cost7 anywhere 2 0 (recover w x)
 unfolding recover
 cost-recover w x = cost-after (cost-node _ (quiet _)) (λ a. cost-pure _)
 
 -- A node that begins at its keyword, around what lacks 4.
-cost-key : (k : Sym) → regular-trivia k ≡ false → (j : Kind) (m : Message) {A : Type 0} {g : Bool → P A} → ((a : Bool) → Cost7 any 4 0 (g a)) → Cost7 (at (is k)) 0 0 (inNode j (expect-kind k m >>= g))
+cost-key : (k : Sym) → regular-trivia k ≡ false → (j : Kind) (m : Message) {A : Type 0} {g : Bool → P A} → ((a : Bool) → Cost7 anywhere 4 0 (g a)) → Cost7 (at (is k)) 0 0 (inNode j (expect-kind k m >>= g))
 cost-key k t j m G = cost-le (cost-node j (cost-bind (expects-at k m t) G)) (lit≤ tt)
 
-module _ {blk : Blocks} (h : (w : BlockOwner) (t : Terminators) (d : ℕ) → Cost7 any 4 0 (blk w t d)) (s : (w : BlockOwner) (t : Terminators) (d : ℕ) → Stops t (blk w t d)) where
-  cost-else : (d : ℕ) (o : BlockParseOutcome) → Cost7 any 0 0 (if at (is ELSE) then (take-token >> parse-line-tail >> blk BlockOwner.If Terminators.End d) else pure o)
+module _ {blk : Blocks} (h : (w : BlockOwner) (t : Terminators) (d : ℕ) → Cost7 anywhere 4 0 (blk w t d)) (s : (w : BlockOwner) (t : Terminators) (d : ℕ) → Stops t (blk w t d)) where
+  cost-else : (d : ℕ) (o : BlockParseOutcome) → Cost7 anywhere 0 0 (if at (is ELSE) then (take-token >> parse-line-tail >> blk BlockOwner.If Terminators.End d) else pure o)
   cost-else d o = cost-case (at (is ELSE)) (cost-le (cost-bind (one-token (is ELSE)) (λ a. cost-then cost-tail (λ a. h BlockOwner.If Terminators.End d))) (lit≤ tt)) (cost-pure o)
 
   cost-if-form : (d : ℕ) → Cost7 (at (is IF)) 0 0 (parse-if blk d)
@@ -144,8 +144,8 @@ module _ {blk : Blocks} (h : (w : BlockOwner) (t : Terminators) (d : ℕ) → Co
   unfolding parse-begin-block oneOf
   cost-begin = cost-key BEGIN refl _ _ (λ a. cost-then cost-tail (λ a. cost-after (h _ _ 0) (cost-closing _)))
 
-module _ {again : Blocks} (h : (w : BlockOwner) (t : Terminators) (d : ℕ) → Cost7 any 2 0 (again w t d)) (s : (w : BlockOwner) (t : Terminators) (d : ℕ) → Stops t (again w t d)) where
-  cost-round : (lim : ℕ) (w : BlockOwner) (t : Terminators) (d : ℕ) → Cost7 any 2 0 (block-round again lim w t d)
+module _ {again : Blocks} (h : (w : BlockOwner) (t : Terminators) (d : ℕ) → Cost7 anywhere 2 0 (again w t d)) (s : (w : BlockOwner) (t : Terminators) (d : ℕ) → Stops t (again w t d)) where
+  cost-round : (lim : ℕ) (w : BlockOwner) (t : Terminators) (d : ℕ) → Cost7 anywhere 2 0 (block-round again lim w t d)
   unfolding block-round
   cost-round lim w t d =
       cost-eof (cost-any (cost-then (quiet _) (λ a. cost-pure _)) (lit≤ tt))
@@ -158,23 +158,23 @@ module _ {again : Blocks} (h : (w : BlockOwner) (t : Terminators) (d : ℕ) → 
       (cost-case (at starts-instruction) (cost-le (cost-bind cost-instruction (λ a. h w t d)) (lit≤ tt))
       (cost-le (cost-bind (cost-error-token _) (λ a. h w t d)) (lit≤ tt)))))))))
     where
-      inside : (w : BlockOwner) (t : Terminators) (d : ℕ) → Cost7 any 4 0 (inNode Block (again w t d))
+      inside : (w : BlockOwner) (t : Terminators) (d : ℕ) → Cost7 anywhere 4 0 (inNode Block (again w t d))
       inside w t d = cost-node Block (h w t d)
 
-      next : (e : Bool) → Cost7 any 2 0 (pick e (pure BlockParseOutcome.ReachedEof) (again w t d))
+      next : (e : Bool) → Cost7 anywhere 2 0 (pick e (pure BlockParseOutcome.ReachedEof) (again w t d))
       next e = cost-pick e (cost-any (cost-pure _) (lit≤ tt)) (h w t d)
 
-cost-blocks : (n lim : ℕ) (w : BlockOwner) (t : Terminators) (d : ℕ) → Cost7 any 2 0 (block-loop n lim w t d)
+cost-blocks : (n lim : ℕ) (w : BlockOwner) (t : Terminators) (d : ℕ) → Cost7 anywhere 2 0 (block-loop n lim w t d)
 unfolding block-loop
 cost-blocks zero lim w t d = cost-any (cost-then (quiet _) (λ a. cost-pure _)) (lit≤ tt)
 cost-blocks (suc n) lim w t d = cost-round (cost-blocks n lim) (stops-loop n lim) lim w t d
 
-cost-block : (lim : ℕ) (w : BlockOwner) (t : Terminators) (d : ℕ) → Cost7 any 4 0 (parse-block lim w t d)
+cost-block : (lim : ℕ) (w : BlockOwner) (t : Terminators) (d : ℕ) → Cost7 anywhere 4 0 (parse-block lim w t d)
 unfolding parse-block block-in
 cost-block lim w t d = cost-node Block (record { cost = λ r k. cost-blocks (suc (length r)) lim w t d .cost r k })
 
 -- ---- Items.
-cost-package : Cost7 any 0 0 package-in-parens
+cost-package : Cost7 anywhere 0 0 package-in-parens
 unfolding package-in-parens
 cost-package = search (zero·rules, cost-expects) depth 9
 
@@ -182,7 +182,7 @@ cost-visibility : Cost7 (at (is PUB)) 0 4 parse-visibility
 unfolding parse-visibility oneOf
 cost-visibility = cost-le (cost-node _ (cost-bind {c′ = 0} {e′ = 0} (expects-at PUB _ refl) (λ a. search (zero·rules, cost-package)))) (lit≤ tt)
 
-cost-optional : Cost7 any 0 0 optional-visibility
+cost-optional : Cost7 anywhere 0 0 optional-visibility
 unfolding optional-visibility
 cost-optional = cost-case (at (is PUB)) (cost-le cost-visibility (lit≤ tt)) (cost-pure true)
 
@@ -195,7 +195,7 @@ cost-attribute-round : Cost7 (at (is At)) 0 4 attribute-round
 unfolding attribute-round none oneOf
 cost-attribute-round = cost-trivia (is At) refl _ (cost-yes (at (is At)) _ (cost-le (cost-bind cost-attribute (λ a. cost-pure true)) (lit≤ tt)))
 
-cost-attribute-rounds : Cost7 any 0 0 attribute-round
+cost-attribute-rounds : Cost7 anywhere 0 0 attribute-round
 unfolding attribute-round
 cost-attribute-rounds = cost-then (cost-while _) (λ a. cost-case (at (is At)) (cost-le (cost-bind cost-attribute (λ a. cost-pure true)) (lit≤ tt)) (cost-pure false))
 
@@ -216,7 +216,7 @@ unfolding parse-submodule oneOf
 cost-submodule = cost-le (cost-node _ (cost-declared (MOD ∷ []) {b = 0} {c = 0} {o = 2} cost-visibility (λ a. search (zero·rules, cost-expects, cost-name, cost-tail) depth 9)
     (cost-weak (cost-bind {c′ = 0} {e′ = 0} (expects-at MOD _ refl) (λ a. search (zero·rules, cost-name, cost-tail) depth 9)) (one-of-one MOD) (lit≤ tt)) (lit≤ tt))) (lit≤ tt)
 
-cost-constant-name : Cost7 any 2 0 constant-name
+cost-constant-name : Cost7 anywhere 2 0 constant-name
 cost-constant-name = cost-then (cost-while _) (λ a. cost-then (cost-name _) (λ a. cost-then (cost-expects _ _) (λ a. cost-after cost-expr (λ a. cost-tail))))
 
 cost-constant : Cost7 (at (opens (CONST ∷ []))) 0 0 parse-constant
@@ -224,7 +224,7 @@ unfolding parse-constant oneOf
 cost-constant = cost-le (cost-node _ (cost-declared (CONST ∷ []) {b = 2} {c = 0} {o = 2} cost-visibility (λ a. cost-then (cost-expects _ _) (λ a. cost-constant-name))
     (cost-weak (cost-bind (expects-at CONST _ refl) (λ a. cost-constant-name)) (one-of-one CONST) (lit≤ tt)) (lit≤ tt))) (lit≤ tt)
 
-cost-type-name : Cost7 any 2 0 type-name-and-body
+cost-type-name : Cost7 anywhere 2 0 type-name-and-body
 unfolding type-name-and-body parse-type-body
 cost-type-name = cost-then (cost-while _) (λ a. cost-then (cost-name _) (λ a. cost-then (cost-while _) (λ a. cost-if _ (cost-after (cost-node {c = 0} _ (cost-scan _ _)) (λ a. cost-pure true)) (cost-any (quiet _) (lit≤ tt)))))
 
@@ -242,15 +242,15 @@ cost-advice-map : Cost7 (at (is ADV-MAP)) 0 0 parse-advice-map
 unfolding parse-advice-map oneOf
 cost-advice-map = cost-key ADV-MAP refl _ _ (λ a. cost-then (cost-while _) (λ a. cost-then (cost-name _) (λ a. cost-then (cost-while _) (λ a. cost-then (search (zero·rules, cost-group)) (λ a. cost-then (cost-expects _ _) (λ a. cost-any (cost-after cost-expr (λ a. cost-tail)) (lit≤ tt)))))))
 
-module _ {blk : Blocks} (h : (w : BlockOwner) (t : Terminators) (d : ℕ) → Cost7 any 4 0 (blk w t d)) where
-  cost-body : Cost7 any 4 0 (procedure-body blk)
+module _ {blk : Blocks} (h : (w : BlockOwner) (t : Terminators) (d : ℕ) → Cost7 anywhere 4 0 (blk w t d)) where
+  cost-body : Cost7 anywhere 4 0 (procedure-body blk)
   unfolding procedure-body
   cost-body = cost-then (cost-while _) (λ a. cost-then (cost-name _) (λ a. cost-then (cost-while _) (λ a. cost-then (cost-case (at (is LParen)) (cost-le cost-signature (lit≤ tt)) (cost-pure true)) (λ a. cost-then cost-tail (λ a. cost-after (h _ _ 0) (cost-closing _))))))
 
-  cost-proc : Cost7 any 0 0 (expect-kind PROC (Message.Procedure ExpectedProc) >>= λ declared. pick (not declared) (pure true) (procedure-body blk))
+  cost-proc : Cost7 anywhere 0 0 (expect-kind PROC (Message.Procedure ExpectedProc) >>= λ declared. pick (not declared) (pure true) (procedure-body blk))
   cost-proc = cost-ok PROC _ 6 (λ s e. lit≤ tt) (cost-pure true) cost-body (lit≤ tt) (lit≤ tt)
 
-  cost-after-attributes : Cost7 any 0 0 (after-attributes blk)
+  cost-after-attributes : Cost7 anywhere 0 0 (after-attributes blk)
   cost-after-attributes = cost-then (cost-while _) (λ a. cost-then cost-optional (λ a. cost-then (cost-while _) (λ a. cost-proc)))
 
   cost-at-proc : Cost7 (at (oneOf (PROC ∷ []))) 0 2 (bump-while regular-trivia >> expect-kind PROC (Message.Procedure ExpectedProc) >>= λ declared. pick (not declared) (pure true) (procedure-body blk))
@@ -272,7 +272,7 @@ module _ {blk : Blocks} (h : (w : BlockOwner) (t : Terminators) (d : ℕ) → Co
       d true r i k = omega (arith, cost-bind (cost-loop-first (rounds-zero cost-attribute-rounds) truly-attribute-round cost-attribute-round) (λ a. cost-after-attributes) .cost r i)
       d false r i k = cost-nothing (λ a. after-attributes blk) false no-attributes cost-from-key .cost r (declaration-key (PROC ∷ []) r k)
 
-module _ {blk : Blocks} (h : (w : BlockOwner) (t : Terminators) (d : ℕ) → Cost7 any 4 0 (blk w t d)) (s : (w : BlockOwner) (t : Terminators) (d : ℕ) → Stops t (blk w t d)) where
+module _ {blk : Blocks} (h : (w : BlockOwner) (t : Terminators) (d : ℕ) → Cost7 anywhere 4 0 (blk w t d)) (s : (w : BlockOwner) (t : Terminators) (d : ℕ) → Stops t (blk w t d)) where
   cost-item : Cost7 some 0 0 (parse-source-item blk)
   unfolding parse-source-item
   cost-item =
@@ -287,7 +287,7 @@ module _ {blk : Blocks} (h : (w : BlockOwner) (t : Terminators) (d : ℕ) → Co
       (cost-case (at (is ADV-MAP)) cost-advice-map
       (cost-le (cost-error-token _) (lit≤ tt))))))))))
 
-cost-items : (n lim : ℕ) → Cost7 any 0 0 (items n lim)
+cost-items : (n lim : ℕ) → Cost7 anywhere 0 0 (items n lim)
 unfolding items
 cost-items zero lim = cost-then (quiet _) (λ a. cost-pure false)
 cost-items (suc n) lim = cost-eof (cost-pure true) (cost-le (cost-bind (cost-item (cost-block lim) (stops-block lim)) (λ a. cost-items n lim)) (lit≤ tt))

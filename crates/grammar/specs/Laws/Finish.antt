@@ -42,13 +42,13 @@ module _ {Q : Forest → Type 0} {B : Type 0} {o : B} where
   finishes-if t {f} {g} F G = record { finish = λ r. finishes-pick (t r) F G .finish r }
 
   -- Behind something calm.
-  pub after : (x : Forest) → Calm ending x → {y : Res B} → Final Q o y → Final Q o (record { rest = y .rest; out = x <> y .out; val = y .val })
-  after x k (silent c) = silent (calm-join ending x _ k c)
-  after x k (met-end y z c q e r v) = met-end (x <> y) z (calm-join ending x y k c) q (ap (λ w. x <> w) e ∙ sym (app-assoc x y z)) r v
+  pub final-after : (x : Forest) → Calm ending x → {y : Res B} → Final Q o y → Final Q o (record { rest = y .rest; out = x <> y .out; val = y .val })
+  final-after x k (silent c) = silent (calm-join ending x _ k c)
+  final-after x k (met-end y z c q e r v) = met-end (x <> y) z (calm-join ending x y k c) q (ap (λ w. x <> w) e ∙ sym (app-assoc x y z)) r v
 
   pub finishes-after : {A : Type 0} {f : P A} {g : A → P B} → Tame f → ((a : A) → Finishes Q o (g a)) → Finishes Q o (f >>= g)
   unfolding _>>=_
-  finishes-after {A} {f} {g} F G = record { finish = λ r. after (f r .out) (F .tame r) (G (f r .val) .finish (f r .rest)) }
+  finishes-after {A} {f} {g} F G = record { finish = λ r. final-after (f r .out) (F .tame r) (G (f r .val) .finish (f r .rest)) }
 
   -- Where f has met the end, what comes behind it does nothing, and says so.
   finishes-bind : {A : Type 0} {a : A} {f : P A} (g : A → P B) → Finishes Q a f → g a ≡ pure o → ((r : List Sym) → Final Q o (g (f r .val) (f r .rest))) → Finishes Q o (f >>= g)
@@ -56,7 +56,7 @@ module _ {Q : Forest → Type 0} {B : Type 0} {o : B} where
   finishes-bind {A} {a} {f} g F s N = record { finish = λ r. c r (F .finish r) }
     where
       c : (r : List Sym) → Final Q a (f r) → Final Q o ((f >>= g) r)
-      c r (silent k) = after (f r .out) k (N r)
+      c r (silent k) = final-after (f r .out) k (N r)
       c r (met-end y z k q e l v) =
           let p : g (f r .val) (f r .rest) ≡ pure o [] = ap₂ g v l ∙ ap (λ (h : P B). h []) s in
           met-end y z k q (ap (λ (x : Res B). f r .out <> x .out) p ∙ app-nil (f r .out) ∙ e) (ap (λ (x : Res B). x .rest) p) (ap (λ (x : Res B). x .val) p)

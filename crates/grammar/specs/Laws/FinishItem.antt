@@ -19,7 +19,7 @@ use Rattle.grammar.specs.Laws.Live.{some}
 use Rattle.grammar.specs.Laws.LiveBlock.{live-block}
 use Rattle.grammar.specs.Laws.LiveItem.{eats-item}
 use Rattle.grammar.specs.Laws.Tame.{tame-pure, tame-take, tame-node, tame-if, tame-while, tame-tail, tame-expect, tame-name, tame-error-token, tame-visibility, tame-attributes, tame-signature, tame-namespace, tame-submodule, tame-constant, tame-type, tame-advice-map}
-use Rattle.grammar.specs.Laws.Finish.{Final, silent, met-end, Finishes, app-nil, after, finishes-tame, finishes-pick, finishes-if, finishes-after, finishes-closing}
+use Rattle.grammar.specs.Laws.Finish.{Final, silent, met-end, Finishes, app-nil, final-after, finishes-tame, finishes-pick, finishes-if, finishes-after, finishes-closing}
 use Rattle.grammar.specs.Laws.FinishBlock.{LastBlock, EndsNode, form-node, finishes-block}
 
 module _ {blk : Blocks} (h : (w : BlockOwner) (t : Terminators) (d : ℕ) → EndsNode w (blk w t d)) (s : (w : BlockOwner) (t : Terminators) (d : ℕ) → Stops t (blk w t d)) where
@@ -69,7 +69,7 @@ finishes-items (suc n) lim (s ∷ r) h = c (finishes-item (finishes-block lim) (
     less = omega (arith, eats-item {n = 0} (live-block lim) .eats (s ∷ r) refl)
 
     c : Final Unclosed true x → Final Unclosed true (items n lim (x .rest)) → Final Unclosed true (items (suc n) lim (s ∷ r))
-    c (silent k) f = after (x .out) k f
+    c (silent k) f = final-after (x .out) k f
     c (met-end y z k q e l v) f =
         let p : items n lim (x .rest) ≡ pure true [] = ap (items n lim) l ∙ items-nothing n lim (omega arith) in
         met-end y z k q (ap (λ (w : Res Bool). x .out <> w .out) p ∙ app-nil (x .out) ∙ e) (ap (λ (w : Res Bool). w .rest) p) (ap (λ (w : Res Bool). w .val) p)

@@ -6,7 +6,7 @@ use mathlib.Core.List.{List, [], _∷_}
 use lib.Dec.{eqb→eq, T}
 use Rattle.grammar.specs.Words.{Sym, is}
 use Rattle.grammar.specs.Look.{oneOf, regular-trivia, at, skip}
-use Rattle.grammar.specs.Run.{nil, leaf, _<>_, Res, P, pure, peek, _>>=_, take-token, stop, go, turn, scan}
+use Rattle.grammar.specs.Run.{nil, leaf, _<>_, Res, P, pure, peek, pick, _>>=_, if_then_else_, take-token, stop, go, turn, scan}
 use Rattle.grammar.specs.Message.{Message}
 use Rattle.grammar.specs.Laws.Good.{app-assoc}
 use Rattle.grammar.specs.Bump.{while-round, bump-while, expect-kind}
@@ -26,6 +26,15 @@ not-true false e = refl
 
 pub is-same : (k s : Sym) → is k s ≡ true → s ≡ k
 is-same k s e = sym (eqb→eq k s (subst T (sym e) tt))
+
+-- an `if`, as its test chooses between two arms
+pub if-arm : {A X : Type 0} (h : X → Res A) (t : List Sym → Bool) (f g : P A) (r : List Sym) {a b : X} → f r ≡ h a → g r ≡ h b → (if t then f else g) r ≡ h (cond (t r) a b)
+unfolding _>>=_ peek
+if-arm h t f g r {a} {b} p q = by (t r)
+  where
+    by : (u : Bool) → pick u f g r ≡ h (cond u a b)
+    by true = p
+    by false = q
 
 -- At a token that is not p, a run of p is empty.
 pub while-no : (p : Sym → Bool) (r : List Sym) → at p r ≡ false → bump-while p r ≡ pure true r

@@ -17,7 +17,7 @@ use Rattle.grammar.specs.Laws.Ahead.{Tail, same, more}
 use Rattle.grammar.specs.Laws.Good.{app-assoc, Calm, ext}
 use Rattle.grammar.specs.Laws.StableBlock.{Limits, equal}
 use Rattle.grammar.specs.Laws.StableItem.{good-item, good-items}
-use Rattle.grammar.specs.Laws.Numbers.{stray}
+use Rattle.grammar.specs.Laws.Numbers.{no-message}
 use Rattle.grammar.specs.Laws.Live.{some}
 use Rattle.grammar.specs.Laws.LiveBlock.{live-block}
 use Rattle.grammar.specs.Laws.LiveItem.{live-item, eats-item, live-items, items-end}
@@ -80,7 +80,7 @@ unfolding at skip
 items-leaves n lim r h =
     sym (append-nil (leaves (items n lim r .out)))
     ∙ ap (λ l. leaves (items n lim r .out) ++ l) (sym (items-end n lim r h))
-    ∙ good-items [] refl stray refl lim lim (equal refl) n n (omega arith) .split r
+    ∙ good-items [] refl no-message refl lim lim (equal refl) n n (omega arith) .split r
 
 nl-item : (n lim : ℕ) (r : List Sym) → items (suc n) lim (Newline ∷ r) .out ≡ leaf Newline (items n lim r .out)
 unfolding items parse-source-item oneOf _>>=_ peek eof at take-token
@@ -100,7 +100,7 @@ module _ (b : List Sym) (side : at (is RParen) (next-relevant-top-level-token b)
   last-nl : (n m : ℕ) → 2 ≤ n → suc k ≤ m → items m lim (Newline ∷ b) .out ≡ items n lim (Newline ∷ []) .out <> items k lim b .out
   last-nl n zero h g = absurd (omega arith)
   last-nl n (suc m) h g = rw (nl-item, one-nl n lim h)
-      (ap (leaf Newline) (same-run stray refl lim lim (equal refl) k m (omega arith) b (live-items k lim .calm b refl hb)))
+      (ap (leaf Newline) (same-run no-message refl lim lim (equal refl) k m (omega arith) b (live-items k lim .calm b refl hb)))
 
   join-items : (n m : ℕ) (r : List Sym) → length r < n → n + k ≤ m → closed (items n lim r .out) ≡ true → items m lim (r ++ b) .out ≡ items n lim r .out <> items k lim b .out
   unfolding items _>>=_ peek eof pure some
@@ -118,7 +118,7 @@ module _ (b : List Sym) (side : at (is RParen) (next-relevant-top-level-token b)
       less : length (x .rest) < n
       less = omega (arith, eats-item {n = 0} (live-block lim) .eats (s ∷ r) refl)
 
-      quiet : Calm stray (x .out)
+      quiet : Calm no-message (x .out)
       quiet = live-item {n = suc n} (live-block lim) .calm (s ∷ r) refl (omega arith)
 
       left : leaves (y .out) ≡ x .rest
@@ -131,7 +131,7 @@ module _ (b : List Sym) (side : at (is RParen) (next-relevant-top-level-token b)
       step p q = rw p (ap (λ z. x .out <> z) q ∙ sym (app-assoc (x .out) (y .out) (items k lim b .out)))
 
       at-where : (closed (y .out) ≡ true → items m lim (x .rest ++ b) .out ≡ y .out <> items k lim b .out) → Where (x .out) (y .out) → Goal
-      at-where ih (later p) = step (good-item b side stray refl lim lim (equal refl) .goes (s ∷ r) (more (subst Tail left (closed-tail (y .out) p))) quiet) (ih p)
+      at-where ih (later p) = step (good-item b side no-message refl lim lim (equal refl) .goes (s ∷ r) (more (subst Tail left (closed-tail (y .out) p))) quiet) (ih p)
       at-where ih (between p q) =
           let e : x .rest ≡ Newline ∷ [] = sym left ∙ nl-leaves (y .out) q in
           step (closes-item b side lim .goes (s ∷ r) e p quiet) (subst (λ (l : List Sym). items m lim (l ++ b) .out ≡ items n lim l .out <> items k lim b .out) (sym e) (last-nl n m (omega (arith, less, ap length e)) (omega (arith, less, ap length e))))
@@ -142,7 +142,7 @@ pub join-forest : (lim : ℕ) (a b : List Sym) → at (is RParen) (next-relevant
 unfolding parse items-in
 join-forest lim a b side c =
     let l = length-append a b in
-    sym (same-run stray refl lim lim (equal refl) (suc (length (a ++ b))) (suc (length a) + suc (length b)) (omega arith) (a ++ b) (live-items (suc (length (a ++ b))) lim .calm (a ++ b) refl (omega arith)))
+    sym (same-run no-message refl lim lim (equal refl) (suc (length (a ++ b))) (suc (length a) + suc (length b)) (omega arith) (a ++ b) (live-items (suc (length (a ++ b))) lim .calm (a ++ b) refl (omega arith)))
     ∙ join-items b side lim (suc (length b)) (omega arith) (suc (length a)) (suc (length a) + suc (length b)) a (omega arith) (omega arith) c
 
 -- The last newline is an item by itself, with nothing said behind it.

@@ -12,11 +12,11 @@ use Rattle.grammar.specs.Look.{at, eof}
 use Rattle.grammar.specs.Run.{Kind, Forest, nil, leaf, node, say, _<>_, P, pure, peek, inNode, pick, _>>=_, if_then_else_, take-token, err, Round, stop, go, warn, turn, scan, repeat, loop}
 use Rattle.grammar.specs.Laws.Good.{Calm, scan-split}
 use Rattle.grammar.specs.Laws.Hush.{Hush, scan-calm}
-use Rattle.grammar.specs.Laws.Numbers.{stray}
+use Rattle.grammar.specs.Laws.Numbers.{no-message}
 
 -- Where q holds and fewer than n tokens are left.
 pub record Live (q : List Sym → Bool) (n : ℕ) {A : Type 0} (f : P A) : Type 0 where
-  pub calm : (r : List Sym) → q r ≡ true → length r < n → Calm stray (f r .out)
+  pub calm : (r : List Sym) → q r ≡ true → length r < n → Calm no-message (f r .out)
   pub less : (r : List Sym) → length (f r .rest) ≤ length r
 
 pub record Eats (q : List Sym → Bool) {A : Type 0} (f : P A) : Type 0 where
@@ -26,8 +26,8 @@ pub record Eats (q : List Sym → Bool) {A : Type 0} (f : P A) : Type 0 where
 pub record Truly (f : P Bool) : Type 0 where
   pub truly : (r : List Sym) → f r .val ≡ true → length (f r .rest) < length r
 
-abbrev pub any : List Sym → Bool
-any r = true
+abbrev pub anywhere : List Sym → Bool
+anywhere r = true
 
 unfoldable pub some : List Sym → Bool
 some [] = false
@@ -40,15 +40,15 @@ calm-join bad (node n c x) y h k = (h .0, calm-join bad x y (h .1) k)
 calm-join bad (say m x) y h k = (h .0, calm-join bad x y (h .1) k)
 
 module _ {n : ℕ} where
-  pub live-pure : {A : Type 0} (a : A) → Live any n (pure a)
+  pub live-pure : {A : Type 0} (a : A) → Live anywhere n (pure a)
   unfolding pure
   live-pure a = record { calm = λ r e h. tt; less = λ r. omega arith }
 
-  pub live-take : Live any n take-token
+  pub live-take : Live anywhere n take-token
   unfolding take-token
   live-take = record { calm = c; less = l }
     where
-      c : (r : List Sym) → any r ≡ true → length r < n → Calm stray (take-token r .out)
+      c : (r : List Sym) → anywhere r ≡ true → length r < n → Calm no-message (take-token r .out)
       c [] e h = tt
       c (s ∷ r) e h = tt
 
@@ -56,7 +56,7 @@ module _ {n : ℕ} where
       l [] = omega arith
       l (s ∷ r) = omega arith
 
-  pub live-err : (m : ℕ) → stray m ≡ false → Live any n (err m)
+  pub live-err : (m : ℕ) → no-message m ≡ false → Live anywhere n (err m)
   unfolding err
   live-err m e = record { calm = λ r q h. (e, tt); less = λ r. omega arith }
 
@@ -71,13 +71,13 @@ module _ {n : ℕ} where
   pub live-weak : {q q′ : List Sym → Bool} {A : Type 0} {f : P A} → ((r : List Sym) → q′ r ≡ true → q r ≡ true) → Live q n f → Live q′ n f
   live-weak i F = record { calm = λ r e h. F .calm r (i r e) h; less = F .less }
 
-  pub live-all : {q : List Sym → Bool} {A : Type 0} {f : P A} → Live any n f → Live q n f
+  pub live-all : {q : List Sym → Bool} {A : Type 0} {f : P A} → Live anywhere n f → Live q n f
   live-all F = live-weak (λ r e. refl) F
 
-  pub live-bind : {A B : Type 0} {q : List Sym → Bool} {f : P A} {g : A → P B} → Live q n f → ((a : A) → Live any n (g a)) → Live q n (f >>= g)
+  pub live-bind : {A B : Type 0} {q : List Sym → Bool} {f : P A} {g : A → P B} → Live q n f → ((a : A) → Live anywhere n (g a)) → Live q n (f >>= g)
   unfolding _>>=_
   live-bind {f} {g} F G = record {
-    calm = λ r e h. calm-join stray (f r .out) (g (f r .val) (f r .rest) .out) (F .calm r e h) (G (f r .val) .calm (f r .rest) refl (omega (arith, F .less r)));
+    calm = λ r e h. calm-join no-message (f r .out) (g (f r .val) (f r .rest) .out) (F .calm r e h) (G (f r .val) .calm (f r .rest) refl (omega (arith, F .less r)));
     less = λ r. omega (arith, F .less r, G (f r .val) .less (f r .rest));
   }
 
@@ -90,7 +90,7 @@ module _ {n : ℕ} where
   unfolding _>>=_ peek
   live-case t {q} {f} {g} F G = record { calm = λ r e h. c (t r) r refl e h; less = λ r. l (t r) r }
     where
-      c : (u : Bool) (r : List Sym) → t r ≡ u → q r ≡ true → length r < n → Calm stray (pick u f g r .out)
+      c : (u : Bool) (r : List Sym) → t r ≡ u → q r ≡ true → length r < n → Calm no-message (pick u f g r .out)
       c true r e k h = F .calm r e h
       c false r e k h = G .calm r k h
 
@@ -103,7 +103,7 @@ module _ {n : ℕ} where
   unfolding _>>=_ peek
   live-cases t {q} {f} {g} F G = record { calm = λ r e h. c (t r) r refl e h; less = λ r. l (t r) r }
     where
-      c : (u : Bool) (r : List Sym) → t r ≡ u → q r ≡ true → length r < n → Calm stray (pick u f g r .out)
+      c : (u : Bool) (r : List Sym) → t r ≡ u → q r ≡ true → length r < n → Calm no-message (pick u f g r .out)
       c true r e k h = F .calm r e h
       c false r e k h = G .calm r (rw (k, e)) h
 
@@ -111,11 +111,11 @@ module _ {n : ℕ} where
       l true r = F .less r
       l false r = G .less r
 
-  pub live-eof : {A : Type 0} {f g : P A} → Live any n f → Live some n g → Live any n (if eof then f else g)
+  pub live-eof : {A : Type 0} {f g : P A} → Live anywhere n f → Live some n g → Live anywhere n (if eof then f else g)
   unfolding _>>=_ peek eof some
   live-eof {f} {g} F G = record { calm = c; less = l }
     where
-      c : (r : List Sym) → any r ≡ true → length r < n → Calm stray ((if eof then f else g) r .out)
+      c : (r : List Sym) → anywhere r ≡ true → length r < n → Calm no-message ((if eof then f else g) r .out)
       c [] e h = F .calm [] refl h
       c (s ∷ r) e h = G .calm (s ∷ r) refl h
 
@@ -124,14 +124,14 @@ module _ {n : ℕ} where
       l (s ∷ r) = G .less (s ∷ r)
 
 -- The step from one fuel to the next: something was taken.
-pub live-eat : {n : ℕ} {A B : Type 0} {q : List Sym → Bool} {f : P A} {g : A → P B} → Live q (suc n) f → Eats q f → ((a : A) → Live any n (g a)) → Live q (suc n) (f >>= g)
+pub live-eat : {n : ℕ} {A B : Type 0} {q : List Sym → Bool} {f : P A} {g : A → P B} → Live q (suc n) f → Eats q f → ((a : A) → Live anywhere n (g a)) → Live q (suc n) (f >>= g)
 unfolding _>>=_
 live-eat {f} {g} F E G = record {
-  calm = λ r e h. calm-join stray (f r .out) (g (f r .val) (f r .rest) .out) (F .calm r e h) (G (f r .val) .calm (f r .rest) refl (omega (arith, E .eats r e)));
+  calm = λ r e h. calm-join no-message (f r .out) (g (f r .val) (f r .rest) .out) (F .calm r e h) (G (f r .val) .calm (f r .rest) refl (omega (arith, E .eats r e)));
   less = λ r. omega (arith, F .less r, G (f r .val) .less (f r .rest));
 }
 
-pub eats-bind : {A B : Type 0} {q : List Sym → Bool} {f : P A} {g : A → P B} (n : ℕ) → Eats q f → ((a : A) → Live any n (g a)) → Eats q (f >>= g)
+pub eats-bind : {A B : Type 0} {q : List Sym → Bool} {f : P A} {g : A → P B} (n : ℕ) → Eats q f → ((a : A) → Live anywhere n (g a)) → Eats q (f >>= g)
 unfolding _>>=_
 eats-bind {f} {g} n E G = record { eats = λ r e. omega (arith, E .eats r e, G (f r .val) .less (f r .rest)) }
 
@@ -171,7 +171,7 @@ eats-cases t {q} {f} {g} F G = record { eats = λ r e. c (t r) r refl e }
     c true r e k = F .eats r e
     c false r e k = G .eats r (rw (k, e))
 
-pub truly-bind : {A : Type 0} {f : P A} {g : A → P Bool} → Live any 0 f → ((a : A) → Truly (g a)) → Truly (f >>= g)
+pub truly-bind : {A : Type 0} {f : P A} {g : A → P Bool} → Live anywhere 0 f → ((a : A) → Truly (g a)) → Truly (f >>= g)
 unfolding _>>=_
 truly-bind {A} {f} {g} F G = record { truly = λ r e. omega (arith, F .less r, G (f r .val) .truly (f r .rest) e) }
 
@@ -196,13 +196,13 @@ unfolding pure
 truly-false = record { truly = λ r e. absurd (false≢true e) }
 
 -- loop { .. }, where a round that goes on takes a token
-module _ {f : P Bool} (F : (n : ℕ) → Live any n f) (E : Truly f) where
-  repeat-calm : (n : ℕ) (r : List Sym) → length r < n → Calm stray (repeat n f r .out)
+module _ {f : P Bool} (F : (n : ℕ) → Live anywhere n f) (E : Truly f) where
+  repeat-calm : (n : ℕ) (r : List Sym) → length r < n → Calm no-message (repeat n f r .out)
   unfolding repeat _>>=_ pure
   repeat-calm zero r h = absurd (omega arith)
-  repeat-calm (suc n) r h = calm-join stray (f r .out) (pick (f r .val) (repeat n f) (pure false) (f r .rest) .out) (F (suc (length r)) .calm r refl (omega arith)) (c (repeat-calm n (f r .rest)) (f r .val) refl)
+  repeat-calm (suc n) r h = calm-join no-message (f r .out) (pick (f r .val) (repeat n f) (pure false) (f r .rest) .out) (F (suc (length r)) .calm r refl (omega arith)) (c (repeat-calm n (f r .rest)) (f r .val) refl)
     where
-      c : (length (f r .rest) < n → Calm stray (repeat n f (f r .rest) .out)) → (u : Bool) → f r .val ≡ u → Calm stray (pick u (repeat n f) (pure false) (f r .rest) .out)
+      c : (length (f r .rest) < n → Calm no-message (repeat n f (f r .rest) .out)) → (u : Bool) → f r .val ≡ u → Calm no-message (pick u (repeat n f) (pure false) (f r .rest) .out)
       c ih true e = ih (omega (arith, E .truly r e))
       c ih false e = tt
 
@@ -215,7 +215,7 @@ module _ {f : P Bool} (F : (n : ℕ) → Live any n f) (E : Truly f) where
       c ih true = omega (arith, F 0 .less r)
       c ih false = F 0 .less r
 
-  pub live-loop : {n : ℕ} → Live any n (loop f)
+  pub live-loop : {n : ℕ} → Live anywhere n (loop f)
   unfolding loop
   live-loop = record { calm = λ r e h. repeat-calm (suc (length r)) r (omega arith); less = λ r. repeat-less (suc (length r)) r }
 
@@ -237,7 +237,7 @@ module _ {L : Type 0} (step : L → List Sym → Round L) where
   pub scan-less : (l : L) (r : List Sym) → length (scan step l r .rest) ≤ length r
   scan-less l r = omega (arith, simp length-append at (ap length (scan-split step l r)))
 
-  pub live-scan : {n : ℕ} → ((l : L) (r : List Sym) → Hush stray (step l r)) → (l : L) → Live any n (scan step l)
+  pub live-scan : {n : ℕ} → ((l : L) (r : List Sym) → Hush no-message (step l r)) → (l : L) → Live anywhere n (scan step l)
   live-scan q l = record { calm = λ r e h. scan-calm step q l r; less = scan-less l }
 
   pub eats-scan : (p : Sym → Bool) (l : L) → ((s : Sym) (r : List Sym) → p s ≡ true → takes (step l (s ∷ r)) ≡ true) → Eats (at p) (scan step l)

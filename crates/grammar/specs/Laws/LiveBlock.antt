@@ -14,40 +14,40 @@ use Rattle.grammar.specs.Run.{Block, P, pure, inNode, pick, _>>=_, err, 
 use Rattle.grammar.specs.Message.{Message}
 use Rattle.grammar.specs.Block.{BlockOwner, Terminators, BlockRecoveryBoundary, BlockParseOutcome, Blocks, all-round, reject-excessive-control-flow-nesting, closing, ended, parse-if, parse-while, do-condition, parse-do-while, parse-repeat, parse-control-flow, recover, block-round, block-loop, block-in, parse-block}
 use Rattle.grammar.specs.Laws.Good.{Calm}
-use Rattle.grammar.specs.Laws.Numbers.{stray, quiet-block}
+use Rattle.grammar.specs.Laws.Numbers.{no-message, quiet-block}
 use Rattle.grammar.specs.Laws.Here.{and-l}
 use Rattle.grammar.specs.Laws.Stops.{Stops, stops-node, stops-loop}
-use Rattle.grammar.specs.Laws.Live.{Live, Eats, any, calm-join, live-pure, live-take, live-pick, live-node, live-weak, live-all, live-bind, live-if, live-case, live-cases, live-eof, live-eat, eats-weak, at-some, eats-cases, live-scan}
+use Rattle.grammar.specs.Laws.Live.{Live, Eats, anywhere, calm-join, live-pure, live-take, live-pick, live-node, live-weak, live-all, live-bind, live-if, live-case, live-cases, live-eof, live-eat, eats-weak, at-some, eats-cases, live-scan}
 use Rattle.grammar.specs.Laws.LiveLine.{live-tail, live-expect, live-error-token, live-instruction, eats-at, live-suffixes, eats-error-token, eats-instruction, live-expect-at, live-eats-key, live·rules}
 use Rattle.grammar.specs.Laws.Hush.{hush-all}
 
 module _ {n : ℕ} where
-  live-reject : Live any n reject-excessive-control-flow-nesting
+  live-reject : Live anywhere n reject-excessive-control-flow-nesting
   unfolding reject-excessive-control-flow-nesting
   live-reject = search (live·rules, live-scan all-round {n = n} hush-all)
 
-  pub live-closing : (w : BlockOwner) (o : BlockParseOutcome) → Live any n (closing w o)
+  pub live-closing : (w : BlockOwner) (o : BlockParseOutcome) → Live anywhere n (closing w o)
   unfolding closing
   live-closing w o = search (live·rules, live-expect)
 
-  live-ended : (w : BlockOwner) (o : BlockParseOutcome) → Live any n (ended w o)
+  live-ended : (w : BlockOwner) (o : BlockParseOutcome) → Live anywhere n (ended w o)
   unfolding ended
   live-ended w o = search (live·rules, live-closing)
 
-  live-recover : (w : BlockOwner) (x : BlockRecoveryBoundary) → Live any n (recover w x)
+  live-recover : (w : BlockOwner) (x : BlockRecoveryBoundary) → Live anywhere n (recover w x)
   unfolding recover
   live-recover w x = search live·rules
 
   -- What comes behind a block knows how the block ended.
   live-outcome : {t : Terminators} {q : List Sym → Bool} {B : Type 0} {f : P BlockParseOutcome} (g : BlockParseOutcome → P B) → Live q n f → Stops t f →
-      Live (at-terminator t) n (g BlockParseOutcome.FoundTerminator) → Live any n (g BlockParseOutcome.RecoveredImplicitEnd) → Live any n (g BlockParseOutcome.ReachedEof) → Live q n (f >>= g)
+      Live (at-terminator t) n (g BlockParseOutcome.FoundTerminator) → Live anywhere n (g BlockParseOutcome.RecoveredImplicitEnd) → Live anywhere n (g BlockParseOutcome.ReachedEof) → Live q n (f >>= g)
   unfolding _>>=_
   live-outcome {t} {q} {B} {f} g F S G R E = record {
-    calm = λ r e h. calm-join stray (f r .out) (g (f r .val) (f r .rest) .out) (F .calm r e h) (c (f r .val) (f r .rest) (S .stops r) (omega (arith, F .less r)));
+    calm = λ r e h. calm-join no-message (f r .out) (g (f r .val) (f r .rest) .out) (F .calm r e h) (c (f r .val) (f r .rest) (S .stops r) (omega (arith, F .less r)));
     less = λ r. omega (arith, F .less r, l (f r .val) (f r .rest));
   }
     where
-      c : (o : BlockParseOutcome) (l : List Sym) → (o ≡ BlockParseOutcome.FoundTerminator → at-terminator t l ≡ true) → length l < n → Calm stray (g o l .out)
+      c : (o : BlockParseOutcome) (l : List Sym) → (o ≡ BlockParseOutcome.FoundTerminator → at-terminator t l ≡ true) → length l < n → Calm no-message (g o l .out)
       c BlockParseOutcome.FoundTerminator l s h = G .calm l (s refl) h
       c BlockParseOutcome.RecoveredImplicitEnd l s h = R .calm l refl h
       c BlockParseOutcome.ReachedEof l s h = E .calm l refl h
@@ -74,7 +74,7 @@ repeat-left (s ∷ r) e = c (is IF s) (is DO s) (is WHILE s) (is REPEAT s) e
     c false false false true e = refl
     c false false false false e = e
 
-module _ {n : ℕ} {blk : Blocks} (h : (w : BlockOwner) (t : Terminators) (d : ℕ) → Live any n (blk w t d)) (s : (w : BlockOwner) (t : Terminators) (d : ℕ) → Stops t (blk w t d)) where
+module _ {n : ℕ} {blk : Blocks} (h : (w : BlockOwner) (t : Terminators) (d : ℕ) → Live anywhere n (blk w t d)) (s : (w : BlockOwner) (t : Terminators) (d : ℕ) → Stops t (blk w t d)) where
   live-if-form : (d : ℕ) → Live (at (is IF)) (suc n) (parse-if blk d) × Eats (at (is IF)) (parse-if blk d)
   unfolding parse-if oneOf
   live-if-form d = live-eats-key IF refl _ _ (λ a. search (live·rules, live-suffixes, live-ended, h) depth 20)
@@ -112,8 +112,8 @@ module _ {n : ℕ} {blk : Blocks} (h : (w : BlockOwner) (t : Terminators) (d : �
       (eats-cases (at (is WHILE)) (live-while-form d .1)
       (eats-weak repeat-left (live-repeat-form d .1))))
 
-module _ {n : ℕ} {again : Blocks} (h : (w : BlockOwner) (t : Terminators) (d : ℕ) → Live any n (again w t d)) (s : (w : BlockOwner) (t : Terminators) (d : ℕ) → Stops t (again w t d)) where
-  live-round : (lim : ℕ) (w : BlockOwner) (t : Terminators) (d : ℕ) → Live any (suc n) (block-round again lim w t d)
+module _ {n : ℕ} {again : Blocks} (h : (w : BlockOwner) (t : Terminators) (d : ℕ) → Live anywhere n (again w t d)) (s : (w : BlockOwner) (t : Terminators) (d : ℕ) → Stops t (again w t d)) where
+  live-round : (lim : ℕ) (w : BlockOwner) (t : Terminators) (d : ℕ) → Live anywhere (suc n) (block-round again lim w t d)
   unfolding block-round
   live-round lim w t d =
       live-eof (search live·rules)
@@ -126,24 +126,24 @@ module _ {n : ℕ} {again : Blocks} (h : (w : BlockOwner) (t : Terminators) (d :
       (live-case (at starts-instruction) (live-eat (live-all live-instruction) eats-instruction (λ a. h w t d))
       (live-eat (live-all (live-error-token _ (quiet-block _))) (eats-error-token _) (λ a. h w t d)))))))))
     where
-      inside : (w : BlockOwner) (t : Terminators) (d : ℕ) → Live any n (inNode Block (again w t d))
+      inside : (w : BlockOwner) (t : Terminators) (d : ℕ) → Live anywhere n (inNode Block (again w t d))
       inside w t d = live-node Block (h w t d)
 
       stop : (w : BlockOwner) (t : Terminators) (d : ℕ) → Stops t (inNode Block (again w t d))
       stop w t d = stops-node Block (s w t d)
 
-      next : (e : Bool) → Live any n (pick e (pure BlockParseOutcome.ReachedEof) (again w t d))
+      next : (e : Bool) → Live anywhere n (pick e (pure BlockParseOutcome.ReachedEof) (again w t d))
       next e = live-pick e (live-pure _) (h w t d)
 
-pub live-blocks : (n lim : ℕ) (w : BlockOwner) (t : Terminators) (d : ℕ) → Live any n (block-loop n lim w t d)
+pub live-blocks : (n lim : ℕ) (w : BlockOwner) (t : Terminators) (d : ℕ) → Live anywhere n (block-loop n lim w t d)
 unfolding block-loop _>>=_ err pure
 live-blocks zero lim w t d = record { calm = λ r e h. absurd (omega arith); less = λ r. omega arith }
 live-blocks (suc n) lim w t d = live-round (live-blocks n lim) (stops-loop n lim) lim w t d
 
-pub live-in : {n : ℕ} (lim : ℕ) (w : BlockOwner) (t : Terminators) (d : ℕ) → Live any n (block-in lim w t d)
+pub live-in : {n : ℕ} (lim : ℕ) (w : BlockOwner) (t : Terminators) (d : ℕ) → Live anywhere n (block-in lim w t d)
 unfolding block-in
 live-in lim w t d = record { calm = λ r e h. live-blocks (suc (length r)) lim w t d .calm r refl (omega arith); less = λ r. live-blocks (suc (length r)) lim w t d .less r }
 
-pub live-block : {n : ℕ} (lim : ℕ) (w : BlockOwner) (t : Terminators) (d : ℕ) → Live any n (parse-block lim w t d)
+pub live-block : {n : ℕ} (lim : ℕ) (w : BlockOwner) (t : Terminators) (d : ℕ) → Live anywhere n (parse-block lim w t d)
 unfolding parse-block
 live-block lim w t d = live-node Block (live-in lim w t d)

@@ -16,13 +16,13 @@ use Rattle.grammar.specs.Block.{BlockOwner, Terminators, Blocks, parse-b
 use Rattle.grammar.specs.Item.{package-in-parens, parse-visibility, optional-visibility, parse-attribute, parse-results, parse-signature, parse-namespace, parse-submodule, attribute-round, procedure-body, parse-procedure, parse-begin-block, parse-constant, type-name-and-body, parse-type-decl, parse-advice-map, at-declaration, at-procedure, parse-source-item, items}
 use Rattle.grammar.specs.Laws.Numbers.{quiet-item}
 use Rattle.grammar.specs.Laws.Here.{bind-nothing, while-no, at-not, at-not-one, none, one-of-one}
-use Rattle.grammar.specs.Laws.Live.{Live, Eats, Truly, any, some, live-pure, live-take, live-all, live-bind, live-if, live-case, live-eof, live-eat, eats-bind, eats-node, eats-take, eats-weak, at-some, eats-case, truly-bind, truly-case, truly-false, live-loop, eats-loop}
+use Rattle.grammar.specs.Laws.Live.{Live, Eats, Truly, anywhere, some, live-pure, live-take, live-all, live-bind, live-if, live-case, live-eof, live-eat, eats-bind, eats-node, eats-take, eats-weak, at-some, eats-case, truly-bind, truly-case, truly-false, live-loop, eats-loop}
 use Rattle.grammar.specs.Laws.LiveLine.{live·rules, live-while, live-expect, live-name, live-error-token, live-group, live-expr, live-type-body, live-result, live-path, eats-error-token, eats-expect, live-key, eats-key}
 use Rattle.grammar.specs.Laws.LiveBlock.{live-closing, live-block}
 
 -- ---- Live.
 module _ {n : ℕ} where
-  live-package : Live any n package-in-parens
+  live-package : Live anywhere n package-in-parens
   unfolding package-in-parens
   live-package = search (live·rules, live-expect) depth 9
 
@@ -30,7 +30,7 @@ module _ {n : ℕ} where
   unfolding parse-visibility oneOf
   live-visibility = live-key PUB refl _ _ (λ a. search (live·rules, live-package))
 
-  pub live-optional : Live any n optional-visibility
+  pub live-optional : Live anywhere n optional-visibility
   unfolding optional-visibility
   live-optional = live-case (at (is PUB)) live-visibility (live-pure true)
 
@@ -38,7 +38,7 @@ module _ {n : ℕ} where
   unfolding parse-attribute oneOf
   live-attribute = live-key At refl _ _ (λ a. search (live·rules, live-name, live-group) depth 9)
 
-  live-signature : Live any n parse-signature
+  live-signature : Live anywhere n parse-signature
   unfolding parse-signature parse-results
   live-signature = search (live·rules, live-group, live-result) depth 12
 
@@ -46,19 +46,19 @@ module _ {n : ℕ} where
   unfolding parse-namespace oneOf
   live-namespace = live-key NAMESPACE refl _ _ (λ a. search (live·rules, live-path) depth 9)
 
-  live-submodule : Live any n parse-submodule
+  live-submodule : Live anywhere n parse-submodule
   unfolding parse-submodule
   live-submodule = search (live·rules, live-optional, live-expect, live-name) depth 9
 
-  live-constant : Live any n parse-constant
+  live-constant : Live anywhere n parse-constant
   unfolding parse-constant
   live-constant = search (live·rules, live-optional, live-expect, live-name, live-expr) depth 12
 
-  live-type-name : Live any n type-name-and-body
+  live-type-name : Live anywhere n type-name-and-body
   unfolding type-name-and-body
   live-type-name = search (live·rules, live-name, live-type-body) depth 9
 
-  live-type : Live any n parse-type-decl
+  live-type : Live anywhere n parse-type-decl
   unfolding parse-type-decl
   live-type = search (live·rules, live-optional, live-type-name) depth 9
 
@@ -66,7 +66,7 @@ module _ {n : ℕ} where
   unfolding parse-advice-map oneOf
   live-advice-map = live-key ADV-MAP refl _ _ (λ a. search (live·rules, live-name, live-group, live-expect, live-expr) depth 12)
 
-live-attribute-round : (n : ℕ) → Live any n attribute-round
+live-attribute-round : (n : ℕ) → Live anywhere n attribute-round
 unfolding attribute-round
 live-attribute-round n = live-bind (live-while _) (λ a. live-case (at (is At)) (live-bind live-attribute (λ a. live-pure true)) (live-pure false))
 
@@ -78,19 +78,19 @@ pub truly-attribute-round : Truly attribute-round
 unfolding attribute-round
 truly-attribute-round = truly-bind (live-while _) (λ a. truly-case (at (is At)) (eats-bind 0 eats-attribute (λ a. live-pure true)) truly-false)
 
-pub live-attributes : {n : ℕ} → Live any n (loop attribute-round)
+pub live-attributes : {n : ℕ} → Live anywhere n (loop attribute-round)
 live-attributes = live-loop live-attribute-round truly-attribute-round
 
-module _ {n : ℕ} {blk : Blocks} (h : (w : BlockOwner) (t : Terminators) (d : ℕ) → Live any n (blk w t d)) where
+module _ {n : ℕ} {blk : Blocks} (h : (w : BlockOwner) (t : Terminators) (d : ℕ) → Live anywhere n (blk w t d)) where
   live-begin : Live (at (is BEGIN)) n (parse-begin-block blk)
   unfolding parse-begin-block oneOf
   live-begin = live-key BEGIN refl _ _ (λ a. search (live·rules, live-closing, h) depth 9)
 
-  live-body : Live any n (procedure-body blk)
+  live-body : Live anywhere n (procedure-body blk)
   unfolding procedure-body
   live-body = search (live·rules, live-name, live-signature, live-closing, h) depth 12
 
-  live-procedure : Live any n (parse-procedure blk)
+  live-procedure : Live anywhere n (parse-procedure blk)
   unfolding parse-procedure
   live-procedure = search (live·rules, live-attributes, live-optional, live-expect, live-body) depth 12
 
@@ -135,7 +135,7 @@ pub eats-visibility : Eats (at (is PUB)) parse-visibility
 unfolding parse-visibility oneOf
 eats-visibility = eats-key PUB refl _ _ {n = 0} (λ a. search (live·rules, live-package))
 
-eats-declared : {n : ℕ} (ks : List Sym) {A : Type 0} {g : Bool → P A} → ((a : Bool) → Live any n (g a)) → Eats (at (oneOf ks)) (g true) → Eats (at (opens ks)) (optional-visibility >>= g)
+eats-declared : {n : ℕ} (ks : List Sym) {A : Type 0} {g : Bool → P A} → ((a : Bool) → Live anywhere n (g a)) → Eats (at (oneOf ks)) (g true) → Eats (at (opens ks)) (optional-visibility >>= g)
 unfolding optional-visibility _>>=_ peek pure at
 eats-declared {n} ks {A} {g} G E = record { eats = c }
   where
@@ -199,13 +199,13 @@ after-attributes blk =
     expect-kind PROC (Message.Procedure ExpectedProc) >>= λ declared.
     pick (not declared) (pure true) (procedure-body blk)
 
-module _ {n : ℕ} {blk : Blocks} (h : (w : BlockOwner) (t : Terminators) (d : ℕ) → Live any n (blk w t d)) where
+module _ {n : ℕ} {blk : Blocks} (h : (w : BlockOwner) (t : Terminators) (d : ℕ) → Live anywhere n (blk w t d)) where
   eats-after : Eats (at (opens (PROC ∷ []))) (after-attributes blk)
   unfolding none oneOf
   eats-after = eats-trivia (opens (PROC ∷ [])) refl _ (eats-declared {n = n} (PROC ∷ []) (λ a. search (live·rules, live-expect, live-body) depth 12)
       (eats-trivia (oneOf (PROC ∷ [])) refl _ (eats-bind n (eats-weak (one-of-one PROC) (eats-expect PROC refl _)) (λ a. search (live·rules, live-body)))))
 
-  live-after : Live any n (after-attributes blk)
+  live-after : Live anywhere n (after-attributes blk)
   live-after = search (live·rules, live-optional, live-expect, live-body) depth 12
 
   eats-procedure : Eats at-procedure (parse-procedure blk)
@@ -235,7 +235,7 @@ module _ {n : ℕ} {blk : Blocks} (h : (w : BlockOwner) (t : Terminators) (d : �
       (eats-case (at (is ADV-MAP)) eats-advice-map
       (eats-error-token _)))))))))
 
-pub live-items : (n lim : ℕ) → Live any n (items n lim)
+pub live-items : (n lim : ℕ) → Live anywhere n (items n lim)
 unfolding items _>>=_ err pure
 live-items zero lim = record { calm = λ r e h. absurd (omega arith); less = λ r. omega arith }
 live-items (suc n) lim = live-eof (live-pure true) (live-eat (live-item (live-block lim)) (eats-item {n = 0} (live-block lim)) (λ a. live-items n lim))

@@ -19,56 +19,56 @@ use Rattle.grammar.specs.Instruction.{is-some, before-first, instruction
 use Rattle.grammar.specs.Block.{suffix-operand, suffix-round, parse-structured-header-suffixes}
 use Rattle.grammar.specs.Laws.Good.{Calm}
 use Rattle.grammar.specs.Laws.Stable.{good-expect}
-use Rattle.grammar.specs.Laws.Numbers.{stray, quiet·rules, quiet-closer}
+use Rattle.grammar.specs.Laws.Numbers.{no-message, quiet·rules, quiet-closer}
 use Rattle.grammar.specs.Laws.Here.{expect-here, is-not, oneOf-not, none}
-use Rattle.grammar.specs.Laws.Live.{Live, Eats, Truly, any, some, live-pure, live-take, live-err, live-pick, live-node, live-bind, live-if, live-eat, eats-bind, eats-node, eats-take, eats-weak, at-some, truly-bind, truly-case, truly-if, truly-false, live-loop, takes, live-scan, eats-scan}
+use Rattle.grammar.specs.Laws.Live.{Live, Eats, Truly, anywhere, some, live-pure, live-take, live-err, live-pick, live-node, live-bind, live-if, live-eat, eats-bind, eats-node, eats-take, eats-weak, at-some, truly-bind, truly-case, truly-if, truly-false, live-loop, takes, live-scan, eats-scan}
 use Rattle.grammar.specs.Laws.Hush.{hush-while, hush-tail, hush-group, hush-expr, hush-type, hush-result, hush-instruction}
 
 module _ {n : ℕ} where
-  pub live-while : (p : Sym → Bool) → Live any n (bump-while p)
+  pub live-while : (p : Sym → Bool) → Live anywhere n (bump-while p)
   unfolding bump-while
   live-while p = live-scan (while-round p) (hush-while p) true
 
-  pub live-tail : Live any n parse-line-tail
+  pub live-tail : Live anywhere n parse-line-tail
   unfolding parse-line-tail
   live-tail = live-scan tail-round hush-tail true
 
 pub ruleset live·rules = (live-pure, live-take, live-err, live-node, live-pick, live-if, live-bind, live-while, live-tail, quiet·rules)
 
 module _ {n : ℕ} where
-  pub live-expect : (k : Sym) (m : Message) → stray (number m) ≡ false → Live any n (expect-kind k m)
+  pub live-expect : (k : Sym) (m : Message) → no-message (number m) ≡ false → Live anywhere n (expect-kind k m)
   unfolding expect-kind
   live-expect k m e = search live·rules
 
-  pub live-name : (m : Message) → stray (number m) ≡ false → Live any n (expect-name m)
+  pub live-name : (m : Message) → no-message (number m) ≡ false → Live anywhere n (expect-name m)
   unfolding expect-name
   live-name m e = search live·rules
 
-  pub live-error-token : (m : Message) → stray (number m) ≡ false → Live any n (error-token m)
+  pub live-error-token : (m : Message) → no-message (number m) ≡ false → Live anywhere n (error-token m)
   unfolding error-token
   live-error-token m e = search live·rules
 
-  live-segment : Live any n path-segment
+  live-segment : Live anywhere n path-segment
   unfolding path-segment
   live-segment = search live·rules depth 12
 
-  pub live-group : (o k : Sym) (m : Message) → stray (number m) ≡ false → Live any n (parse-balanced-group o k m)
+  pub live-group : (o k : Sym) (m : Message) → no-message (number m) ≡ false → Live anywhere n (parse-balanced-group o k m)
   unfolding parse-balanced-group
   live-group o k m e = search (live·rules, live-expect, live-scan (group-round o k) {n = n} (hush-group o k)) depth 9
 
-  pub live-expr : Live any n parse-expr-until-line-end
+  pub live-expr : Live anywhere n parse-expr-until-line-end
   unfolding parse-expr-until-line-end
   live-expr = search (live·rules, live-scan expr-round {n = n} (hush-expr quiet-closer))
 
-  pub live-type-body : Live any n parse-type-body
+  pub live-type-body : Live anywhere n parse-type-body
   unfolding parse-type-body
   live-type-body = live-node _ (live-scan type-round (hush-type quiet-closer) _)
 
-  pub live-result : Live any n parse-signature-result-until-line-end
+  pub live-result : Live anywhere n parse-signature-result-until-line-end
   unfolding parse-signature-result-until-line-end
   live-result = search (live·rules, live-scan result-round {n = n} (hush-result quiet-closer))
 
-  pub live-instruction : Live any n parse-instruction
+  pub live-instruction : Live anywhere n parse-instruction
   unfolding parse-instruction
   live-instruction = live-node _ (live-scan instruction-round (hush-instruction quiet-closer) _)
 
@@ -92,15 +92,15 @@ pub truly-path-round : Truly path-round
 unfolding path-round
 truly-path-round = truly-if _ truly-segment truly-false
 
-live-segments : {n : ℕ} → Live any n (loop path-round)
+live-segments : {n : ℕ} → Live anywhere n (loop path-round)
 unfolding path-round
 live-segments = live-loop (λ n. search (live·rules, live-segment)) truly-path-round
 
-pub live-path : {n : ℕ} (m : Message) → stray (number m) ≡ false → Live any n (parse-path-with-message m)
+pub live-path : {n : ℕ} (m : Message) → no-message (number m) ≡ false → Live anywhere n (parse-path-with-message m)
 unfolding parse-path-with-message
 live-path m e = search (live·rules, live-segments) depth 12
 
-live-operand : {n : ℕ} → Live any n suffix-operand
+live-operand : {n : ℕ} → Live anywhere n suffix-operand
 unfolding suffix-operand
 live-operand = search (live·rules, live-group) depth 12
 
@@ -108,7 +108,7 @@ pub truly-suffix-round : Truly suffix-round
 unfolding suffix-round
 truly-suffix-round = truly-bind (live-while _) (λ a. truly-case (at (is Dot)) (eats-bind 0 (eats-at (is Dot)) (λ a. search (live·rules, live-operand))) truly-false)
 
-pub live-suffixes : {n : ℕ} → Live any n parse-structured-header-suffixes
+pub live-suffixes : {n : ℕ} → Live anywhere n parse-structured-header-suffixes
 unfolding parse-structured-header-suffixes suffix-round
 live-suffixes = live-loop (λ n. search (live·rules, live-operand)) truly-suffix-round
 
@@ -146,20 +146,20 @@ module _ (k : Sym) (t : regular-trivia k ≡ false) (m : Message) where
 
   pub live-expect-at : {n : ℕ} → Live (at (is k)) n (expect-kind k m)
   unfolding at
-  live-expect-at {n} = record { calm = c; less = λ r. omega (arith, simp length-append at (ap length (good-expect {b = []} {bad = stray} k m .split r))) }
+  live-expect-at {n} = record { calm = c; less = λ r. omega (arith, simp length-append at (ap length (good-expect {b = []} {bad = no-message} k m .split r))) }
     where
-      c : (r : List Sym) → at (is k) r ≡ true → length r < n → Calm stray (expect-kind k m r .out)
+      c : (r : List Sym) → at (is k) r ≡ true → length r < n → Calm no-message (expect-kind k m r .out)
       c [] e h = absurd (false≢true e)
       c (s ∷ r) e h = rw (expect-here k m t s r e) tt
 
 -- A node that begins at its keyword.
 module _ (k : Sym) (t : regular-trivia k ≡ false) (j : Kind) {A : Type 0} {g : Bool → P A} (m : Message) where
-  pub live-key : {n : ℕ} → ((a : Bool) → Live any n (g a)) → Live (at (is k)) n (inNode j (expect-kind k m >>= g))
+  pub live-key : {n : ℕ} → ((a : Bool) → Live anywhere n (g a)) → Live (at (is k)) n (inNode j (expect-kind k m >>= g))
   live-key G = live-node j (live-bind (live-expect-at k t m) G)
 
-  pub eats-key : {n : ℕ} → ((a : Bool) → Live any n (g a)) → Eats (at (is k)) (inNode j (expect-kind k m >>= g))
+  pub eats-key : {n : ℕ} → ((a : Bool) → Live anywhere n (g a)) → Eats (at (is k)) (inNode j (expect-kind k m >>= g))
   eats-key {n} G = eats-node j (eats-bind n (eats-expect k t m) G)
 
   -- With one fuel less behind the keyword.
-  pub live-eats-key : {n : ℕ} → ((a : Bool) → Live any n (g a)) → Live (at (is k)) (suc n) (inNode j (expect-kind k m >>= g)) × Eats (at (is k)) (inNode j (expect-kind k m >>= g))
+  pub live-eats-key : {n : ℕ} → ((a : Bool) → Live anywhere n (g a)) → Live (at (is k)) (suc n) (inNode j (expect-kind k m >>= g)) × Eats (at (is k)) (inNode j (expect-kind k m >>= g))
   live-eats-key G = (live-node j (live-eat (live-expect-at k t m) (eats-expect k t m) G), eats-key G)

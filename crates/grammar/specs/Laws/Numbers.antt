@@ -13,10 +13,10 @@ use Rattle.grammar.specs.declared.message.BlockMessage.{BlockMessage}
 use Rattle.grammar.specs.Message.{Message, number, UnexpectedTopLevelToken, ExpectedNamespacePath, ExpectedMod, ExpectedSubmoduleName, ExpectedConst, ExpectedConstantName, ExpectedConstantEqual, ExpectedTypeOrEnum, ExpectedTypeName, ExpectedTypeEqualOrColon, ExpectedAdviceMapName, ExpectedAdviceMapKeyEnd, ExpectedAdviceMapEqual, ExpectedPathSegment, ExpectedProc, ExpectedProcedureName, ExpectedAttributeName, ExpectedAttributeEnd, ExpectedPackage, ExpectedPackageEnd, ExpectedParametersEnd, ExpectedResultsEnd, ExpectedResultType, DocCommentInBlock, UnexpectedTokenInBlock, ExpectedSuffixEnd, ExpectedSuffix, NestingTooDeep}
 
 -- No message's number.
-abbrev pub stray : ℕ → Bool
-stray m = not (leb 1 m && leb m 53)
+abbrev pub no-message : ℕ → Bool
+no-message m = not (leb 1 m && leb m 53)
 
-pub quiet-item : (m : ItemMessage) → stray (number (Message.Item m)) ≡ false
+pub quiet-item : (m : ItemMessage) → no-message (number (Message.Item m)) ≡ false
 unfolding number
 quiet-item UnexpectedTopLevelToken = refl
 quiet-item ExpectedNamespacePath = refl
@@ -33,7 +33,7 @@ quiet-item ExpectedAdviceMapKeyEnd = refl
 quiet-item ExpectedAdviceMapEqual = refl
 quiet-item ExpectedPathSegment = refl
 
-pub quiet-procedure : (m : ProcedureMessage) → stray (number (Message.Procedure m)) ≡ false
+pub quiet-procedure : (m : ProcedureMessage) → no-message (number (Message.Procedure m)) ≡ false
 unfolding number
 quiet-procedure ExpectedProc = refl
 quiet-procedure ExpectedProcedureName = refl
@@ -45,7 +45,7 @@ quiet-procedure ExpectedParametersEnd = refl
 quiet-procedure ExpectedResultsEnd = refl
 quiet-procedure ExpectedResultType = refl
 
-pub quiet-block : (m : BlockMessage) → stray (number (Message.Block m)) ≡ false
+pub quiet-block : (m : BlockMessage) → no-message (number (Message.Block m)) ≡ false
 unfolding number
 quiet-block DocCommentInBlock = refl
 quiet-block UnexpectedTokenInBlock = refl
@@ -53,13 +53,13 @@ quiet-block ExpectedSuffixEnd = refl
 quiet-block ExpectedSuffix = refl
 quiet-block NestingTooDeep = refl
 
-pub quiet-closer : (c : Closer) → stray (number (Message.UnexpectedCloser c)) ≡ false
+pub quiet-closer : (c : Closer) → no-message (number (Message.UnexpectedCloser c)) ≡ false
 unfolding number
 quiet-closer Closer.Paren = refl
 quiet-closer Closer.Bracket = refl
 quiet-closer Closer.Brace = refl
 
-pub quiet-missing : (o : BlockOwner) → stray (number (Message.MissingEnd o)) ≡ false
+pub quiet-missing : (o : BlockOwner) → no-message (number (Message.MissingEnd o)) ≡ false
 unfolding number
 quiet-missing BlockOwner.Begin = refl
 quiet-missing BlockOwner.Procedure = refl
@@ -69,7 +69,7 @@ quiet-missing BlockOwner.DoWhileBody = refl
 quiet-missing BlockOwner.DoWhile = refl
 quiet-missing BlockOwner.Repeat = refl
 
-pub quiet-recovery : (o : BlockOwner) (x : BlockRecoveryBoundary) → stray (number (Message.Recovery o x)) ≡ false
+pub quiet-recovery : (o : BlockOwner) (x : BlockRecoveryBoundary) → no-message (number (Message.Recovery o x)) ≡ false
 unfolding number
 quiet-recovery BlockOwner.Begin BlockRecoveryBoundary.Else = refl
 quiet-recovery BlockOwner.Begin BlockRecoveryBoundary.TopLevelItem = refl

@@ -20,12 +20,12 @@ use Rattle.grammar.specs.Joins.{leaf-events, zero-next, inTop, shutBy}
 use Rattle.grammar.specs.Laws.Here.{and-l, and-r}
 use Rattle.grammar.specs.Laws.StableBlock.{equal}
 use Rattle.grammar.specs.Laws.StableItem.{good-item}
-use Rattle.grammar.specs.Laws.Numbers.{stray}
+use Rattle.grammar.specs.Laws.Numbers.{no-message}
 use Rattle.grammar.specs.Laws.Live.{some}
 use Rattle.grammar.specs.Laws.LiveBlock.{live-block}
 use Rattle.grammar.specs.Laws.LiveItem.{eats-item}
 use Rattle.grammar.specs.Laws.Out.{ev-app}
-use Rattle.grammar.specs.Laws.Shut.{empty, endsEnd, endsLeaf, top, shuts, shutsLeaf, isNl, closed}
+use Rattle.grammar.specs.Laws.Shut.{empty, endsEnd, endsLeaf, top-block, shuts, shutsLeaf, isNl, closed}
 use Rattle.grammar.specs.Laws.Ends.{closes-item}
 use Rattle.grammar.specs.Laws.Join.{Single, none, token, branch, item-single, items-leaves, one-nl}
 
@@ -152,7 +152,7 @@ empty-events (node k d c) es h = absurd (false≢true h)
 empty-events (say m c) es h = empty-events c es h
 
 data Found (k : Kind) (r : ℕ) (c : Forest) (es : List ℕ) : Type 0 where
-  inside : (top k && endsLeaf c) ≡ true → length (leaf-events es) ≡ 1 → Found k r c es
+  inside : (top-block k && endsLeaf c) ≡ true → length (leaf-events es) ≡ 1 → Found k r c es
   past : shutBy (r ∷ []) es ≡ true → Found k r c es
 
 child : (k : Kind) (r : ℕ) (c : Forest) (es : List ℕ) → shutBy (num k ∷ r ∷ []) (ev c ++ 0 ∷ es) ≡ true → Found k r c es
@@ -161,7 +161,7 @@ child k r (leaf s c) es h =
     go (here (num k ∷ r ∷ []) (ev c ++ 0 ∷ es)) refl (sym (step-leaf s (num k ∷ r ∷ []) (ev c ++ 0 ∷ es)) ∙ h) (child k r c es)
   where
     more : Found k r c es → Found k r (leaf s c) es
-    more (inside t q) = inside (rw (and-l (top k) _ t, and-r (top k) _ t) (or-true (empty c))) q
+    more (inside t q) = inside (rw (and-l (top-block k) _ t, and-r (top-block k) _ t) (or-true (empty c))) q
     more (past q) = past q
 
     go : (u : Bool) → here (num k ∷ r ∷ []) (ev c ++ 0 ∷ es) ≡ u → (u || shutBy (num k ∷ r ∷ []) (ev c ++ 0 ∷ es)) ≡ true
@@ -227,7 +227,7 @@ root (suc n) lim d (s ∷ r) h l e =
     last-left : last (last d (leaves (x .out))) (x .rest) ≡ Newline
     last-left =
         sym (last-app d (leaves (x .out)) (x .rest))
-        ∙ ap (last d) (good-item [] refl stray refl lim lim (equal refl) .split (s ∷ r))
+        ∙ ap (last d) (good-item [] refl no-message refl lim lim (equal refl) .split (s ∷ r))
         ∙ l
 
     count : length (leaf-events es) ≡ length (x .rest)
@@ -249,7 +249,7 @@ root (suc n) lim d (s ∷ r) h l e =
             let f : x .rest ≡ Newline ∷ [] = only (last d (leaves (x .out))) (x .rest) (sym count ∙ m) last-left in
             let z = ap (λ (l : List Sym). items n lim l .out) f ∙ one-nl n lim (omega (arith, less, ap length f)) in
             rw (z, w f t)
-        at-found (past q) = rw (ih q) (or-true (isNl (y .out) && (top k && endsEnd c)))
+        at-found (past q) = rw (ih q) (or-true (isNl (y .out) && (top-block k && endsEnd c)))
 
 -- ---- The premise: A's last token is a newline, and by its events the token before closes a procedure or begin block under the root.
 pub premise : (limit : ℕ) (a : List Sym) → last 0 a ≡ Newline → shutBy [] (events limit a) ≡ true → closed (parse limit a) ≡ true

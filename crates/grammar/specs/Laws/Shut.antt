@@ -31,21 +31,21 @@ endsLeaf (leaf s x) = empty x || endsLeaf x
 endsLeaf (node k c x) = endsLeaf x
 endsLeaf (say m x) = endsLeaf x
 
-abbrev pub top : Kind → Bool
-top k = eqb (num Procedure) (num k) || eqb (num BeginBlock) (num k)
+abbrev pub top-block : Kind → Bool
+top-block k = eqb (num Procedure) (num k) || eqb (num BeginBlock) (num k)
 
 -- The last tree is a procedure or a begin block with its `end`.
 abbrev pub shuts : Forest → Bool
 shuts nil = false
 shuts (leaf s x) = shuts x
-shuts (node k c x) = cond (empty x) (top k && endsEnd c) (shuts x)
+shuts (node k c x) = cond (empty x) (top-block k && endsEnd c) (shuts x)
 shuts (say m x) = shuts x
 
 -- The last tree is a procedure or a begin block whose last tree is a token.
 abbrev pub shutsLeaf : Forest → Bool
 shutsLeaf nil = false
 shutsLeaf (leaf s x) = shutsLeaf x
-shutsLeaf (node k c x) = cond (empty x) (top k && endsLeaf c) (shutsLeaf x)
+shutsLeaf (node k c x) = cond (empty x) (top-block k && endsLeaf c) (shutsLeaf x)
 shutsLeaf (say m x) = shutsLeaf x
 
 -- One tree, a newline.
@@ -59,7 +59,7 @@ isNl (say m x) = isNl x
 abbrev pub closed : Forest → Bool
 closed nil = false
 closed (leaf s x) = closed x
-closed (node k c x) = (isNl x && (top k && endsEnd c)) || closed x
+closed (node k c x) = (isNl x && (top-block k && endsEnd c)) || closed x
 closed (say m x) = closed x
 
 pub empty-app : (x y : Forest) → empty (x <> y) ≡ (empty x && empty y)
@@ -112,18 +112,18 @@ shuts-tail nil e = absurd (false≢true e)
 shuts-tail (leaf s x) e = there (shuts-tail x e)
 shuts-tail (node k c x) e = g (shuts-tail x) (empty x) refl e
   where
-    g : (shuts x ≡ true → Tail (leaves x ++ Newline ∷ [])) → (u : Bool) → empty x ≡ u → cond u (top k && endsEnd c) (shuts x) ≡ true → Tail ((leaves c ++ leaves x) ++ Newline ∷ [])
-    g ih true h e = rw (empty-leaves x h, append-nil) (ends-tail c (and-r (top k) (endsEnd c) e))
+    g : (shuts x ≡ true → Tail (leaves x ++ Newline ∷ [])) → (u : Bool) → empty x ≡ u → cond u (top-block k && endsEnd c) (shuts x) ≡ true → Tail ((leaves c ++ leaves x) ++ Newline ∷ [])
+    g ih true h e = rw (empty-leaves x h, append-nil) (ends-tail c (and-r (top-block k) (endsEnd c) e))
     g ih false h e = rw append-assoc (tail-after (leaves c) (ih e))
 shuts-tail (say m x) e = shuts-tail x e
 
 pub closed-tail : (x : Forest) → closed x ≡ true → Tail (leaves x)
 closed-tail nil e = absurd (false≢true e)
 closed-tail (leaf s x) e = there (closed-tail x e)
-closed-tail (node k c x) e = g (closed-tail x) (isNl x) (top k && endsEnd c) refl refl e
+closed-tail (node k c x) e = g (closed-tail x) (isNl x) (top-block k && endsEnd c) refl refl e
   where
-    g : (closed x ≡ true → Tail (leaves x)) → (u v : Bool) → isNl x ≡ u → (top k && endsEnd c) ≡ v → ((u && v) || closed x) ≡ true → Tail (leaves c ++ leaves x)
-    g ih true true n q e = rw (nl-leaves x n) (ends-tail c (and-r (top k) (endsEnd c) q))
+    g : (closed x ≡ true → Tail (leaves x)) → (u v : Bool) → isNl x ≡ u → (top-block k && endsEnd c) ≡ v → ((u && v) || closed x) ≡ true → Tail (leaves c ++ leaves x)
+    g ih true true n q e = rw (nl-leaves x n) (ends-tail c (and-r (top-block k) (endsEnd c) q))
     g ih true false n q e = tail-after (leaves c) (ih e)
     g ih false v n q e = tail-after (leaves c) (ih e)
 closed-tail (say m x) e = closed-tail x e
@@ -159,14 +159,14 @@ shuts-full (say m x) e = shuts-full x e
 pub closed-app : (x y : Forest) → closed (x <> y) ≡ true → Where x y
 closed-app nil y e = later e
 closed-app (leaf s x) y e = elim (closed-app x y e) [ later p ↦ later p | between p q ↦ between p q | earlier p ↦ earlier p ]
-closed-app (node k c x) y e = g (closed-app x y) (isNl (x <> y)) (top k && endsEnd c) refl refl e
+closed-app (node k c x) y e = g (closed-app x y) (isNl (x <> y)) (top-block k && endsEnd c) refl refl e
   where
     rest : Where x y → Where (node k c x) y
     rest (later p) = later p
     rest (between p q) = between (rw (shuts-full x p) p) q
-    rest (earlier p) = earlier (rw p (or-true (isNl x && (top k && endsEnd c))))
+    rest (earlier p) = earlier (rw p (or-true (isNl x && (top-block k && endsEnd c))))
 
-    g : (closed (x <> y) ≡ true → Where x y) → (u v : Bool) → isNl (x <> y) ≡ u → (top k && endsEnd c) ≡ v → ((u && v) || closed (x <> y)) ≡ true → Where (node k c x) y
+    g : (closed (x <> y) ≡ true → Where x y) → (u v : Bool) → isNl (x <> y) ≡ u → (top-block k && endsEnd c) ≡ v → ((u && v) || closed (x <> y)) ≡ true → Where (node k c x) y
     g ih true true n q e = elim (nl-app x y n) [ second p r ↦ between (rw (p, q)) r | first p ↦ earlier (rw (p, q)) ]
     g ih true false n q e = rest (ih e)
     g ih false v n q e = rest (ih e)

@@ -15,7 +15,7 @@ use Rattle.grammar.specs.Block.{BlockOwner, Terminators, Blocks, parse-b
 use Rattle.grammar.specs.Item.{at-declaration, at-procedure, parse-source-item, items, items-in, parse}
 use Rattle.grammar.specs.Out.{noted, dg, diags}
 use Rattle.grammar.specs.Laws.Stops.{Stops, stops-block}
-use Rattle.grammar.specs.Laws.Live.{any, some}
+use Rattle.grammar.specs.Laws.Live.{anywhere, some}
 use Rattle.grammar.specs.Laws.LiveItem.{declaration-key}
 use Rattle.grammar.specs.Laws.Cost.{weigh, weigh-app, cost-weak, cost-any, cost-le, cost-node, cost-take-any}
 use Rattle.grammar.specs.Laws.DiagCost.{diags-price, Cost2, good-token, cost-error-token, cost-begin, cost-block}
@@ -42,7 +42,7 @@ split {f} {g} F G r e = c (at (is DocComment) r) refl
     c true i = omega (arith, F .cost r i)
     c false i = omega (arith, G .owes r e)
 
-module _ {blk : Blocks} (h : (w : BlockOwner) (t : Terminators) (d : ℕ) → Cost2 any 1 0 (blk w t d)) (s : (w : BlockOwner) (t : Terminators) (d : ℕ) → Stops t (blk w t d)) where
+module _ {blk : Blocks} (h : (w : BlockOwner) (t : Terminators) (d : ℕ) → Cost2 anywhere 1 0 (blk w t d)) (s : (w : BlockOwner) (t : Terminators) (d : ℕ) → Stops t (blk w t d)) where
   item-owes : (r : List Sym) → some r ≡ true → weigh diags-price (parse-source-item blk r .out) + 2 * length (parse-source-item blk r .rest) + credit r ≤ 2 * length r + credit (parse-source-item blk r .rest)
   unfolding parse-source-item
   item-owes = split (cost-le (cost-node _ (good-token (is DocComment) refl)) (lit≤ tt))

@@ -16,7 +16,7 @@ use Rattle.grammar.specs.Out.{Diag, noted, dg, events, diags}
 use Rattle.grammar.specs.Laws.Here.{and-l, and-r, not-true}
 use Rattle.grammar.specs.Laws.Good.{Calm}
 use Rattle.grammar.specs.Laws.StableBlock.{mDepth, higher}
-use Rattle.grammar.specs.Laws.Numbers.{stray}
+use Rattle.grammar.specs.Laws.Numbers.{no-message}
 use Rattle.grammar.specs.Laws.LiveItem.{live-items}
 use Rattle.grammar.specs.Laws.Join.{same-run}
 
@@ -30,14 +30,14 @@ calmly-app [] m = refl
 calmly-app (d ∷ l) m = rw (calmly-app l m) (sym (and-assoc (not (eqb mDepth (d .msg))) (calmly l) (calmly m)))
 
 abbrev isBad : ℕ → Bool
-isBad m = stray m || eqb mDepth m
+isBad m = no-message m || eqb mDepth m
 
 noted-calm : (u : Bool) (i : ℕ) (l : List Diag) → calmly (noted u i l) ≡ true → calmly l ≡ true
 unfolding number
 noted-calm true i l e = e
 noted-calm false i l e = e
 
-calm-both : (i : ℕ) (x : Forest) → Calm stray x → calmly (dg i x) ≡ true → Calm isBad x
+calm-both : (i : ℕ) (x : Forest) → Calm no-message x → calmly (dg i x) ≡ true → Calm isBad x
 calm-both i nil k e = tt
 calm-both i (leaf s x) k e = calm-both (suc i) x k (noted-calm (is Syntax.Error s) i (dg (suc i) x) e)
 calm-both i (node n c x) k e =

@@ -73,19 +73,19 @@ pub joined-diags : (limit : ℕ) (a b : List Sym) → Joins limit a b → length
 joined-diags limit a b j = omega (arith, ap length (joined limit a b j .diags-are), length-append (diags limit a) (map (move (length a)) (diags limit b)), length-map (diags limit b) (move (length a)))
 
 -- A's diagnostics stand at tokens of A, never at its end: so each keeps its place in bytes too.
-abbrev pub Below : ℕ → List Diag → Type 0
-Below n [] = Unit {0}
-Below n (d ∷ l) = (d .pos < n) × Below n l
+abbrev pub DiagsBelow : ℕ → List Diag → Type 0
+DiagsBelow n [] = Unit {0}
+DiagsBelow n (d ∷ l) = (d .pos < n) × DiagsBelow n l
 
-below-app : (n : ℕ) (l m : List Diag) → Below n l → Below n m → Below n (l ++ m)
+below-app : (n : ℕ) (l m : List Diag) → DiagsBelow n l → DiagsBelow n m → DiagsBelow n (l ++ m)
 below-app n [] m p q = q
 below-app n (d ∷ l) m p q = (p .0, below-app n l m (p .1) q)
 
-below-noted : (u : Bool) (n i : ℕ) (l : List Diag) → i < n → Below n l → Below n (noted u i l)
+below-noted : (u : Bool) (n i : ℕ) (l : List Diag) → i < n → DiagsBelow n l → DiagsBelow n (noted u i l)
 below-noted true n i l h p = (h, p)
 below-noted false n i l h p = p
 
-dg-below : (n i : ℕ) (x : Forest) → i + length (leaves x) < n → Below n (dg i x)
+dg-below : (n i : ℕ) (x : Forest) → i + length (leaves x) < n → DiagsBelow n (dg i x)
 dg-below n i nil h = tt
 dg-below n i (leaf s x) h = below-noted (is Syntax.Error s) n i (dg (suc i) x) (omega arith) (dg-below n (suc i) x (omega arith))
 dg-below n i (node k c x) h =
@@ -93,7 +93,7 @@ dg-below n i (node k c x) h =
     below-app n (dg i c) (dg (i + length (leaves c)) x) (dg-below n i c (omega arith)) (dg-below n (i + length (leaves c)) x (omega arith))
 dg-below n i (say m x) h = (omega arith, dg-below n i x h)
 
-pub early : (limit : ℕ) (a b : List Sym) → Joins limit a b → Below (length a) (diags limit a)
+pub early : (limit : ℕ) (a b : List Sym) → Joins limit a b → DiagsBelow (length a) (diags limit a)
 unfolding diags
 early limit a b j =
     let l = last-tree limit a (shut limit a b j) in

@@ -12,7 +12,7 @@ use Rattle.grammar.specs.Run.{pure, peek, _>>=_}
 use Rattle.grammar.specs.Item.{items, items-in, parse}
 use Rattle.grammar.specs.Out.{Diag, diags, place, places}
 use Rattle.grammar.specs.Joins.{move, shift, Joins}
-use Rattle.grammar.specs.Theorems.Joined.{joined, Below, early}
+use Rattle.grammar.specs.Theorems.Joined.{joined, DiagsBelow, early}
 
 in-first : (m : ℕ) (es fs : List ℕ) (s eof eof′ i : ℕ) → i < length es → place m (es ++ fs) s eof′ i ≡ place m es s eof i
 in-first m [] fs s eof eof′ i h = absurd (omega arith)
@@ -31,7 +31,7 @@ shifted m n [] s eof i = refl
 shifted m n (e ∷ es) s eof zero = refl
 shifted m n (e ∷ es) s eof (suc i) = shifted m n es e eof i
 
-places-first : (es fs : List ℕ) (eof eof′ : ℕ) (l : List Diag) → Below (length es) l → places (es ++ fs) eof′ l ≡ places es eof l
+places-first : (es fs : List ℕ) (eof eof′ : ℕ) (l : List Diag) → DiagsBelow (length es) l → places (es ++ fs) eof′ l ≡ places es eof l
 places-first es fs eof eof′ [] b = refl
 places-first es fs eof eof′ (d ∷ l) b = ap₂ _∷_ (in-first (d .msg) es fs 0 eof eof′ (d .pos) (b .0)) (places-first es fs eof eof′ l (b .1))
 

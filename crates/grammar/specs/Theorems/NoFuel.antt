@@ -19,7 +19,7 @@ use Rattle.grammar.specs.Laws.Good.{Calm, ext, Good, good-if, good-bind,
 use Rattle.grammar.specs.Laws.Stable.{test-eof}
 use Rattle.grammar.specs.Laws.StableBlock.{equal, good-blocks, good-round}
 use Rattle.grammar.specs.Laws.StableItem.{good-item, good-items}
-use Rattle.grammar.specs.Laws.Numbers.{stray}
+use Rattle.grammar.specs.Laws.Numbers.{no-message}
 use Rattle.grammar.specs.Laws.Loops.{loop-eq}
 use Rattle.grammar.specs.Laws.LiveLine.{truly-path-round, truly-suffix-round}
 use Rattle.grammar.specs.Laws.LiveBlock.{live-blocks}
@@ -34,18 +34,18 @@ unfolding at skip
 no-paren = refl
 
 -- f by fuel and f without: the same where the fuel did not run out, if more fuel makes no difference and enough is enough.
-module _ {A : Type 0} (f : ℕ → P A) (mono : (n m : ℕ) → n ≤ m → Good [] stray (f n) (f m)) (calm : (r : List Sym) → Calm stray (f (suc (length r)) r .out)) where
+module _ {A : Type 0} (f : ℕ → P A) (mono : (n m : ℕ) → n ≤ m → Good [] no-message (f n) (f m)) (calm : (r : List Sym) → Calm no-message (f (suc (length r)) r .out)) where
   free : P A
   free r = f (suc (length r)) r
 
-  more-fuel : (n m : ℕ) → n ≤ m → (r : List Sym) → Calm stray (f n r .out) → f m r ≡ f n r
+  more-fuel : (n m : ℕ) → n ≤ m → (r : List Sym) → Calm no-message (f n r .out) → f m r ≡ f n r
   more-fuel n m h r k = (rw (append-nil r) at (mono n m h .goes r (same refl) k)) ∙ ext-nil (f n r)
 
-  good-free : (n : ℕ) → Good [] stray (f n) free
+  good-free : (n : ℕ) → Good [] no-message (f n) free
   unfolding free
   good-free n = record { split = mono n n (omega arith) .split; goes = λ r c k. rw (append-nil r) (g r (decLe n (suc (length r))) k ∙ sym (ext-nil (f n r))) }
     where
-      g : (r : List Sym) → Dec (n ≤ suc (length r)) → Calm stray (f n r .out) → f (suc (length r)) r ≡ f n r
+      g : (r : List Sym) → Dec (n ≤ suc (length r)) → Calm no-message (f n r .out) → f (suc (length r)) r ≡ f n r
       g r (yes h) k = more-fuel n (suc (length r)) h r k
       g r (no h) k = sym (more-fuel (suc (length r)) n (omega arith) r (calm r))
 
@@ -53,15 +53,15 @@ module _ {A : Type 0} (f : ℕ → P A) (mono : (n m : ℕ) → n ≤ m → Good
 pub block-eq : (limit : ℕ) (w : BlockOwner) (t : Terminators) (d : ℕ) (r : List Sym) → block-in limit w t d r ≡ block-round (block-in limit) limit w t d r
 unfolding block-in block-loop free
 block-eq limit w t d r =
-    let G = good-round [] no-paren stray refl limit limit (equal refl) (λ w t d. good-free (λ n. block-loop n limit w t d) (λ n m h. good-blocks [] no-paren stray refl limit limit (equal refl) n m h w t d) (λ r. live-blocks (suc (length r)) limit w t d .calm r refl (omega arith)) (length r)) w t d in
+    let G = good-round [] no-paren no-message refl limit limit (equal refl) (λ w t d. good-free (λ n. block-loop n limit w t d) (λ n m h. good-blocks [] no-paren no-message refl limit limit (equal refl) n m h w t d) (λ r. live-blocks (suc (length r)) limit w t d .calm r refl (omega arith)) (length r)) w t d in
     sym ((rw (append-nil r) at (G .goes r (same refl) (live-blocks (suc (length r)) limit w t d .calm r refl (omega arith)))) ∙ ext-nil _)
 
 -- parse's loop
 pub items-eq : (limit : ℕ) (r : List Sym) → items-in limit r ≡ (if eof then pure true else (parse-source-item (parse-block limit) >> items-in limit)) r
 unfolding items-in items free
 items-eq limit r =
-    let F = good-free (λ n. items n limit) (good-items [] no-paren stray refl limit limit (equal refl)) (λ r. live-items (suc (length r)) limit .calm r refl (omega arith)) (length r) in
-    let G = good-if eof test-eof (good-pure true) (good-bind (good-item [] no-paren stray refl limit limit (equal refl)) (λ a. F)) in
+    let F = good-free (λ n. items n limit) (good-items [] no-paren no-message refl limit limit (equal refl)) (λ r. live-items (suc (length r)) limit .calm r refl (omega arith)) (length r) in
+    let G = good-if eof test-eof (good-pure true) (good-bind (good-item [] no-paren no-message refl limit limit (equal refl)) (λ a. F)) in
     sym ((rw (append-nil r) at (G .goes r (same refl) (live-items (suc (length r)) limit .calm r refl (omega arith)))) ∙ ext-nil _)
 
 -- parse_path_with_message's loop over the segments

@@ -16,7 +16,7 @@ use Rattle.grammar.specs.Block.{parse-block}
 use Rattle.grammar.specs.Item.{parse-source-item, items-in, parse}
 use Rattle.grammar.specs.Out.{Diag, noted, dg, diags}
 use Rattle.grammar.specs.Laws.Good.{Calm}
-use Rattle.grammar.specs.Laws.Numbers.{stray}
+use Rattle.grammar.specs.Laws.Numbers.{no-message}
 use Rattle.grammar.specs.Laws.Live.{some}
 use Rattle.grammar.specs.Laws.LiveBlock.{live-block}
 use Rattle.grammar.specs.Laws.LiveItem.{eats-item, live-items}
@@ -39,7 +39,7 @@ unfolding number
 numbered-noted true i l h = (omega arith, omega arith, h)
 numbered-noted false i l h = h
 
-in-range : (m : ℕ) → stray m ≡ false → (1 ≤ m) × (m ≤ 53)
+in-range : (m : ℕ) → no-message m ≡ false → (1 ≤ m) × (m ≤ 53)
 in-range m e = c (leb 1 m) (leb m 53) refl refl e
   where
     c : (u v : Bool) → leb 1 m ≡ u → leb m 53 ≡ v → not (u && v) ≡ false → (1 ≤ m) × (m ≤ 53)
@@ -47,7 +47,7 @@ in-range m e = c (leb 1 m) (leb m 53) refl refl e
     c true false p q e = absurd (false≢true (sym e))
     c false v p q e = absurd (false≢true (sym e))
 
-calm-numbered : (i : ℕ) (x : Forest) → Calm stray x → AllNumbered (dg i x)
+calm-numbered : (i : ℕ) (x : Forest) → Calm no-message x → AllNumbered (dg i x)
 calm-numbered i nil k = tt
 calm-numbered i (leaf s x) k = numbered-noted (is Syntax.Error s) i (dg (suc i) x) (calm-numbered (suc i) x k)
 calm-numbered i (node n c x) k = numbered-app (dg i c) (dg (i + length (leaves c)) x) (calm-numbered i c (k .0)) (calm-numbered (i + length (leaves c)) x (k .1))

@@ -3,7 +3,7 @@ use mathlib.Core.Bool.{false≢true}
 use mathlib.Core.Path.{refl, _∙_}
 use native.Mathlib.Omega.{arith}
 use borrow.Author.Needs.{needs}
-use Rattle.blocks.specs.Arms.{ending}
+use Rattle.blocks.specs.Arms.{block-ending}
 use Rattle.grammar.specs.Block.{recover}
 use Rattle.grammar.specs.declared.block.BlockParseOutcome.{BlockParseOutcome}
 use Rattle.blocks.proofs.Laws.{closed}
@@ -34,7 +34,7 @@ abbrev after-enum-told4 : tie.After-recover2 → tie.After-enum-told4
 after-enum-told4 c = c .before .before .before .before
 
 returns : tie.Need-returns
-unfolding ending recover
+unfolding block-ending recover
 returns c =
     let c₁ = after-error-here c in
     let c₂ = after-enum-told c₁ in
@@ -45,7 +45,7 @@ returns c =
     (λ h. absurd (false≢true h))
 
 returns-2 : tie.Need-returns-2
-unfolding ending recover
+unfolding block-ending recover
 returns-2 c =
     let c₁ = after-enum-told2 c in
     closed (c₁ .enum-told2 .given .1)
@@ -55,7 +55,7 @@ returns-2 c =
     (λ h. absurd (false≢true h))
 
 returns-3 : tie.Need-returns-3
-unfolding ending recover
+unfolding block-ending recover
 returns-3 c =
     let c₁ = after-recover c in
     let c₂ = after-enum-told3 c₁ in
@@ -66,7 +66,7 @@ returns-3 c =
     (λ h. absurd (false≢true h))
 
 returns-4 : tie.Need-returns-4
-unfolding ending recover
+unfolding block-ending recover
 returns-4 c =
     let c₁ = after-recover2 c in
     let c₂ = after-enum-told4 c₁ in

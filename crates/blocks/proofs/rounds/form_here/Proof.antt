@@ -4,8 +4,8 @@ use native.Mathlib.Omega.{arith}
 use borrow.Author.Tests.{le-leb}
 use Rattle.grammar.specs.Block.{MAX-CONTROL-FLOW-NESTING as limit}
 use Rattle.grammar.specs.declared.block.BlockParseOutcome.{BlockParseOutcome}
-use Rattle.blocks.specs.declared.arm.Arm.{Arm}
-use Rattle.blocks.specs.Arms.{by-arm}
+use Rattle.blocks.specs.declared.arm.BlockArm.{BlockArm}
+use Rattle.blocks.specs.Arms.{by-block-arm}
 use Rattle.blocks.proofs.Laws.{round, no-item}
 use Rattle.parser.proofs.Kit.{stays, _farther_, on-to, done-to, _then-to_}
 use mathlib.Core.Bool.{false≢true}
@@ -23,7 +23,7 @@ abbrev start : tie.Then1 → tie.Start
 start c = c .before .before .before .before .before
 
 returns : tie.Need-returns
-unfolding by-arm
+unfolding by-block-arm
 returns c =
     let c₁ = after-reject-excessive-control-flow-nesting c in
     let c₂ = then1 c₁ in
@@ -36,7 +36,7 @@ returns c =
         form = λ h. absurd (false≢true h);
         over = λ h. record {
           mid = _;
-          ran = round owner t (c₃ .args .depth) Arm.Control (sym e) refl (on-to _ (le-leb limit (c₃ .args .depth) (c₂ .if1 .taken)) (c₁ .reject-excessive-control-flow-nesting .ensures then-to done-to BlockParseOutcome.ReachedEof));
+          ran = round owner t (c₃ .args .depth) BlockArm.Control (sym e) refl (on-to _ (le-leb limit (c₃ .args .depth) (c₂ .if1 .taken)) (c₁ .reject-excessive-control-flow-nesting .ensures then-to done-to BlockParseOutcome.ReachedEof));
           wrote = c .before .before .put .ensures .wrote (c₃ .args .kinds .now) _ _;
           here = no-item;
         };

@@ -4,9 +4,9 @@ use native.Mathlib.Omega.{arith}
 use lib.ListN.{drop, length}
 use borrow.Author.Needs.{needs}
 use Rattle.grammar.specs.Look.{at-top-level-form-starter-in-block}
-use Rattle.blocks.specs.declared.arm.Arm.{Arm}
+use Rattle.blocks.specs.declared.arm.BlockArm.{BlockArm}
 use Rattle.blocks.specs.declared.arm.Closing.{Closing}
-use Rattle.blocks.specs.Arms.{by-arm}
+use Rattle.blocks.specs.Arms.{by-block-arm}
 use Rattle.blocks.proofs.Laws.{meant, takes, round, absorbs, no-item, from-here}
 use Rattle.parser.proofs.Ahead.{remembers-none, remembers-later}
 use Rattle.parser.proofs.Kit.{stays, _farther_, _then-to_, begins, goes-on, Leads}
@@ -50,16 +50,16 @@ after-a2 c = c .before .before .before .before .before
 abbrev after-enum-told : tie.After-form-here Inv-loop μ-loop → tie.After-enum-told Inv-loop μ-loop
 after-enum-told c = c .before .before .before .before
 
-abbrev after-arm-here : tie.After-a Inv-loop μ-loop → tie.After-arm-here Inv-loop μ-loop
-after-arm-here c = c .before .before .before
+abbrev after-block-arm-here : tie.After-a Inv-loop μ-loop → tie.After-block-arm-here Inv-loop μ-loop
+after-block-arm-here c = c .before .before .before
 
-abbrev after-arm-here-from-a2 : tie.After-a2 Inv-loop μ-loop → tie.After-arm-here Inv-loop μ-loop
-after-arm-here-from-a2 c = c .before .before .before
+abbrev after-block-arm-here-from-a2 : tie.After-a2 Inv-loop μ-loop → tie.After-block-arm-here Inv-loop μ-loop
+after-block-arm-here-from-a2 c = c .before .before .before
 
-abbrev after-arm-here-from-enum-told : tie.After-enum-told Inv-loop μ-loop → tie.After-arm-here Inv-loop μ-loop
-after-arm-here-from-enum-told c = c .before .before .before
+abbrev after-block-arm-here-from-enum-told : tie.After-enum-told Inv-loop μ-loop → tie.After-block-arm-here Inv-loop μ-loop
+after-block-arm-here-from-enum-told c = c .before .before .before
 
-abbrev start : tie.After-arm-here Inv-loop μ-loop → tie.Start Inv-loop μ-loop
+abbrev start : tie.After-block-arm-here Inv-loop μ-loop → tie.Start Inv-loop μ-loop
 start c = c .before .before .before .before .before .before .before
 
 abbrev start-from-at-loop : tie.At-loop Inv-loop μ-loop → tie.Start Inv-loop μ-loop
@@ -76,26 +76,26 @@ loop-holds c =
     let c₁ = start-from-struct-known c in
     (begins, stays, remembers-none (omega arith), c₁ .pre)
 
-arm-here-requires : tie.Need-arm-here-requires Inv-loop μ-loop
-arm-here-requires c κs = (c .loop .inv .2, c .loop .inv .3)
+block-arm-here-requires : tie.Need-block-arm-here-requires Inv-loop μ-loop
+block-arm-here-requires c κs = (c .loop .inv .2, c .loop .inv .3)
 
 loop-less : tie.Need-loop-less Inv-loop μ-loop
 loop-less c =
     let b = after-bump-regular-trivia c in
     let c₁ = after-take b in
     let c₂ = after-a c₁ in
-    let c₃ = after-arm-here c₂ in
+    let c₃ = after-block-arm-here c₂ in
     let c₄ = start c₃ in
-    let moved = past-here (c₁ .take .ensures) (takes _ _ (meant (c₄ .args .place .terminators) _ (Arm.Takes _) (c₃ .arm-here .ensures .0) (c₂ .a .given .1))) in
+    let moved = past-here (c₁ .take .ensures) (takes _ _ (meant (c₄ .args .place .terminators) _ (BlockArm.Takes _) (c₃ .block-arm-here .ensures .0) (c₂ .a .given .1))) in
     omega (arith, moved, b .bump-regular-trivia .ensures .onward)
 
 loop-again : tie.Need-loop-again Inv-loop μ-loop
-unfolding by-arm
+unfolding by-block-arm
 loop-again c =
     let b = after-bump-regular-trivia c in
     let c₁ = after-take b in
     let c₂ = after-a c₁ in
-    let c₃ = after-arm-here c₂ in
+    let c₃ = after-block-arm-here c₂ in
     let c₄ = c₃ .before in
     let c₅ = start-from-at-loop c₄ in
     let i = c₄ .loop .inv .0 in
@@ -103,19 +103,19 @@ loop-again c =
     let v = b .bump-regular-trivia in
     let p = c₅ .args .place in (
       goes-on i (λ w′ r k.
-          round (p .owner) (p .terminators) (p .depth) (Arm.Takes _) (c₃ .arm-here .ensures .0) (c₂ .a .given .1)
+          round (p .owner) (p .terminators) (p .depth) (BlockArm.Takes _) (c₃ .block-arm-here .ensures .0) (c₂ .a .given .1)
           (t .ensures then-to absorbs limit (p .owner) (p .terminators) (p .depth) (v .ensures) k)),
       c₄ .loop .inv .1 farther t .ensures .onward farther v .ensures .onward,
-      remembers-later _ (omega (arith, t .ensures .onward, v .ensures .onward)) (c₃ .arm-here .ensures .1),
+      remembers-later _ (omega (arith, t .ensures .onward, v .ensures .onward)) (c₃ .block-arm-here .ensures .1),
       no-item,
     )
 
 returns : tie.Need-returns Inv-loop μ-loop
-unfolding by-arm
+unfolding by-block-arm
 returns c =
     let c₁ = after-close c in
     let c₂ = after-a2 c₁ in
-    let c₃ = after-arm-here-from-a2 c₂ in
+    let c₃ = after-block-arm-here-from-a2 c₂ in
     let c₄ = c₃ .before in
     let c₅ = start-from-at-loop c₄ in
     let told = c₂ .a2 .given .1 in
@@ -124,11 +124,11 @@ returns c =
       form = λ h. absurd (false≢true h);
       over = λ h. record {
         mid = _;
-        ran = c₄ .loop .inv .0 .on _ _ (round (c₅ .args .place .owner) (c₅ .args .place .terminators) (c₅ .args .place .depth) (Arm.Closes _) (c₃ .arm-here .ensures .0) told (c₁ .close .ensures .ran (c₅ .args .kinds .now)));
+        ran = c₄ .loop .inv .0 .on _ _ (round (c₅ .args .place .owner) (c₅ .args .place .terminators) (c₅ .args .place .depth) (BlockArm.Closes _) (c₃ .block-arm-here .ensures .0) told (c₁ .close .ensures .ran (c₅ .args .kinds .now)));
         wrote = c₁ .close .ensures .wrote (c₅ .args .kinds .now);
         here = record {
           starts = λ i. ap (λ p. at-top-level-form-starter-in-block (drop p (c₅ .args .kinds .now))) (c₁ .close .ensures .pos)
-              ∙ meant (c₅ .args .place .terminators) _ (Arm.Closes Closing.Item) (c₃ .arm-here .ensures .0) (told ∙ ap Arm.Closes (c₁ .close .ensures .at-item i));
+              ∙ meant (c₅ .args .place .terminators) _ (BlockArm.Closes Closing.Item) (c₃ .block-arm-here .ensures .0) (told ∙ ap BlockArm.Closes (c₁ .close .ensures .at-item i));
         };
       };
     }
@@ -137,11 +137,11 @@ returns-2 : tie.Need-returns-2 Inv-loop μ-loop
 returns-2 c =
     let c₁ = after-form-here c in
     let c₂ = after-enum-told c₁ in
-    let c₃ = after-arm-here-from-enum-told c₂ in
+    let c₃ = after-block-arm-here-from-enum-told c₂ in
     let c₄ = c₃ .before in
     let c₅ = start-from-at-loop c₄ in
-    let here = c₁ .form-here .ensures .of (c₅ .args .place .owner) (c₅ .args .place .terminators) (sym (c₃ .arm-here .ensures .0) ∙ c₂ .enum-told .given .1) in
+    let here = c₁ .form-here .ensures .of (c₅ .args .place .owner) (c₅ .args .place .terminators) (sym (c₃ .block-arm-here .ensures .0) ∙ c₂ .enum-told .given .1) in
     from-here (c₄ .loop .inv .0) (c₄ .loop .inv .1) here
 
 pub rounds-spec : {M : Type 1} → statement M
-rounds-spec = tie.close (tie.spec Inv-loop μ-loop cast-depth loop-holds arm-here-requires (λ c. search needs) (λ c κs. tt) (λ c κs. tt) loop-less loop-again (λ c. search needs) (λ c κs. tt) (λ c. returns c .onward .ev) (λ c. returns c .onward .dm) (λ c. returns c .onward .ds) returns (λ c. search needs) (λ c κs. tt) (λ c. returns-2 c .onward .ev) (λ c. returns-2 c .onward .dm) (λ c. returns-2 c .onward .ds) returns-2)
+rounds-spec = tie.close (tie.spec Inv-loop μ-loop cast-depth loop-holds block-arm-here-requires (λ c. search needs) (λ c κs. tt) (λ c κs. tt) loop-less loop-again (λ c. search needs) (λ c κs. tt) (λ c. returns c .onward .ev) (λ c. returns c .onward .dm) (λ c. returns c .onward .ds) returns (λ c. search needs) (λ c κs. tt) (λ c. returns-2 c .onward .ev) (λ c. returns-2 c .onward .dm) (λ c. returns-2 c .onward .ds) returns-2)

@@ -5,7 +5,7 @@ use native.Mathlib.Omega.{arith}
 use lib.ListN.{length}
 use borrow.Author.Tests.{not-true, not-false}
 use Rattle.grammar.specs.Line.{type-round}
-use Rattle.grammar.specs.Nesting.{default, Below}
+use Rattle.grammar.specs.Nesting.{default, NestingBelow}
 use Rattle.grammar.specs.Run.{scan}
 use Rattle.parser.specs.Ahead.{BreakKnown}
 use Rattle.parser.specs.Rep.{world}
@@ -18,7 +18,7 @@ use Rattle.declarations.proofs.type_decl.type_tokens.Statement.{stateme
 use Rattle.declarations.proofs.type_decl.type_tokens.Tie as tie
 
 abbrev Inv-loop : tie.InvT-loop
-Inv-loop kinds ev₀ dm₀ ds₀ c₀ nesting₀ known₀ ev dm ds c nesting known = Leads kinds (scan type-round default) (world ev₀ dm₀ ds₀ c₀) (scan type-round nesting) (world ev dm ds c) × Below (c .pos + 1) nesting × BreakKnown kinds (c .pos) known
+Inv-loop kinds ev₀ dm₀ ds₀ c₀ nesting₀ known₀ ev dm ds c nesting known = Leads kinds (scan type-round default) (world ev₀ dm₀ ds₀ c₀) (scan type-round nesting) (world ev dm ds c) × NestingBelow (c .pos + 1) nesting × BreakKnown kinds (c .pos) known
 
 abbrev μ-loop : tie.MeasureT-loop
 μ-loop kinds ev₀ dm₀ ds₀ c₀ nesting₀ known₀ ev dm ds c nesting known = length kinds - c .pos
@@ -41,7 +41,7 @@ start c = c .before .before .before .before .before .before
 
 loop-holds : tie.Need-loop-holds Inv-loop μ-loop
 loop-holds c =
-    (begins-as (ap (scan type-round) (sym (c .new .ensures))), subst (Below _) (sym (c .new .ensures)) (below-default _ (omega arith)), remembers-none (omega arith))
+    (begins-as (ap (scan type-round) (sym (c .new .ensures))), subst (NestingBelow _) (sym (c .new .ensures)) (below-default _ (omega arith)), remembers-none (omega arith))
 
 at-type-end-requires : tie.Need-at-type-end-requires Inv-loop μ-loop
 at-type-end-requires c κs = c .before .before .loop .inv .2

@@ -6,7 +6,7 @@ use lib.ListN.{length}
 use borrow.Author.Tests.{not-true, not-false}
 use Rattle.grammar.specs.Instruction.{Inst, instruction-round}
 use Rattle.grammar.specs.Look.{oneOf, is-trivia}
-use Rattle.grammar.specs.Nesting.{Below}
+use Rattle.grammar.specs.Nesting.{NestingBelow}
 use Rattle.grammar.specs.Run.{scan}
 use Rattle.parser.specs.Rep.{world}
 use Rattle.forms.specs.Instruction.{behind}
@@ -21,7 +21,7 @@ abbrev Inv-loop : tie.InvT-loop
 Inv-loop kinds ev₀ dm₀ ds₀ c₀ nesting₀ previous₀ ev dm ds c nesting previous =
     Leads kinds (scan instruction-round (behind previous₀)) (world ev₀ dm₀ ds₀ c₀)
     (scan instruction-round (record { nesting = nesting; previous = previous })) (world ev dm ds c)
-    × Below (c .pos + 1) nesting
+    × NestingBelow (c .pos + 1) nesting
 
 abbrev μ-loop : tie.MeasureT-loop
 μ-loop kinds ev₀ dm₀ ds₀ c₀ nesting₀ previous₀ ev dm ds c nesting previous = length kinds - c .pos
@@ -58,7 +58,7 @@ loop-holds : tie.Need-loop-holds Inv-loop μ-loop
 loop-holds c =
     let c₁ = start-from-new c in (
       begins-as (ap (λ n. scan instruction-round (record { nesting = n; previous = c₁ .args .previous0 })) (sym (c .new .ensures))),
-      subst (Below _) (sym (c .new .ensures)) (below-default _ (omega arith)),
+      subst (NestingBelow _) (sym (c .new .ensures)) (below-default _ (omega arith)),
     )
 
 returns : tie.Need-returns Inv-loop μ-loop

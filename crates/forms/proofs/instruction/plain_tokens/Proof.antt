@@ -13,7 +13,7 @@ use Rattle.parser.specs.Sets.{bit}
 use Rattle.parser.proofs.Kit.{scan-go}
 use Rattle.parser.proofs.Laws.{eof-within, current-in}
 use Rattle.forms.proofs.Plain.{open-own, not-error, plain-round}
-use Rattle.forms.specs.Instruction.{behind, open-behind, Led}
+use Rattle.forms.specs.Instruction.{behind, open-behind, PlainTokens}
 use Rattle.forms.proofs.instruction.plain_tokens.Statement.{statement}
 use Rattle.forms.proofs.instruction.plain_tokens.Tie as tie
 
@@ -22,7 +22,7 @@ opens : {x : Bool} {mask m : ℕ} (k : ℕ) → mask ≡ m → x ≡ bit mask k 
 opens k e t h = subst (λ i. bit i k ≡ true) e (sym t ∙ h)
 
 abbrev Inv-loop : tie.InvT-loop
-Inv-loop kinds ev₀ c₀ previous₀ mask₀ ev c previous mask = Led kinds ev₀ c₀ ev c previous × (mask ≡ open-behind previous)
+Inv-loop kinds ev₀ c₀ previous₀ mask₀ ev c previous mask = PlainTokens kinds ev₀ c₀ ev c previous × (mask ≡ open-behind previous)
 
 abbrev μ-loop : tie.MeasureT-loop
 μ-loop kinds ev₀ c₀ previous₀ mask₀ ev c previous mask = length kinds - c .pos

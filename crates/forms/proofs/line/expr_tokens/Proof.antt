@@ -6,7 +6,7 @@ use native.Mathlib.Omega.{arith}
 use lib.ListN.{length}
 use borrow.Author.Tests.{not-true, not-false}
 use Rattle.grammar.specs.Line.{Expression, expr-round, no-token}
-use Rattle.grammar.specs.Nesting.{Below}
+use Rattle.grammar.specs.Nesting.{NestingBelow}
 use Rattle.grammar.specs.Run.{scan}
 use Rattle.parser.specs.Rep.{world}
 use Rattle.forms.proofs.Rounds.{expr-locals, expr-next, expr-stops, expr-counts}
@@ -20,7 +20,7 @@ abbrev Inv-loop : tie.InvT-loop
 Inv-loop kinds ev₀ dm₀ ds₀ c₀ nesting₀ saw₀ ev dm ds c nesting saw =
     Leads kinds (scan expr-round no-token) (world ev₀ dm₀ ds₀ c₀)
     (scan expr-round (record { nesting = nesting; saw-significant = saw })) (world ev dm ds c)
-    × Below (c .pos + 1) nesting
+    × NestingBelow (c .pos + 1) nesting
 
 abbrev μ-loop : tie.MeasureT-loop
 μ-loop kinds ev₀ dm₀ ds₀ c₀ nesting₀ saw₀ ev dm ds c nesting saw = length kinds - c .pos
@@ -44,7 +44,7 @@ start c = c .before .before .before .before .before .before
 loop-holds : tie.Need-loop-holds Inv-loop μ-loop
 loop-holds c = (
   begins-as (ap (λ n. scan expr-round (record { nesting = n; saw-significant = false })) (sym (c .new .ensures))),
-  subst (Below _) (sym (c .new .ensures)) (below-default _ (omega arith)),
+  subst (NestingBelow _) (sym (c .new .ensures)) (below-default _ (omega arith)),
 )
 
 returns : tie.Need-returns Inv-loop μ-loop

@@ -7,7 +7,7 @@ use lib.ListN.{length}
 use borrow.Author.Tests.{not-true, not-false}
 use Rattle.forms.specs.Line.{result-end}
 use Rattle.grammar.specs.Line.{ResultType, result-round, parse-signature-result-until-line-end}
-use Rattle.grammar.specs.Nesting.{default, Below}
+use Rattle.grammar.specs.Nesting.{default, NestingBelow}
 use Rattle.grammar.specs.Run.{scan}
 use Rattle.parser.specs.Rep.{world}
 use Rattle.forms.proofs.Rounds.{result-locals, result-stops, result-counts}
@@ -23,7 +23,7 @@ first = record { nesting = default; taken = false }
 abbrev Inv-loop : tie.InvT-loop
 Inv-loop kinds ev₀ dm₀ ds₀ c₀ nesting₀ taken₀ ev dm ds c nesting taken =
     Leads kinds (scan result-round first) (world ev₀ dm₀ ds₀ c₀) (scan result-round (record { nesting = nesting; taken = taken })) (world ev dm ds c)
-    × Below (c .pos + 1) nesting
+    × NestingBelow (c .pos + 1) nesting
 
 abbrev μ-loop : tie.MeasureT-loop
 μ-loop kinds ev₀ dm₀ ds₀ c₀ nesting₀ taken₀ ev dm ds c nesting taken = length kinds - c .pos
@@ -59,7 +59,7 @@ start c = c .before .before .before .before .before .before
 loop-holds : tie.Need-loop-holds Inv-loop μ-loop
 loop-holds c = (
   begins-as (ap (λ n. scan result-round (record { nesting = n; taken = false })) (sym (c .new .ensures))),
-  subst (Below _) (sym (c .new .ensures)) (below-default _ (omega arith)),
+  subst (NestingBelow _) (sym (c .new .ensures)) (below-default _ (omega arith)),
 )
 
 returns : tie.Need-returns Inv-loop μ-loop

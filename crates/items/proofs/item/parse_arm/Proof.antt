@@ -1,7 +1,7 @@
 -- `items::item::parse_arm`: each arm is a callee. Assumes nothing.
 use borrow.Author.Needs.{needs}
 use Rattle.grammar.specs.Block.{MAX-CONTROL-FLOW-NESTING as limit, parse-block}
-use Rattle.items.specs.Arms.{by-arm}
+use Rattle.items.specs.Arms.{by-item-arm}
 use Rattle.items.proofs.Arms.{armed}
 use Rattle.items.proofs.item.parse_arm.Statement.{statement}
 use Rattle.items.proofs.item.parse_arm.Tie as tie
@@ -68,70 +68,70 @@ abbrev after-enum-told9 : tie.After-parse-advice-map → tie.After-enum-told9
 after-enum-told9 c = c .before .before .before .before
 
 returns : tie.Need-returns
-unfolding by-arm
+unfolding by-item-arm
 returns c =
     let c₁ = after-parse-doc-form c in
     let c₂ = after-enum-told c₁ in
     armed (parse-block limit) (c₂ .enum-told .given .1) (c₁ .parse-doc-form .ensures)
 
 returns-2 : tie.Need-returns-2
-unfolding by-arm
+unfolding by-item-arm
 returns-2 c =
     let c₁ = after-bump c in
     let c₂ = after-enum-told2 c₁ in
     armed (parse-block limit) (c₂ .enum-told2 .given .1) (c₁ .bump .ensures .ran)
 
 returns-3 : tie.Need-returns-3
-unfolding by-arm
+unfolding by-item-arm
 returns-3 c =
     let c₁ = after-parse-namespace c in
     let c₂ = after-enum-told3 c₁ in
     armed (parse-block limit) (c₂ .enum-told3 .given .1) (c₁ .parse-namespace .ensures)
 
 returns-4 : tie.Need-returns-4
-unfolding by-arm
+unfolding by-item-arm
 returns-4 c =
     let c₁ = after-parse-submodule c in
     let c₂ = after-enum-told4 c₁ in
     armed (parse-block limit) (c₂ .enum-told4 .given .1) (c₁ .parse-submodule .ensures)
 
 returns-5 : tie.Need-returns-5
-unfolding by-arm
+unfolding by-item-arm
 returns-5 c =
     let c₁ = after-parse-procedure c in
     let c₂ = after-enum-told5 c₁ in
     armed (parse-block limit) (c₂ .enum-told5 .given .1) (c₁ .parse-procedure .ensures)
 
 returns-6 : tie.Need-returns-6
-unfolding by-arm
+unfolding by-item-arm
 returns-6 c =
     let c₁ = after-parse-begin-block c in
     let c₂ = after-enum-told6 c₁ in
     armed (parse-block limit) (c₂ .enum-told6 .given .1) (c₁ .parse-begin-block .ensures)
 
 returns-7 : tie.Need-returns-7
-unfolding by-arm
+unfolding by-item-arm
 returns-7 c =
     let c₁ = after-parse-constant c in
     let c₂ = after-enum-told7 c₁ in
     armed (parse-block limit) (c₂ .enum-told7 .given .1) (c₁ .parse-constant .ensures)
 
 returns-8 : tie.Need-returns-8
-unfolding by-arm
+unfolding by-item-arm
 returns-8 c =
     let c₁ = after-parse-type-decl c in
     let c₂ = after-enum-told8 c₁ in
     armed (parse-block limit) (c₂ .enum-told8 .given .1) (c₁ .parse-type-decl .ensures)
 
 returns-9 : tie.Need-returns-9
-unfolding by-arm
+unfolding by-item-arm
 returns-9 c =
     let c₁ = after-parse-advice-map c in
     let c₂ = after-enum-told9 c₁ in
     armed (parse-block limit) (c₂ .enum-told9 .given .1) (c₁ .parse-advice-map .ensures)
 
 returns-10 : tie.Need-returns-10
-unfolding by-arm
+unfolding by-item-arm
 returns-10 c =
     let c₁ = after-error-token c in
     let c₂ = after-enum-told10 c₁ in

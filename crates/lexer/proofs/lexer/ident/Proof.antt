@@ -3,7 +3,7 @@ use Prim.Native.Nat.{ℕ}
 use mathlib.Core.Path.{ap}
 use borrow.Author.Needs.{needs}
 use Rattle.lexer.specs.Syntax.{Ident}
-use Rattle.lexer.specs.Lexer.{run}
+use Rattle.lexer.specs.Lexer.{lex-while}
 use Rattle.lexer.proofs.lexer.ident.Statement.{statement}
 use Rattle.lexer.proofs.lexer.ident.Tie as tie
 
@@ -11,7 +11,7 @@ word-end-requires : tie.Need-word-end-requires
 word-end-requires c κs = search needs
 
 returns : tie.Need-returns
-unfolding run
+unfolding lex-while
 returns c = ap (λ (n : ℕ). record { kind = Ident; end = n }) (c .word-end .ensures)
 
 pub ident-spec : {M : Type 1} → statement M

@@ -1,7 +1,7 @@
 -- `lexer::lexer::run` meets its contract. Assumes nothing.
 use mathlib.Core.Path.{ap}
 use Prim.Native.Nat.{ℕ}
-use Rattle.lexer.specs.Lexer.{run}
+use Rattle.lexer.specs.Lexer.{lex-while}
 use borrow.Author.Needs.{needs}
 use Rattle.lexer.proofs.lexer.run.Statement.{statement}
 use Rattle.lexer.proofs.lexer.run.Tie as tie
@@ -10,7 +10,7 @@ run-end-requires : tie.Need-run-end-requires
 run-end-requires c κs = search needs
 
 returns : tie.Need-returns
-unfolding run
+unfolding lex-while
 returns c = ap (λ (n : ℕ). record { kind = c .before .before .args .kind; end = n }) (c .run-end .ensures)
 
 pub run-spec : {M : Type 1} → statement M

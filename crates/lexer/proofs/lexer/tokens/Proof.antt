@@ -5,13 +5,13 @@ use native.Mathlib.Omega.{arith}
 use borrow.Author.Needs.{needs}
 use lib.ListN.{length}
 use Rattle.lexer.specs.declared.lexer.Token.{Token as Placed}
-use Rattle.lexer.specs.Tokens.{kindOf}
+use Rattle.lexer.specs.Tokens.{token-kind}
 use Rattle.lexer.proofs.Going.{Going, begins, ends-within, goes-on, ended}
 use Rattle.lexer.proofs.lexer.tokens.Statement.{statement}
 use Rattle.lexer.proofs.lexer.tokens.Tie as tie
 
 abbrev Inv-loop : tie.InvT-loop
-Inv-loop source kinds₀ ends₀ table at₀ n₀ kinds ends at n = Going kindOf source kinds₀ ends₀ kinds ends at n
+Inv-loop source kinds₀ ends₀ table at₀ n₀ kinds ends at n = Going token-kind source kinds₀ ends₀ kinds ends at n
 
 abbrev μ-loop : tie.MeasureT-loop
 μ-loop source kinds₀ ends₀ table at₀ n₀ kinds ends at n = length source - at

@@ -2,21 +2,21 @@
 use mathlib.Core.Path.{sym, _∙_}
 use Rattle.lexer.specs.Syntax.{Number}
 use Rattle.lexer.specs.Chars.{decimal, hex, binary}
-use Rattle.lexer.specs.Lexer.{Lex, run, follow}
+use Rattle.lexer.specs.Lexer.{LexRule, lex-while, follow}
 use Rattle.lexer.proofs.Laws.{placed-yes, placed-no, starts-within}
 use borrow.Author.Needs.{needs}
 use Rattle.lexer.proofs.lexer.zero_led.Statement.{statement}
 use Rattle.lexer.proofs.lexer.zero_led.Tie as tie
 
 -- what is asked once `x`, `X` and `b` are not there
-abbrev after-98 : Lex
-after-98 = follow 66 (run Number binary) (run Number decimal)
+abbrev after-98 : LexRule
+after-98 = follow 66 (lex-while Number binary) (lex-while Number decimal)
 
-abbrev after-88 : Lex
-after-88 = follow 98 (run Number binary) after-98
+abbrev after-88 : LexRule
+after-88 = follow 98 (lex-while Number binary) after-98
 
-abbrev after-120 : Lex
-after-120 = follow 88 (run Number hex) after-88
+abbrev after-120 : LexRule
+after-120 = follow 88 (lex-while Number hex) after-88
 
 -- places
 abbrev else3 : tie.After-run4 → tie.Else3
@@ -106,7 +106,7 @@ returns : tie.Need-returns
 returns c =
     let a = start-from-run c .args in
     c .run .ensures
-    ∙ placed-yes 120 (run Number hex) after-120 (a .source .now) (a .from) (sym (c .before .before .current-is .ensures) ∙ c .before .if1 .taken)
+    ∙ placed-yes 120 (lex-while Number hex) after-120 (a .source .now) (a .from) (sym (c .before .before .current-is .ensures) ∙ c .before .if1 .taken)
 
 current-is-requires-2 : tie.Need-current-is-requires-2
 current-is-requires-2 c κs = search needs
@@ -123,8 +123,8 @@ returns-2 : tie.Need-returns-2
 returns-2 c =
     let a = start (else1-from-run2 c) .args in
     c .run2 .ensures
-    ∙ placed-yes 88 (run Number hex) after-88 (a .source .now) (a .from) (sym (c .before .before .current-is2 .ensures) ∙ c .before .if2 .taken)
-    ∙ placed-no 120 (run Number hex) after-120 (a .from) _ (sym (after-current-is-from-run2 c .current-is .ensures) ∙ else1-from-run2 c .if1 .left)
+    ∙ placed-yes 88 (lex-while Number hex) after-88 (a .source .now) (a .from) (sym (c .before .before .current-is2 .ensures) ∙ c .before .if2 .taken)
+    ∙ placed-no 120 (lex-while Number hex) after-120 (a .from) _ (sym (after-current-is-from-run2 c .current-is .ensures) ∙ else1-from-run2 c .if1 .left)
 
 current-is-requires-3 : tie.Need-current-is-requires-3
 current-is-requires-3 c κs = search needs
@@ -141,9 +141,9 @@ returns-3 : tie.Need-returns-3
 returns-3 c =
     let a = start-from-else2 (else2 c) .args in
     c .run3 .ensures
-    ∙ placed-yes 98 (run Number binary) after-98 (a .source .now) (a .from) (sym (c .before .before .current-is3 .ensures) ∙ c .before .if3 .taken)
-    ∙ placed-no 88 (run Number hex) after-88 (a .from) _ (sym (after-current-is2-from-run3 c .current-is2 .ensures) ∙ else2 c .if2 .left)
-    ∙ placed-no 120 (run Number hex) after-120 (a .from) _ (sym (after-current-is (else2 c) .current-is .ensures) ∙ else1-from-run3 c .if1 .left)
+    ∙ placed-yes 98 (lex-while Number binary) after-98 (a .source .now) (a .from) (sym (c .before .before .current-is3 .ensures) ∙ c .before .if3 .taken)
+    ∙ placed-no 88 (lex-while Number hex) after-88 (a .from) _ (sym (after-current-is2-from-run3 c .current-is2 .ensures) ∙ else2 c .if2 .left)
+    ∙ placed-no 120 (lex-while Number hex) after-120 (a .from) _ (sym (after-current-is (else2 c) .current-is .ensures) ∙ else1-from-run3 c .if1 .left)
 
 current-is-requires-4 : tie.Need-current-is-requires-4
 current-is-requires-4 c κs = search needs
@@ -160,10 +160,10 @@ returns-4 : tie.Need-returns-4
 returns-4 c =
     let a = start-from-current-is2 (after-current-is2 (else3 c)) .args in
     c .run4 .ensures
-    ∙ placed-yes 66 (run Number binary) (run Number decimal) (a .source .now) (a .from) (sym (c .before .before .current-is4 .ensures) ∙ c .before .if4 .taken)
-    ∙ placed-no 98 (run Number binary) after-98 (a .from) _ (sym (after-current-is3-from-run4 c .current-is3 .ensures) ∙ else3 c .if3 .left)
-    ∙ placed-no 88 (run Number hex) after-88 (a .from) _ (sym (after-current-is2 (else3 c) .current-is2 .ensures) ∙ else2-from-run4 c .if2 .left)
-    ∙ placed-no 120 (run Number hex) after-120 (a .from) _ (sym (after-current-is-from-else3 (else3 c) .current-is .ensures) ∙ else1-from-else3 (else3 c) .if1 .left)
+    ∙ placed-yes 66 (lex-while Number binary) (lex-while Number decimal) (a .source .now) (a .from) (sym (c .before .before .current-is4 .ensures) ∙ c .before .if4 .taken)
+    ∙ placed-no 98 (lex-while Number binary) after-98 (a .from) _ (sym (after-current-is3-from-run4 c .current-is3 .ensures) ∙ else3 c .if3 .left)
+    ∙ placed-no 88 (lex-while Number hex) after-88 (a .from) _ (sym (after-current-is2 (else3 c) .current-is2 .ensures) ∙ else2-from-run4 c .if2 .left)
+    ∙ placed-no 120 (lex-while Number hex) after-120 (a .from) _ (sym (after-current-is-from-else3 (else3 c) .current-is .ensures) ∙ else1-from-else3 (else3 c) .if1 .left)
 
 run-requires-5 : tie.Need-run-requires-5
 run-requires-5 c κs = search needs
@@ -172,10 +172,10 @@ returns-5 : tie.Need-returns-5
 returns-5 c =
     let a = start-from-current-is2 (after-current-is2 (else3-from-run5 c)) .args in
     c .run5 .ensures
-    ∙ placed-no 66 (run Number binary) (run Number decimal) (a .from) _ (sym (c .before .before .current-is4 .ensures) ∙ c .before .if4 .left)
-    ∙ placed-no 98 (run Number binary) after-98 (a .from) _ (sym (after-current-is3-from-run5 c .current-is3 .ensures) ∙ else3-from-run5 c .if3 .left)
-    ∙ placed-no 88 (run Number hex) after-88 (a .from) _ (sym (after-current-is2 (else3-from-run5 c) .current-is2 .ensures) ∙ else2-from-run5 c .if2 .left)
-    ∙ placed-no 120 (run Number hex) after-120 (a .from) _ (sym (after-current-is-from-else3 (else3-from-run5 c) .current-is .ensures) ∙ else1-from-else3 (else3-from-run5 c) .if1 .left)
+    ∙ placed-no 66 (lex-while Number binary) (lex-while Number decimal) (a .from) _ (sym (c .before .before .current-is4 .ensures) ∙ c .before .if4 .left)
+    ∙ placed-no 98 (lex-while Number binary) after-98 (a .from) _ (sym (after-current-is3-from-run5 c .current-is3 .ensures) ∙ else3-from-run5 c .if3 .left)
+    ∙ placed-no 88 (lex-while Number hex) after-88 (a .from) _ (sym (after-current-is2 (else3-from-run5 c) .current-is2 .ensures) ∙ else2-from-run5 c .if2 .left)
+    ∙ placed-no 120 (lex-while Number hex) after-120 (a .from) _ (sym (after-current-is-from-else3 (else3-from-run5 c) .current-is .ensures) ∙ else1-from-else3 (else3-from-run5 c) .if1 .left)
 
 pub zero-led-spec : {M : Type 1} → statement M
 zero-led-spec =

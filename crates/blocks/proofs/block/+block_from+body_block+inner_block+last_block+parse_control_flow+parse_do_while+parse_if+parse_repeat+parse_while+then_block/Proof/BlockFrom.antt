@@ -3,8 +3,8 @@ use Prim.Native.Nat.{ℕ}
 use mathlib.Core.Path.{refl, sym, _∙_}
 use native.Mathlib.Omega.{arith}
 use borrow.Author.Tests.{lt-leb}
-use Rattle.blocks.specs.declared.arm.Arm.{Arm}
-use Rattle.blocks.specs.Arms.{by-arm}
+use Rattle.blocks.specs.declared.arm.BlockArm.{BlockArm}
+use Rattle.blocks.specs.Arms.{by-block-arm}
 use Rattle.blocks.proofs.Laws.{meant, deeper, round, said-no-item, gives, from-form}
 use Rattle.parser.proofs.Kit.{on-to, off-to, node-to, bind-to}
 use Rattle.grammar.specs.Block.{MAX-CONTROL-FLOW-NESTING as limit, parse-block}
@@ -73,11 +73,11 @@ parse-control-flow-requires t c κs =
     let begun = c₃ .first-rounds .ensures in
     let rounds = c₂ .loop .inv .on _ (begun .rounds) in
     let here = rounds .form (c₁ .loop-test .taken) in
-    let control = meant (c₄ .args .start .place .terminators) _ Arm.Control refl (here .arm) in
+    let control = meant (c₄ .args .start .place .terminators) _ BlockArm.Control refl (here .arm) in
     (omega (arith, c₄ .pre, begun .wrote .pos, rounds .onward), (here .first, control, omega (arith, here .below)))
 
 pub returns : (t : ℕ) → block-from-place lts.Need-returns t
-unfolding parse-block by-arm
+unfolding parse-block by-block-arm
 returns t c =
     let c₁ = then1 t c in
     let c₂ = after-parse-control-flow-from-then1 t c₁ in
@@ -89,7 +89,7 @@ returns t c =
     let here = c₄ .loop .inv .on _ (begun .rounds) .form (c₃ .loop-test .taken) in
     let form = deeper (c₆ .args .start .place .depth) (c₂ .parse-control-flow .ensures .ran) in
     let rest = bind-to _ form (on-to _ (c₁ .if1 .taken) (gives (c .before .before .ended-file .ensures .1))) in
-    let inside = here .on _ _ (round (c₆ .args .start .place .owner) (c₆ .args .start .place .terminators) (c₆ .args .start .place .depth) Arm.Control (sym (here .arm)) refl (off-to _ (lt-leb limit (c₆ .args .start .place .depth) (here .below)) rest)) in
+    let inside = here .on _ _ (round (c₆ .args .start .place .owner) (c₆ .args .start .place .terminators) (c₆ .args .start .place .depth) BlockArm.Control (sym (here .arm)) refl (off-to _ (lt-leb limit (c₆ .args .start .place .depth) (here .below)) rest)) in
     record { ran = node-to _ (begun .wrote) inside (c .before .before .ended-file .ensures .0 .wrote (c₆ .args .kinds .now) _ _); here = said-no-item (c .before .before .ended-file .ensures .2) }
 
 pub next-rounds-requires : (t : ℕ) → block-from-place lts.Need-next-rounds-requires t
@@ -104,7 +104,7 @@ loop-less t c =
     omega (arith, c₂ .parse-control-flow .ensures .past, c₁ .next-rounds .ensures .onward)
 
 pub loop-again : (t : ℕ) → block-from-place lts.Need-loop-again t
-unfolding by-arm
+unfolding by-block-arm
 loop-again t c =
     let c₁ = after-next-rounds t c in
     let c₂ = else1 t c₁ in
@@ -118,7 +118,7 @@ loop-again t c =
       on = λ w r.
           let rounds = i .on w r in
           let here = rounds .form (c₄ .loop-test .taken) in
-          from-form (c₄ .loop-test .taken) rounds (λ u x h. round (c₆ .args .start .place .owner) (c₆ .args .start .place .terminators) (c₆ .args .start .place .depth) Arm.Control (sym (here .arm)) refl (off-to _ (lt-leb limit (c₆ .args .start .place .depth) (here .below)) (bind-to _ form (off-to _ (c₂ .if1 .left) h))))
+          from-form (c₄ .loop-test .taken) rounds (λ u x h. round (c₆ .args .start .place .owner) (c₆ .args .start .place .terminators) (c₆ .args .start .place .depth) BlockArm.Control (sym (here .arm)) refl (off-to _ (lt-leb limit (c₆ .args .start .place .depth) (here .below)) (bind-to _ form (off-to _ (c₂ .if1 .left) h))))
           (c₃ .parse-control-flow .ensures .ran .ran .onward) (c₁ .next-rounds .ensures);
     }
 

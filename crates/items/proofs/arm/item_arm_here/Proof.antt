@@ -1,19 +1,19 @@
--- `items::arm::arm_here`: the tests in their order, by the token here and the declaration that it starts. Assumes nothing.
+-- `items::arm::item_arm_here`: the tests in their order, by the token here and the declaration that it starts. Assumes nothing.
 use mathlib.Core.List.{List}
 use mathlib.Core.Path.{_≡_, refl, sym, ap₂, _∙_}
 use borrow.Author.Needs.{needs}
 use borrow.Author.Tests.{eq-eqb, ne-eqb}
 use Rattle.grammar.specs.Look.{current}
 use Rattle.grammar.specs.Words.{Sym}
-use Rattle.items.specs.Arms.{arm-of, arm-by}
-use Rattle.items.specs.declared.arm.Arm.{Arm}
+use Rattle.items.specs.Arms.{item-arm, arm-by}
+use Rattle.items.specs.declared.arm.ItemArm.{ItemArm}
 use Rattle.parser.specs.Ahead.{declared}
 use Rattle.items.proofs.Arms.{arm-is}
-use Rattle.items.proofs.arm.arm_here.Statement.{statement}
-use Rattle.items.proofs.arm.arm_here.Tie as tie
+use Rattle.items.proofs.arm.item_arm_here.Statement.{statement}
+use Rattle.items.proofs.arm.item_arm_here.Tie as tie
 
 -- the arm by these tokens, where they are the ones here
-found : {a : Arm} {k d : Sym} (r : List Sym) → a ≡ arm-by k d → k ≡ current r → d ≡ declared r → a ≡ arm-of r
+found : {a : ItemArm} {k d : Sym} (r : List Sym) → a ≡ arm-by k d → k ≡ current r → d ≡ declared r → a ≡ item-arm r
 found r e p q = e ∙ ap₂ arm-by p q ∙ arm-is r
 
 -- places
@@ -60,7 +60,7 @@ returns-4 c =
     let c₄ = c₃ .before in
     found _ (rw (ne-eqb _ _ (c₃ .if1 .left), sym (c₂ .is-regular-trivia .ensures) ∙ c₁ .if2 .left, ne-eqb _ _ (c .before .before .if3 .left)) (c .declared-arm .ensures)) (c₄ .current .ensures) (c .before .declared .ensures)
 
-pub arm-here-spec : {M : Type 1} → statement M
-arm-here-spec =
+pub item-arm-here-spec : {M : Type 1} → statement M
+item-arm-here-spec =
     tie.close
     (tie.spec current-requires returns is-regular-trivia-requires returns-2 returns-3 declared-requires declared-arm-requires returns-4)

@@ -1,12 +1,12 @@
--- `blocks::arm::arm_here`: the tests of the definition, trivia first. Assumes nothing.
+-- `blocks::arm::block_arm_here`: the tests of the definition, trivia first. Assumes nothing.
 use mathlib.Core.Path.{refl, sym, _∙_}
 use borrow.Author.Needs.{needs}
-use Rattle.blocks.specs.Arms.{arm-of}
+use Rattle.blocks.specs.Arms.{block-arm}
 use Rattle.grammar.specs.Look.{oneOf, regular-trivia}
 use Rattle.blocks.proofs.Laws.{trivia-no-end, at-number, ident-arm}
 use Rattle.parser.proofs.Laws.{at-some}
-use Rattle.blocks.proofs.arm.arm_here.Statement.{statement}
-use Rattle.blocks.proofs.arm.arm_here.Tie as tie
+use Rattle.blocks.proofs.arm.block_arm_here.Statement.{statement}
+use Rattle.blocks.proofs.arm.block_arm_here.Tie as tie
 
 -- places
 abbrev else4 : tie.After-inner-arm → tie.Else4
@@ -25,7 +25,7 @@ is-regular-trivia-requires : tie.Need-is-regular-trivia-requires
 is-regular-trivia-requires c κs = search needs
 
 returns : tie.Need-returns
-unfolding arm-of oneOf
+unfolding block-arm oneOf
 returns c =
     let c₁ = c .before .before .before .before in
     let e = at-number regular-trivia _ refl (c .before .before .current .ensures) (c .before .is-regular-trivia .ensures) (c .if1 .taken) in
@@ -41,7 +41,7 @@ eof-requires : tie.Need-eof-requires
 eof-requires c κs = search needs
 
 returns-3 : tie.Need-returns-3
-unfolding arm-of oneOf
+unfolding block-arm oneOf
 returns-3 c =
     let c₁ = after-current (c .before) .before .before in
     (rw (sym (c .before .eof .ensures) ∙ c .if3 .taken), c₁ .pre .0)
@@ -51,7 +51,7 @@ at-terminator-requires c κs =
     tt
 
 returns-4 : tie.Need-returns-4
-unfolding arm-of oneOf
+unfolding block-arm oneOf
 returns-4 c =
     let c₁ = c .before .before .before in
     let c₂ = after-current c₁ .before .before in
@@ -61,7 +61,7 @@ at-stray-else-requires : tie.Need-at-stray-else-requires
 at-stray-else-requires c κs = search needs
 
 returns-5 : tie.Need-returns-5
-unfolding arm-of oneOf
+unfolding block-arm oneOf
 returns-5 c =
     let c₁ = c .before .before .before in
     let c₂ = c₁ .before in
@@ -78,7 +78,7 @@ inner-arm-requires c κs =
     (c₁ .pre .0, c₁ .pre .1)
 
 returns-6 : tie.Need-returns-6
-unfolding arm-of oneOf
+unfolding block-arm oneOf
 returns-6 c =
     let c₁ = else4 c in
     let c₂ = c₁ .before in
@@ -89,8 +89,8 @@ returns-6 c =
     let c₇ = c₆ .before in
     (rw (sym (c₄ .eof .ensures) ∙ c₃ .if3 .left, sym (c₂ .at-terminator .ensures) ∙ c₁ .if4 .left, at-number regular-trivia _ refl (c₇ .current .ensures) (c₆ .is-regular-trivia .ensures) (c₅ .if1 .left), sym (c .before .before .at-stray-else .ensures) ∙ c .before .if5 .left) (c .inner-arm .ensures .0), c .inner-arm .ensures .1)
 
-pub arm-here-spec : {M : Type 1} → statement M
-arm-here-spec =
+pub block-arm-here-spec : {M : Type 1} → statement M
+block-arm-here-spec =
     tie.close
     (tie.spec current-requires is-regular-trivia-requires returns returns-2 eof-requires returns-3 at-terminator-requires returns-4
     at-stray-else-requires returns-5 inner-arm-requires returns-6)
