@@ -1,6 +1,7 @@
 // What a round of parse_block's loop does, by the token here.
 use grammar::block::Terminators;
-use grammar::kind::IDENT;
+use lexer::syntax::DOC_COMMENT;
+use lexer::syntax::IDENT;
 use parser::kinds::CONTROL_FLOW;
 use parser::kinds::in_words;
 use parser::kinds::is_regular_trivia;
@@ -65,7 +66,7 @@ fn inner_arm(kinds: &[u16], p: usize, known: Remembered, item: bool) -> Seen
         };
     }
     let k = current(kinds, p);
-    if k == 30 {
+    if k == DOC_COMMENT {
         let doc = starts_behind_doc(kinds, p, known);
         if doc.starts {
             return Seen {

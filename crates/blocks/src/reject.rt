@@ -1,8 +1,8 @@
 // The rest of a file whose control flow is nested too deep.
-use grammar::kind::CLOSE;
-use grammar::kind::ERROR;
+use grammar::event::CLOSE;
 use grammar::message::BlockMessage;
 use grammar::message::Message;
+use lexer::syntax::ERROR;
 use parser::cursor::Cursor;
 use parser::cursor::bump;
 use parser::cursor::error_here;

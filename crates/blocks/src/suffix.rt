@@ -1,14 +1,16 @@
 // The suffixes of a structured header: a dot, and a group, a name, a number or a text behind it.
 use forms::path::parse_balanced_group;
-use grammar::kind::DOT;
 use grammar::message::BlockMessage;
 use grammar::message::Message;
+use lexer::syntax::DOT;
+use lexer::syntax::L_BRACKET;
 use parser::bump::bump_inline_whitespace;
 use parser::cursor::Cursor;
 use parser::cursor::Flow;
 use parser::cursor::bump;
 use parser::cursor::error_here;
 use parser::kinds::in_set;
+use parser::kinds::is_name_like;
 use parser::look::at_kind;
 use parser::look::current;
 ghost use mathlib.Core.Path.{_≡_};
@@ -19,13 +21,13 @@ ghost use Rattle.grammar.specs.Look.{name-like, oneOf};
 ghost use Rattle.grammar.specs.Block.{suffix-operand, suffix-round, parse-structured-header-suffixes};
 ghost use Rattle.parser.specs.Rep.{entry, exit, Ran, RanTo};
 
-// The kinds of a name, and Number and QuotedString, as bits.
-const OPERANDS: u64 = 0xf80000000;
+// Number and QuotedString, as bits.
+const LITERALS: u64 = 0xa00000000;
 
 fn is_operand(k: u16) -> bool
     ensures { λ r. ⌜ r ≡ (name-like k || oneOf (Number ∷ QuotedString ∷ []) k) ⌝ }
 {
-    256 <= k || in_set(OPERANDS, k)
+    is_name_like(k) || in_set(LITERALS, k)
 }
 
 // Behind the dot: whether an operand stands there.
@@ -33,7 +35,7 @@ fn suffix_operand(kinds: &[u16], ev: &mut [u16], dm: &mut [u16], ds: &mut [u32],
     ensures { λ r. ⌜ RanTo (now (kinds .entry)) suffix-operand (entry ev dm ds c0) (exit ev dm ds (r .c)) (r .ok) ⌝ }
 {
     let k = current(kinds, c0.pos);
-    if k == 47 {
+    if k == L_BRACKET {
         let g = parse_balanced_group(
             kinds,
             ev,

@@ -2,14 +2,14 @@
 use crate::parts::keyword_and_name;
 use crate::parts::optional_parens;
 use crate::parts::value_line;
-use grammar::kind::ADVICE_MAP;
-use grammar::kind::CLOSE;
+use grammar::event::CLOSE;
 use grammar::message::ItemMessage;
 use grammar::message::Message;
+use grammar::words::ADV_MAP;
+use lexer::syntax::ADVICE_MAP;
 use parser::bump::bump_inline_whitespace;
 use parser::cursor::Cursor;
 use parser::cursor::put;
-use parser::kinds::ADV_MAP;
 ghost use Rattle.grammar.specs.Item.{parse-advice-map};
 ghost use Rattle.parser.specs.Rep.{entry, exit, Ran};
 

@@ -1,11 +1,11 @@
 // Attributes, before a procedure.
 use crate::parts::keyword_and_name;
 use crate::parts::optional_parens;
-use grammar::kind::AT;
-use grammar::kind::ATTRIBUTE;
-use grammar::kind::CLOSE;
+use grammar::event::CLOSE;
 use grammar::message::Message;
 use grammar::message::ProcedureMessage;
+use lexer::syntax::AT;
+use lexer::syntax::ATTRIBUTE;
 use parser::bump::bump_inline_whitespace;
 use parser::bump::bump_regular_trivia;
 use parser::cursor::Cursor;

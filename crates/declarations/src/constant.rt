@@ -2,13 +2,13 @@
 use crate::parts::keyword_and_name;
 use crate::parts::value_line;
 use crate::visibility::optional_visibility;
-use grammar::kind::CLOSE;
-use grammar::kind::CONSTANT;
+use grammar::event::CLOSE;
 use grammar::message::ItemMessage;
 use grammar::message::Message;
+use grammar::words::CONST;
+use lexer::syntax::CONSTANT;
 use parser::cursor::Cursor;
 use parser::cursor::put;
-use parser::kinds::CONST;
 ghost use Rattle.grammar.specs.Item.{parse-constant};
 ghost use Rattle.parser.specs.Rep.{entry, exit, Ran};
 

@@ -1,15 +1,15 @@
 // A namespace.
 use forms::line::parse_line_tail;
 use forms::path::parse_path_with_message;
-use grammar::kind;
-use grammar::kind::CLOSE;
+use grammar::event::CLOSE;
 use grammar::message::ItemMessage;
 use grammar::message::Message;
+use grammar::words::NAMESPACE_WORD;
+use lexer::syntax::NAMESPACE;
 use parser::bump::bump_regular_trivia;
 use parser::bump::expect_kind;
 use parser::cursor::Cursor;
 use parser::cursor::put;
-use parser::kinds::NAMESPACE;
 ghost use Rattle.grammar.specs.Item.{parse-namespace};
 ghost use Rattle.parser.specs.Rep.{entry, exit, Ran};
 
@@ -22,8 +22,8 @@ pub fn parse_namespace(
 ) -> Cursor
     ensures { λ r. ⌜ Ran (now (kinds .entry)) parse-namespace (entry ev dm ds c0) (exit ev dm ds r) ⌝ }
 {
-    let a = put(ev, c0, kind::NAMESPACE);
-    let b = expect_kind(kinds, ev, dm, ds, a, NAMESPACE, Message::Unreached);
+    let a = put(ev, c0, NAMESPACE);
+    let b = expect_kind(kinds, ev, dm, ds, a, NAMESPACE_WORD, Message::Unreached);
     let bc = b.c;
     let d = bump_regular_trivia(kinds, ev, dm, ds, bc);
     let e = parse_path_with_message(

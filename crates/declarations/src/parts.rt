@@ -2,10 +2,10 @@
 use forms::line::parse_expr_until_line_end;
 use forms::line::parse_line_tail;
 use forms::path::parse_balanced_group;
-use grammar::kind::EQUAL;
-use grammar::kind::L_PAREN;
-use grammar::kind::R_PAREN;
 use grammar::message::Message;
+use lexer::syntax::EQUAL;
+use lexer::syntax::L_PAREN;
+use lexer::syntax::R_PAREN;
 use parser::bump::bump_regular_trivia;
 use parser::bump::expect_kind;
 use parser::bump::expect_name;

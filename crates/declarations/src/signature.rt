@@ -1,13 +1,13 @@
 // A procedure's signature.
 use forms::line::parse_signature_result_until_line_end;
 use forms::path::parse_balanced_group;
-use grammar::kind::CLOSE;
-use grammar::kind::L_PAREN;
-use grammar::kind::R_ARROW;
-use grammar::kind::R_PAREN;
-use grammar::kind::SIGNATURE;
+use grammar::event::CLOSE;
 use grammar::message::Message;
 use grammar::message::ProcedureMessage;
+use lexer::syntax::L_PAREN;
+use lexer::syntax::R_ARROW;
+use lexer::syntax::R_PAREN;
+use lexer::syntax::SIGNATURE;
 use parser::bump::bump_non_comment_trivia;
 use parser::cursor::Cursor;
 use parser::cursor::bump;

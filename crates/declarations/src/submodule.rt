@@ -2,13 +2,13 @@
 use crate::parts::keyword_and_name;
 use crate::visibility::optional_visibility;
 use forms::line::parse_line_tail;
-use grammar::kind::CLOSE;
-use grammar::kind::SUBMODULE;
+use grammar::event::CLOSE;
 use grammar::message::ItemMessage;
 use grammar::message::Message;
+use grammar::words::MOD;
+use lexer::syntax::SUBMODULE;
 use parser::cursor::Cursor;
 use parser::cursor::put;
-use parser::kinds::MOD;
 ghost use Rattle.grammar.specs.Item.{parse-submodule};
 ghost use Rattle.parser.specs.Rep.{entry, exit, Ran};
 

@@ -1,12 +1,12 @@
 // A type declaration.
 use crate::visibility::optional_visibility;
-use grammar::kind::CLOSE;
-use grammar::kind::NEWLINE;
-use grammar::kind::TYPE_BODY;
-use grammar::kind::TYPE_DECL;
+use grammar::event::CLOSE;
 use grammar::message::ItemMessage;
 use grammar::message::Message;
 use grammar::nesting::Nesting;
+use lexer::syntax::NEWLINE;
+use lexer::syntax::TYPE_BODY;
+use lexer::syntax::TYPE_DECL;
 use parser::bump::bump_regular_trivia;
 use parser::bump::expect_name;
 use parser::cursor::Cursor;

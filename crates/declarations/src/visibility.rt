@@ -1,17 +1,17 @@
 // A visibility: `pub`, and `package` in parentheses behind it.
-use grammar::kind::CLOSE;
-use grammar::kind::L_PAREN;
-use grammar::kind::R_PAREN;
-use grammar::kind::VISIBILITY;
+use grammar::event::CLOSE;
 use grammar::message::Message;
 use grammar::message::ProcedureMessage;
+use grammar::words::PACKAGE;
+use grammar::words::PUB;
+use lexer::syntax::L_PAREN;
+use lexer::syntax::R_PAREN;
+use lexer::syntax::VISIBILITY;
 use parser::bump::bump_regular_trivia;
 use parser::bump::expect_kind;
 use parser::cursor::Cursor;
 use parser::cursor::bump;
 use parser::cursor::put;
-use parser::kinds::PACKAGE;
-use parser::kinds::PUB;
 use parser::look::at_kind;
 use parser::look::next_relevant_top_level_token;
 ghost use Rattle.grammar.specs.Item.{package-in-parens, parse-visibility, optional-visibility};

@@ -1,11 +1,11 @@
 // Instructions.
 use crate::line::LINE_END;
 use grammar::block::Terminators;
-use grammar::kind::CLOSE;
-use grammar::kind::INSTRUCTION;
-use grammar::kind::WHITESPACE;
+use grammar::event::CLOSE;
 use grammar::nesting::Nesting;
 use grammar::nesting::Significant;
+use lexer::syntax::INSTRUCTION;
+use lexer::syntax::WHITESPACE;
 use parser::cursor::Cursor;
 use parser::cursor::bump;
 use parser::cursor::bump_plain;

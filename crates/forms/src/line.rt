@@ -1,11 +1,11 @@
 // Line forms: what runs to the end of a line.
-use grammar::kind::CLOSE;
-use grammar::kind::COMMENT;
-use grammar::kind::EXPR;
-use grammar::kind::WHITESPACE;
+use grammar::event::CLOSE;
 use grammar::message::Message;
 use grammar::message::ProcedureMessage;
 use grammar::nesting::Nesting;
+use lexer::syntax::COMMENT;
+use lexer::syntax::EXPR;
+use lexer::syntax::WHITESPACE;
 use parser::bump::bump_regular_trivia;
 use parser::cursor::Cursor;
 use parser::cursor::bump;

@@ -1,9 +1,9 @@
 // Paths, and groups between delimiters.
-use grammar::kind::CLOSE;
-use grammar::kind::COLON_COLON;
-use grammar::kind::PATH;
+use grammar::event::CLOSE;
 use grammar::message::ItemMessage;
 use grammar::message::Message;
+use lexer::syntax::COLON_COLON;
+use lexer::syntax::PATH;
 use parser::bump::bump_at;
 use parser::bump::bump_non_comment_trivia;
 use parser::bump::bump_regular_trivia;

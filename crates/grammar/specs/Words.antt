@@ -1,4 +1,4 @@
--- A token as the grammar reads it: its kind and, for an Ident, its word, as the number kind + 256 * word.
+-- A token as the grammar reads it: its kind and, for an Ident, its word, as the number kind + MARK * word.
 -- The sixteen words that the parser compares with are numbered from 1; any other text is word 0.
 -- Assumes nothing: these are definitions.
 use Prim.Native.Nat.{ℕ, suc, _+_, _*_}
@@ -19,9 +19,13 @@ File = List Sym
 abbrev pub from : File → ℕ → List Sym
 from F i = drop i F
 
+-- Above every kind: what rides on a kind is multiplied by it.
+abbrev pub MARK : ℕ
+MARK = 256
+
 -- The Ident that is the word w.
 abbrev pub key : ℕ → Sym
-key w = Ident + 256 * w
+key w = Ident + MARK * w
 
 abbrev pub ADV-MAP : Sym
 ADV-MAP = key 1
@@ -106,7 +110,7 @@ symOf kind text = cond (eqb Ident kind) (key (wordOf text)) kind
 
 -- The kind of a token, and its event: 60 stands for Error, the one kind of token below 27.
 abbrev pub kindOf : Sym → ℕ
-kindOf s = cond (ltb s 256) s Ident
+kindOf s = cond (ltb s MARK) s Ident
 
 abbrev pub eventOf : ℕ → ℕ
 eventOf k = cond (ltb k 27) 60 k

@@ -1,10 +1,10 @@
 // Delimiter counts: parser.rs's Nesting, and what its bump hands back.
-use crate::kind::L_BRACE;
-use crate::kind::L_BRACKET;
-use crate::kind::L_PAREN;
-use crate::kind::R_BRACE;
-use crate::kind::R_BRACKET;
-use crate::kind::R_PAREN;
+use lexer::syntax::L_BRACE;
+use lexer::syntax::L_BRACKET;
+use lexer::syntax::L_PAREN;
+use lexer::syntax::R_BRACE;
+use lexer::syntax::R_BRACKET;
+use lexer::syntax::R_PAREN;
 ghost use mathlib.Core.Path.{_≡_};
 ghost use Prim.Native.Nat.{_<_, _^_};
 ghost use Rattle.grammar.specs.Nesting.{default, is-root, open-paren, open-bracket, open-brace, close-paren, close-bracket};

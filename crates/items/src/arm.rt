@@ -1,14 +1,14 @@
 // Which item starts at a token.
-use grammar::kind::AT;
-use grammar::kind::DOC_COMMENT;
-use parser::kinds::ADV_MAP;
-use parser::kinds::BEGIN;
-use parser::kinds::CONST;
-use parser::kinds::ENUM;
-use parser::kinds::MOD;
-use parser::kinds::NAMESPACE;
-use parser::kinds::PROC;
-use parser::kinds::TYPE;
+use grammar::words::ADV_MAP;
+use grammar::words::BEGIN;
+use grammar::words::CONST;
+use grammar::words::ENUM;
+use grammar::words::MOD;
+use grammar::words::NAMESPACE_WORD;
+use grammar::words::PROC;
+use grammar::words::TYPE;
+use lexer::syntax::AT;
+use lexer::syntax::DOC_COMMENT;
 use parser::kinds::is_regular_trivia;
 use parser::look::current;
 use parser::look::declared;
@@ -73,7 +73,7 @@ pub fn item_arm_here(kinds: &[u16], p: usize) -> ItemArm
     if is_regular_trivia(k) {
         return ItemArm::Trivia;
     }
-    if NAMESPACE == k {
+    if NAMESPACE_WORD == k {
         return ItemArm::Namespace;
     }
     declared_arm(k, declared(kinds, p))

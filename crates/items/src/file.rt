@@ -1,7 +1,7 @@
 // The whole file.
 use crate::item::parse_source_item;
-use grammar::kind::CLOSE;
-use grammar::kind::SOURCE_FILE;
+use grammar::event::CLOSE;
+use lexer::syntax::SOURCE_FILE;
 use parser::bump::bump_regular_trivia;
 use parser::cursor::Cursor;
 use parser::cursor::put;

@@ -40,12 +40,12 @@ ghost use Rattle.lexer.specs.Tokens.{MAX-SOURCE, token-kind, TokensOver,
 pub const MAX_SOURCE: usize = 1048576;
 
 pub struct Token {
-    pub kind: u8,
+    pub kind: u16,
     pub end: usize,
 }
 
 // A token that is its first byte and a run from `from` on.
-fn run(kind: u8, run: Run, source: &[u8], from: usize) -> Token
+fn run(kind: u16, run: Run, source: &[u8], from: usize) -> Token
     requires { ⌜ from ≤ length (now source) ⌝ }
     ensures { λ r. ⌜ r ≡ placed from (runOf kind (holds run) (drop from (now (source .entry)))) ⌝ }
 {
@@ -56,7 +56,7 @@ fn run(kind: u8, run: Run, source: &[u8], from: usize) -> Token
 }
 
 // A token of one byte, or of two where x follows.
-fn pair(x: u8, longer: u8, shorter: u8, source: &[u8], from: usize) -> Token
+fn pair(x: u8, longer: u16, shorter: u16, source: &[u8], from: usize) -> Token
     requires { ⌜ from ≤ length (now source) ⌝ }
     ensures { λ r. ⌜ r ≡ placed from (follow x (lex-one longer) (lex-one shorter) (drop from (now (source .entry)))) ⌝ }
 {
@@ -206,7 +206,7 @@ pub fn next(table: &[u8; 256], source: &[u8], at: usize) -> Token
         57 => pair(47, SLASH_SLASH, SLASH, source, from),
         1 => stray(b, source, from),
         _ => Token {
-            kind: class,
+            kind: class as u16,
             end: from,
         },
     }
@@ -237,7 +237,7 @@ fn tokens(source: &[u8], kinds: &mut [u16], ends: &mut [u32]) -> usize
     while at < source.len() {
         let t = next(&table, source, at);
         let end = t.end;
-        put_token(kinds, ends, n, t.kind as u16, end as u32);
+        put_token(kinds, ends, n, t.kind, end as u32);
         n += 1;
         at = end;
     }

@@ -12,7 +12,7 @@ use Rattle.lexer.specs.Syntax.{Ident}
 use Rattle.lexer.specs.Lexer.{Token, same, tokenize}
 use Rattle.lexer.specs.Tokens.{TokensOver, TokensFit}
 use Rattle.lexer.specs.Laws.{same-equal}
-use Rattle.grammar.specs.Words.{key, words, numberIn, wordOf, symOf}
+use Rattle.grammar.specs.Words.{MARK, key, words, numberIn, wordOf, symOf}
 use Rattle.marks.specs.declared.Refusal.{Refusal}
 use Rattle.marks.specs.declared.Refusal.the-variants.{Nothing, At}
 use Rattle.marks.specs.declared.Read.{Read}
@@ -63,10 +63,10 @@ kept-text text e f =
     let n = past-words 1 words refused-texts text (λ k. rw (e, f)) in
     record { is-word = n; small = rw n (at-most 0 words text) }
 
--- What the number says of a token: it is refused, or its symbol is its kind and 256 times the number.
+-- What the number says of a token: it is refused, or its symbol is its kind and MARK times the number.
 pub record SymbolMark (kind : ℕ) (text : List ℕ) : Type 0 where
-  pub symbol : symOf kind text ≡ kind + 256 * number-of kind text
-  pub bounded : kind < 60 → kind + 256 * number-of kind text ≤ key 16
+  pub symbol : symOf kind text ≡ kind + MARK * number-of kind text
+  pub bounded : kind < 60 → kind + MARK * number-of kind text ≤ key 16
 
 neither : (x y : Bool) → x || y ≡ false → (x ≡ false) × (y ≡ false)
 neither true y e = absurd (true≢false e)
@@ -94,9 +94,9 @@ module _ (kind : ℕ) (text : List ℕ) where
       by-kind true false false h p q f = absurd (false≢true f)
       by-kind false u v h p q f = absurd (false≢true f)
 
--- What is written for a token: its kind, and 256 times its number more.
+-- What is written for a token: its kind, and MARK times its number more.
 abbrev pub marked : ℕ → List ℕ → ℕ
-marked kind text = kind + 256 * number-of kind text
+marked kind text = kind + MARK * number-of kind text
 
 abbrev pub mark : Token → ℕ
 mark t = marked (t .kind) (t .text)

@@ -15,7 +15,7 @@ use Rattle.lexer.specs.Tokens.{token-kinds}
 use Rattle.lexer.specs.Tokens
 use Rattle.lexer.specs.Laws.{Every, token-bytes, last, lossless}
 use Rattle.lexer.specs.Join.{join}
-use Rattle.grammar.specs.Words.{key, wordOf, symOf, kindOf}
+use Rattle.grammar.specs.Words.{MARK, key, wordOf, symOf, kindOf}
 use Rattle.marks.specs.declared.Refusal.{Refusal}
 use Rattle.marks.specs.declared.Refusal.the-variants.{Nothing, At}
 use Rattle.grammar.specs.Source.{syms}
@@ -27,14 +27,14 @@ use Rattle.marks.specs.Code.{text-number, number-of, mark, symbol-mark, 
 -- a key has the kind of an Ident, and a kind is its own
 kind-of-key : (w : ℕ) → kindOf (key w) ≡ Ident
 kind-of-key zero = refl
-kind-of-key (suc w) = rw (le-ltb (key (suc w)) 256 (omega arith))
+kind-of-key (suc w) = rw (le-ltb (key (suc w)) MARK (omega arith))
 
 kind-again : (k w : ℕ) → k < 60 → kindOf (cond (eqb Ident k) (key w) k) ≡ k
 kind-again k w h = by-test (eqb Ident k) refl
   where
     by-test : (t : Bool) → eqb Ident k ≡ t → kindOf (cond t (key w) k) ≡ k
     by-test true e = kind-of-key w ∙ eqb-true Ident k e
-    by-test false e = rw (lt-ltb k 256 (omega arith))
+    by-test false e = rw (lt-ltb k MARK (omega arith))
 
 kind-of-sym : (t : Token) → t .kind < 60 → kindOf (Source.token-symbol t) ≡ t .kind
 unfolding symOf
@@ -45,7 +45,7 @@ mark-is : (t : Token) → mark t ≡ cond (eqb Ident (t .kind)) (key (text-numbe
 unfolding number-of
 mark-is t = by-test (eqb Ident (t .kind)) refl
   where
-    by-test : (u : Bool) → eqb Ident (t .kind) ≡ u → t .kind + 256 * cond u (text-number (t .text)) 0 ≡ cond u (key (text-number (t .text))) (t .kind)
+    by-test : (u : Bool) → eqb Ident (t .kind) ≡ u → t .kind + MARK * cond u (text-number (t .text)) 0 ≡ cond u (key (text-number (t .text))) (t .kind)
     by-test true e = omega (arith, eqb-true Ident (t .kind) e)
     by-test false e = omega arith
 

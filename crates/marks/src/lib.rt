@@ -1,4 +1,7 @@
 // The tokens of a source as the grammar reads them: words are marked in the kinds, and the marks are taken off after the grammar.
+use grammar::words::MARK;
+use grammar::words::WHILE;
+use lexer::syntax::IDENT;
 ghost use mathlib.Core.Path.{_≡_};
 ghost use mathlib.Core.List.{map};
 ghost use Prim.Native.Nat.{_-_, _≤_, _<_};
@@ -10,11 +13,6 @@ ghost use Rattle.marks.specs.Filter.{WordsPass};
 
 mod filter;
 mod word;
-
-const IDENT: u16 = 31;
-
-// The Ident that is the last word, `while`; `use` and `extern` stand above it.
-const LAST_WORD: u16 = 4127;
 
 // Where the first Ident `use` or `extern` starts, if there is one.
 pub enum Refusal {
@@ -39,11 +37,11 @@ fn number_of(first: &[u16; 256], last: &[u16; 256], source: &[u8], start: usize,
     0
 }
 
-// The refusal so far, or else that of a token above the last word.
+// The refusal so far, or else that of a token above the last word, `while`: `use` and `extern`.
 fn or_else(refusal: Refusal, kind: u16, start: usize) -> Refusal
     ensures { λ r. ⌜ r ≡ or-else refusal (refused-at kind start) ⌝ }
 {
-    if kind <= LAST_WORD {
+    if kind <= WHILE {
         return refusal;
     }
     match refusal {
@@ -58,17 +56,16 @@ fn mark(
     last: &[u16; 256],
     source: &[u8],
     start: usize,
-    kind: u8,
+    kind: u16,
     end: usize,
 ) -> u16
     requires { ⌜ (WordsPass (now first) (now last)) × (start < end) × (end ≤ length (now source)) ⌝ }
     ensures { λ r. ⌜ r ≡ marked kind (take (end - start) (drop start (now (source .entry)))) ⌝ }
 {
-    let plain = kind as u16;
-    if plain != IDENT {
-        return plain;
+    if kind != IDENT {
+        return kind;
     }
-    plain + 256 * number_of(first, last, source, start, end)
+    kind + MARK * number_of(first, last, source, start, end)
 }
 
 // The lexer's tokens, each marked as it is written; both slices have the same length.
@@ -111,7 +108,7 @@ pub fn mark_source(source: &[u8], kinds: &mut [u16], ends: &mut [u32]) -> Read
 fn plain(kind: u16) -> u16
     ensures { λ r. ⌜ r ≡ kindOf kind ⌝ }
 {
-    if kind < 256 { kind } else { IDENT }
+    if kind < MARK { kind } else { IDENT }
 }
 
 // Takes the marks off.

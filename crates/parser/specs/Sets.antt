@@ -7,8 +7,8 @@ use native.Mathlib.Omega.{arith}
 use native.Mathlib.Nat.{add-zero, zero-add, add-suc, suc-add, le-of-suc-le-suc, not-suc-le-zero}
 use borrow.Author.Tests.{ltb-true, ltb-false, lt-ltb, le-ltb, leb-true, eq-eqb, ne-eqb, eqb-true, eqb-false}
 use lib.Dec.{T, eqb, leb, ltb, ltb→lt}
-use Rattle.lexer.specs.Syntax.{Whitespace}
-use Rattle.grammar.specs.Words.{key}
+use Rattle.lexer.specs.Syntax.{Whitespace, Ident}
+use Rattle.grammar.specs.Words.{MARK, key}
 use Rattle.grammar.specs.Look.{oneOf}
 use Rattle.grammar.specs.Out.{kind}
 
@@ -16,7 +16,7 @@ unfoldable pub bit : ℕ → ℕ → Bool
 bit mask k = cond (ltb k 64) (eqb ((mask / 2 ^ k) % 2) 1) false
 
 unfoldable pub word-bit : ℕ → ℕ → Bool
-word-bit mask k = eqb (k % 256) 31 && bit mask (k / 256)
+word-bit mask k = eqb (k % MARK) Ident && bit mask (k / MARK)
 
 -- f and g agree at i, i + 1, ..: n numbers
 abbrev agree : (f g : ℕ → Bool) → ℕ → ℕ → Bool
@@ -81,27 +81,27 @@ abbrev pub keys : List ℕ → List ℕ
 keys [] = []
 keys (w ∷ ws) = key w ∷ keys ws
 
-key-is : (w k : ℕ) → eqb (key w) k ≡ (eqb (k % 256) 31 && eqb w (k / 256))
-key-is w k = by-test (eqb (k % 256) 31) (eqb w (k / 256)) refl refl
+key-is : (w k : ℕ) → eqb (key w) k ≡ (eqb (k % MARK) Ident && eqb w (k / MARK))
+key-is w k = by-test (eqb (k % MARK) Ident) (eqb w (k / MARK)) refl refl
   where
-    by-test : (u v : Bool) → eqb (k % 256) 31 ≡ u → eqb w (k / 256) ≡ v → eqb (key w) k ≡ (u && v)
-    by-test true true e f = eq-eqb (key w) k (omega (arith, eqb-true (k % 256) 31 e, eqb-true w (k / 256) f))
-    by-test true false e f = ne-eqb (key w) k (λ q. eqb-false w (k / 256) f (omega arith))
-    by-test false v e f = ne-eqb (key w) k (λ q. eqb-false (k % 256) 31 e (omega arith))
+    by-test : (u v : Bool) → eqb (k % MARK) Ident ≡ u → eqb w (k / MARK) ≡ v → eqb (key w) k ≡ (u && v)
+    by-test true true e f = eq-eqb (key w) k (omega (arith, eqb-true (k % MARK) Ident e, eqb-true w (k / MARK) f))
+    by-test true false e f = ne-eqb (key w) k (λ q. eqb-false w (k / MARK) f (omega arith))
+    by-test false v e f = ne-eqb (key w) k (λ q. eqb-false (k % MARK) Ident e (omega arith))
 
-keys-are : (ws : List ℕ) (k : ℕ) → oneOf (keys ws) k ≡ (eqb (k % 256) 31 && oneOf ws (k / 256))
+keys-are : (ws : List ℕ) (k : ℕ) → oneOf (keys ws) k ≡ (eqb (k % MARK) Ident && oneOf ws (k / MARK))
 unfolding oneOf
-keys-are ws k = by-test (eqb (k % 256) 31) refl ws
+keys-are ws k = by-test (eqb (k % MARK) Ident) refl ws
   where
-    by-test : (u : Bool) → eqb (k % 256) 31 ≡ u → (ws : List ℕ) → oneOf (keys ws) k ≡ (u && oneOf ws (k / 256))
+    by-test : (u : Bool) → eqb (k % MARK) Ident ≡ u → (ws : List ℕ) → oneOf (keys ws) k ≡ (u && oneOf ws (k / MARK))
     by-test true e [] = refl
     by-test false e [] = refl
-    by-test true e (w ∷ ws) = ap₂ _||_ (key-is w k ∙ ap (λ t. t && eqb w (k / 256)) e) (by-test true e ws)
-    by-test false e (w ∷ ws) = ap₂ _||_ (key-is w k ∙ ap (λ t. t && eqb w (k / 256)) e) (by-test false e ws)
+    by-test true e (w ∷ ws) = ap₂ _||_ (key-is w k ∙ ap (λ t. t && eqb w (k / MARK)) e) (by-test true e ws)
+    by-test false e (w ∷ ws) = ap₂ _||_ (key-is w k ∙ ap (λ t. t && eqb w (k / MARK)) e) (by-test false e ws)
 
 pub word-bits-are : (mask : ℕ) (ws : List ℕ) (k : ℕ) → T (agree (low mask) (oneOf ws) 0 64) → T (small ws) → word-bit mask k ≡ oneOf (keys ws) k
 unfolding word-bit
-word-bits-are mask ws k t s = ap (λ u. eqb (k % 256) 31 && u) (bits-are mask ws (k / 256) t s) ∙ sym (keys-are ws k)
+word-bits-are mask ws k t s = ap (λ u. eqb (k % MARK) Ident && u) (bits-are mask ws (k / MARK) t s) ∙ sym (keys-are ws k)
 
 -- ---- trivia of the kinds from Whitespace up to `last`
 unfoldable pub trivia-to : ℕ → ℕ → Bool
@@ -132,7 +132,7 @@ trivia-is last ks k t s = by-test (ltb k 64) refl
     by-test false e = none (ltb-false k 64 e) (trivia-to last k) refl ∙ sym (none-above ks k (b .1) (ltb-false k 64 e))
 
 -- each is the event of the token that it is, and none is Error
-pub trivia-own : (last k : ℕ) → last < 256 → trivia-to last k ≡ true → (k ≡ kind k) × (k ≡ 1 → ⊥)
+pub trivia-own : (last k : ℕ) → last < MARK → trivia-to last k ≡ true → (k ≡ kind k) × (k ≡ 1 → ⊥)
 trivia-own last k h e =
     let f = trivia-from last k e in
-    (rw (lt-ltb k 256 (omega arith), le-ltb k 27 (f .0)), λ z. omega arith)
+    (rw (lt-ltb k MARK (omega arith), le-ltb k 27 (f .0)), λ z. omega arith)

@@ -13,15 +13,15 @@ use crate::kinds::is_regular_trivia;
 use crate::kinds::is_trivia_to;
 use crate::look::at_kind;
 use crate::look::current;
-use grammar::kind::CLOSE;
-use grammar::kind::ERROR;
+use grammar::event::CLOSE;
 use grammar::message::Message;
+use lexer::syntax::ERROR;
 ghost use mathlib.Core.Path.{_≡_};
 ghost use mathlib.Core.Bool.{true, false};
 ghost use Prim.Native.Nat.{_<_};
 ghost use lib.ListN.{drop};
 ghost use Rattle.lexer.specs.Syntax.{Whitespace};
-ghost use Rattle.grammar.specs.Words.{is};
+ghost use Rattle.grammar.specs.Words.{MARK, is};
 ghost use Rattle.grammar.specs.Look.{at, regular-trivia, non-comment-trivia};
 ghost use Rattle.grammar.specs.Run.{if_then_else_, take-token};
 ghost use Rattle.grammar.specs.Bump.{nop, bump-while, expect-kind, expect-name, error-token};
@@ -30,7 +30,7 @@ ghost use Rattle.parser.specs.Rep.{entry, exit, Ran, RanTo, TookAll};
 
 // while the token is trivia up to `last` { bump }. Each such kind is its own event, and `current` past the last token, 0, is none.
 fn bump_while(kinds: &[u16], ev: &mut [u16], c0: Cursor, last: u16) -> Cursor
-    requires { ⌜ last < 256 ⌝ }
+    requires { ⌜ last < MARK ⌝ }
     ensures { λ r. ⌜ TookAll (now (kinds .entry)) (bump-while (trivia-to last)) (now (ev .entry)) c0 (now (ev .exit)) r ⌝ }
 {
     let mut c = c0;

@@ -1,10 +1,11 @@
 // The cursor goes by value; events and diagnostics are written while there is room, and counted on.
-use grammar::kind::ERROR;
-use grammar::kind::ERROR_TOKEN;
-use grammar::kind::IDENT;
-use grammar::kind::WHITESPACE;
+use grammar::event::ERROR_TOKEN;
 use grammar::message::Message;
 use grammar::message::number;
+use grammar::words::MARK;
+use lexer::syntax::ERROR;
+use lexer::syntax::IDENT;
+use lexer::syntax::WHITESPACE;
 use room::set_u16;
 use room::set_u32;
 ghost use mathlib.Core.Path.{_≡_};
@@ -74,7 +75,7 @@ pub fn error_here(dm: &mut [u16], ds: &mut [u32], c: Cursor, m: Message) -> Curs
 fn event_of(k: u16) -> u16
     ensures { λ r. ⌜ r ≡ kind k ⌝ }
 {
-    if 256 <= k {
+    if MARK <= k {
         return IDENT;
     }
     if k < WHITESPACE {

@@ -1,6 +1,10 @@
-// Classes of tokens. A token is its kind, and for an Ident that is one of the words 256 times the word's number more.
-use grammar::kind::IDENT;
-use grammar::kind::WHITESPACE;
+// Classes of tokens, by their kinds and words.
+use grammar::words::MARK;
+use lexer::syntax::COMMENT;
+use lexer::syntax::DOC_COMMENT;
+use lexer::syntax::IDENT;
+use lexer::syntax::NEWLINE;
+use lexer::syntax::WHITESPACE;
 ghost use mathlib.Core.Path.{_≡_};
 ghost use Rattle.grammar.specs.Look.{regular-trivia, is-trivia, non-comment-trivia, name-like, is-reserved-block-keyword};
 ghost use Rattle.grammar.specs.Look.{expects-continuation-operand as expectsOperand, punctuation-continues-instruction as continues};
@@ -8,46 +12,14 @@ ghost use Rattle.grammar.specs.Look.{starts-instruction as startsInstruction};
 ghost use Rattle.parser.specs.Sets.{bit, word-bit, trivia-to};
 ghost use Rattle.parser.specs.Ahead.{starter};
 
-pub const ADV_MAP: u16 = 287;
+// The last kind of each set of trivia; the first is Whitespace.
+pub const REGULAR_TRIVIA: u16 = COMMENT;
 
-pub const BEGIN: u16 = 543;
+pub const TRIVIA: u16 = DOC_COMMENT;
 
-pub const CONST: u16 = 799;
+pub const NON_COMMENT_TRIVIA: u16 = NEWLINE;
 
-pub const DO: u16 = 1055;
-
-pub const ELSE: u16 = 1311;
-
-pub const END: u16 = 1567;
-
-pub const ENUM: u16 = 1823;
-
-pub const IF: u16 = 2079;
-
-pub const MOD: u16 = 2335;
-
-pub const NAMESPACE: u16 = 2591;
-
-pub const PACKAGE: u16 = 2847;
-
-pub const PROC: u16 = 3103;
-
-pub const PUB: u16 = 3359;
-
-pub const REPEAT: u16 = 3615;
-
-pub const TYPE: u16 = 3871;
-
-pub const WHILE: u16 = 4127;
-
-// The last kind of each set of trivia: Comment, DocComment, Newline, Whitespace. The first is Whitespace.
-pub const REGULAR_TRIVIA: u16 = 29;
-
-pub const TRIVIA: u16 = 30;
-
-pub const NON_COMMENT_TRIVIA: u16 = 28;
-
-pub const SPACE: u16 = 27;
+pub const SPACE: u16 = WHITESPACE;
 
 // Sets of kinds, and of words, as the bits of a number.
 pub const OPERAND: u64 = 0xe17dfc000000000;
@@ -121,14 +93,14 @@ pub fn punctuation_continues_instruction(k: u16) -> bool
 pub fn is_name_like(k: u16) -> bool
     ensures { λ r. ⌜ r ≡ name-like k ⌝ }
 {
-    256 <= k || in_set(NAME, k)
+    MARK <= k || in_set(NAME, k)
 }
 
 // Whether a token is an Ident whose word's bit is set.
 pub fn in_words(mask: u64, k: u16) -> bool
     ensures { λ r. ⌜ r ≡ word-bit mask k ⌝ }
 {
-    k % 256 == IDENT && in_set(mask, k / 256)
+    k % MARK == IDENT && in_set(mask, k / MARK)
 }
 
 // All words but `package`

@@ -1,20 +1,20 @@
 // Lookahead. A place in the file is a token's index; what the definitions call the list that is left starts there.
 use crate::kinds::DECLARED;
-use crate::kinds::ELSE;
-use crate::kinds::END;
 use crate::kinds::NON_COMMENT_TRIVIA;
-use crate::kinds::PUB;
 use crate::kinds::REGULAR_TRIVIA;
 use crate::kinds::SPACE;
 use crate::kinds::TRIVIA;
-use crate::kinds::WHILE;
 use crate::kinds::in_words;
 use crate::kinds::is_trivia_to;
 use crate::kinds::starts_item;
 use grammar::block::Terminators;
-use grammar::kind::DOT;
-use grammar::kind::L_PAREN;
-use grammar::kind::R_PAREN;
+use grammar::words::ELSE;
+use grammar::words::END;
+use grammar::words::PUB;
+use grammar::words::WHILE;
+use lexer::syntax::DOT;
+use lexer::syntax::L_PAREN;
+use lexer::syntax::R_PAREN;
 ghost use mathlib.Core.Path.{_≡_};
 ghost use mathlib.Core.Bool.{true};
 ghost use lib.ListN.{drop};

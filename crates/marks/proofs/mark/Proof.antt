@@ -7,6 +7,7 @@ use native.Mathlib.Omega.{arith}
 use borrow.Author.Needs.{needs}
 use borrow.Author.Tests.{eq-eqb, ne-eqb}
 use Rattle.lexer.specs.Syntax.{Ident}
+use Rattle.grammar.specs.Words.{MARK}
 use Rattle.marks.specs.Code.{text-number, number-of, few-numbers, marked}
 use Rattle.marks.proofs.mark.Statement.{statement}
 use Rattle.marks.proofs.mark.Tie as tie
@@ -16,9 +17,9 @@ module _ (kind : ℕ) (text : List ℕ) where
   unfolding number-of
   other n = rw (ne-eqb Ident kind (λ e. n (sym e))) (omega arith)
 
-  ident : {n : ℕ} → kind ≡ Ident → n ≡ text-number text → kind + 256 * n ≡ marked kind text
+  ident : {n : ℕ} → kind ≡ Ident → n ≡ text-number text → kind + MARK * n ≡ marked kind text
   unfolding number-of
-  ident e f = ap (λ (i : ℕ). kind + 256 * i) f ∙ sym (ap (λ (u : Bool). kind + 256 * cond u (text-number text) 0) (eq-eqb Ident kind (sym e)))
+  ident e f = ap (λ (i : ℕ). kind + MARK * i) f ∙ sym (ap (λ (u : Bool). kind + MARK * cond u (text-number text) 0) (eq-eqb Ident kind (sym e)))
 
 few : (c : tie.After-number-of) → c .number-of .result ≤ 18
 few c = rw (c .number-of .ensures) (few-numbers _)

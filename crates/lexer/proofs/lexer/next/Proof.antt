@@ -168,6 +168,7 @@ next-spec =
     pair-requires-3
     pair-requires-4
     stray-requires
+    (λ c. search needs)
     returns
     returns-2
     returns-3

@@ -21,10 +21,10 @@ abbrev after-put-token : tie.After-slice-known4 Inv-loop μ-loop → tie.After-p
 after-put-token c = c .before .before .before .before
 
 abbrev after-next : tie.After-put-token Inv-loop μ-loop → tie.After-next Inv-loop μ-loop
-after-next c = c .before .before .before .before
+after-next c = c .before .before .before
 
-abbrev after-next-from-struct-known : tie.After-struct-known Inv-loop μ-loop → tie.After-next Inv-loop μ-loop
-after-next-from-struct-known c = c .before .before .before
+abbrev after-next-from-put-token-arg2 : tie.After-put-token-arg2 Inv-loop μ-loop → tie.After-next Inv-loop μ-loop
+after-next-from-put-token-arg2 c = c .before .before
 
 abbrev start : tie.After-classes Inv-loop μ-loop → tie.Start Inv-loop μ-loop
 start c = c .before .before .before .before
@@ -39,16 +39,13 @@ next-requires : tie.Need-next-requires Inv-loop μ-loop
 next-requires c κs = search needs
 
 cast-put-token : tie.Need-cast-put-token Inv-loop μ-loop
-cast-put-token c = search needs
-
-cast-put-token-2 : tie.Need-cast-put-token-2 Inv-loop μ-loop
-cast-put-token-2 c =
-    let t = after-next-from-struct-known c .next in
-    let g = after-next-from-struct-known c .before .before .before .loop .inv in
-    omega (arith, g .size, ends-within g (after-next-from-struct-known c .before .before .loop-test .taken) (t .result) (t .ensures) .1)
+cast-put-token c =
+    let t = after-next-from-put-token-arg2 c .next in
+    let g = after-next-from-put-token-arg2 c .before .before .before .loop .inv in
+    omega (arith, g .size, ends-within g (after-next-from-put-token-arg2 c .before .before .loop-test .taken) (t .result) (t .ensures) .1)
 
 put-token-requires : tie.Need-put-token-requires Inv-loop μ-loop
-put-token-requires c κs = let g = after-next-from-struct-known c .before .before .before .loop .inv in g .kinds-len ∙ g .same-room ∙ sym (g .ends-len)
+put-token-requires c κs = let g = after-next-from-put-token-arg2 c .before .before .before .loop .inv in g .kinds-len ∙ g .same-room ∙ sym (g .ends-len)
 
 add-n : tie.Need-add-n Inv-loop μ-loop
 add-n c = search needs
@@ -84,7 +81,6 @@ tokens-spec =
     loop-holds
     next-requires
     cast-put-token
-    cast-put-token-2
     put-token-requires
     add-n
     loop-less

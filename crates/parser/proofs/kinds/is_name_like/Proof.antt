@@ -1,4 +1,4 @@
--- `parser::kinds::is_name_like` meets its contract: from 256 on the kind is Ident. Assumes nothing.
+-- `parser::kinds::is_name_like` meets its contract: from MARK on the kind is Ident. Assumes nothing.
 use Prim.Native.Nat.{ℕ, _≤_, _<_}
 use mathlib.Core.Path.{_≡_, _∙_}
 use mathlib.Core.List.{[], _∷_}
@@ -6,18 +6,19 @@ use borrow.Author.Needs.{needs}
 use borrow.Author.Tests.{lt-ltb, le-ltb, le-leb}
 use lib.Dec.{leb}
 use Rattle.lexer.specs.Syntax.{Ident, SpecialIdent, QuotedIdent}
+use Rattle.grammar.specs.Words.{MARK}
 use Rattle.grammar.specs.Look.{oneOf, name-like}
 use Rattle.parser.specs.Sets.{bits-are}
 use Rattle.parser.proofs.kinds.is_name_like.Statement.{statement}
 use Rattle.parser.proofs.kinds.is_name_like.Tie as tie
 
-word : (k : ℕ) → 256 ≤ k → leb 256 k ≡ name-like k
+word : (k : ℕ) → MARK ≤ k → leb MARK k ≡ name-like k
 unfolding name-like
-word k h = rw (le-leb 256 k h, le-ltb k 256 h)
+word k h = rw (le-leb MARK k h, le-ltb k MARK h)
 
-plain : (k : ℕ) → k < 256 → oneOf (Ident ∷ SpecialIdent ∷ QuotedIdent ∷ []) k ≡ name-like k
+plain : (k : ℕ) → k < MARK → oneOf (Ident ∷ SpecialIdent ∷ QuotedIdent ∷ []) k ≡ name-like k
 unfolding name-like oneOf
-plain k h = rw (lt-ltb k 256 h)
+plain k h = rw (lt-ltb k MARK h)
 
 in-set-requires : tie.Need-in-set-requires
 in-set-requires c κs = search needs
