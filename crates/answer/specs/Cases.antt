@@ -43,7 +43,7 @@ loan-slices l =
 -- The call on a source with these lent. To unfold `made` is to unfold what its line names: all that computes.
 unfoldable pub made : List ℕ → Loan → Reply
 unfolding again call parse-text from-row-2 from-row-3 from-row-4 from-row-5
-    Marks.first-refused Marks.is-refused Validate.validate-from Table.lengthIn Table.table Table.agree
+    Marks.first-refused Marks.is-refused Validate.validate-from Table.lengthIn Table.table-3-7 Table.agree
 made source l = call source (loan-slices l) (zeros (l .words))
 
 pub called : (source : List ℕ) (l : Loan)

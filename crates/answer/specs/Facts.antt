@@ -71,7 +71,7 @@ of-reading : (source : List ℕ) (counts : List ℕ) → token-count counts ≡ 
     → Facts source (reading-slices source) counts
 of-reading source counts t e d =
     record {
-      tokens = length-map (tokenize source) Tokens.kindOf ∙ sym t;
+      tokens = length-map (tokenize source) Tokens.token-kind ∙ sym t;
       ends = length-ends 0 (tokenize source) ∙ sym t;
       events = sym e;
       messages = length-map (places-of source) _ ∙ sym d;

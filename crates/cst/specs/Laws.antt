@@ -75,7 +75,7 @@ module _ (source kinds ends : List ℕ) (kinds-fit : length kinds ≡ length (to
   token-room = min (length kinds) (length ends)
 
   pub kinds-all : fit token-room (token-kinds source) kinds ≡ token-kinds source
-  kinds-all = fit-all token-room (token-kinds source) kinds (length-map (tokenize source) Tokens.kindOf ∙ sym kinds-fit) (omega (arith, ends-fit))
+  kinds-all = fit-all token-room (token-kinds source) kinds (length-map (tokenize source) Tokens.token-kind ∙ sym kinds-fit) (omega (arith, ends-fit))
 
   pub ends-all : fit token-room (token-ends source) ends ≡ ends
   ends-all =

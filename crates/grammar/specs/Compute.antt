@@ -42,7 +42,7 @@ read s k e v d = record { source = bytes s; kinds = k; ends = e; events = v; dia
 -- The reading's source, read at the reader's limit. To unfold `again` is to unfold what its line names: all that computes.
 unfoldable pub again : Reading → Reading
 unfolding encode bytes Last.last-from Width.width Chars.class Chars.punctuation Lexer.tokenize
-    Lexer.tokens Lexer.next Lexer.arm Lexer.stray Lexer.quoted Lexer.special Lexer.run Lexer.same Lexer.advance-while Lexer.follow
+    Lexer.tokens Lexer.next Lexer.arm Lexer.stray Lexer.quoted Lexer.special Lexer.lex-while Lexer.same Lexer.advance-while Lexer.follow
     Tokens.ends Out.events Out.diags Words.symOf Words.wordOf Words.numberIn Words.words Item.parse Item.items-in Item.items
     Item.parse-source-item Item.at-procedure Item.at-declaration Item.parse-advice-map Item.parse-type-decl Item.type-name-and-body
     Item.parse-constant Item.parse-begin-block Item.parse-procedure Item.procedure-body Item.attribute-round Item.parse-submodule

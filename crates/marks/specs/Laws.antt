@@ -54,7 +54,7 @@ kind-of-mark t h = ap kindOf (mark-is t) ∙ kind-again (t .kind) (text-number (
 
 -- taking the marks off gives the plain kinds, where f says what is written for a token
 plain-again : (f : Token → ℕ) → ((t : Token) → t .kind < 60 → kindOf (f t) ≡ t .kind) → (ts : List Token) → Every (λ t. t .kind < 60) ts
-    → map kindOf (map f ts) ≡ map Tokens.kindOf ts
+    → map kindOf (map f ts) ≡ map Tokens.token-kind ts
 plain-again f e [] h = refl
 plain-again f e (t ∷ ts) h = rw (e t (h .0), plain-again f e ts (h .1))
 
