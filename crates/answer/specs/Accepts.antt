@@ -1,7 +1,7 @@
 -- When the call returns 0, and what it then gives.
 -- Assumes nothing.
-use Prim.Native.Nat.{ℕ, _≤_}
-use mathlib.Core.Path.{_≡_, refl, sym, ap, _∙_}
+use Prim.Native.Nat.{ℕ, _≤_, min}
+use mathlib.Core.Path.{_≡_, refl, sym, ap, ap₂, _∙_}
 use mathlib.Core.Bool.{Bool, true, false, cond, _||_}
 use mathlib.Core.List.{List, _∷_, map}
 use native.Mathlib.Omega.{arith}
@@ -12,7 +12,7 @@ use Rattle.utf8.specs.declared.Utf8.{Utf8}
 use Rattle.utf8.specs.declared.Utf8.the-variants.{Valid, At}
 use Rattle.utf8.specs.Validate.{validate}
 use Rattle.lexer.specs.Lexer.{tokenize}
-use Rattle.room.specs.Over.{fit-first}
+use Rattle.room.specs.Over.{fit-first, length-fit}
 use Rattle.lexer.specs.Tokens.{MAX-SOURCE, token-kind, token-kinds, token-ends}
 use Rattle.lexer.specs.Laws.{length-ends}
 use Rattle.marks.specs.declared.Refusal.{Refusal}
@@ -21,7 +21,7 @@ use Rattle.marks.specs.Marks.{first-refused}
 use Rattle.answer.specs.declared.Answer.{Answer}
 use Rattle.answer.specs.declared.Answer.the-variants.{OutputRoom}
 use Rattle.answer.specs.declared.Answer.the-variants as answer
-use Rattle.answer.specs.Answer.{Slices, token-room, diagnostic-room, events-of, places-of, with-all}
+use Rattle.answer.specs.Answer.{Slices, token-room, diagnostic-room, events-of, places-of, with-tokens, with-output}
 use Rattle.answer.specs.Answer.{from-row-5, from-row-4, from-row-3, from-row-2, parse-text}
 use Rattle.answer.specs.Numbers.{numbers}
 use Rattle.answer.specs.Call.{Reply, reply, call, MasmParseText}
@@ -56,25 +56,31 @@ module _ (source : List ℕ) (s : Slices) where
   fitted false true h = absurd (omega arith)
   fitted false false h = (refl, refl)
 
-  not-refused : (q : Refusal) → status-of (from-row-4 q source s .answer) ≡ 0 → (q ≡ refusal.Nothing) × (status-of (from-row-5 source s .answer) ≡ 0)
+  -- the tokens that fit leave the room as it is
+  same-room : token-room (with-tokens source s) ≡ token-room s
+  same-room =
+      ap₂ min (length-fit (token-room s) (token-kinds source) (s .kinds) (omega arith)) (length-fit (token-room s) (token-ends source) (s .ends) (omega arith))
+
+  not-refused : (q : Refusal) → status-of (from-row-4 q source (with-tokens source s) .answer) ≡ 0
+      → (q ≡ refusal.Nothing) × (status-of (from-row-5 source (with-tokens source s) .answer) ≡ 0)
   unfolding from-row-4
   not-refused refusal.Nothing h = (refl, h)
   not-refused (refusal.At n) h = absurd (omega arith)
 
-  is-valid : (q : Utf8) → status-of (from-row-2 q source s .answer) ≡ 0 → (q ≡ Valid) × (status-of (from-row-3 source s .answer) ≡ 0)
+  is-valid : (q : Utf8) → status-of (from-row-2 q source s .answer) ≡ 0 → (q ≡ Valid) × (status-of (from-row-3 source (with-tokens source s) .answer) ≡ 0)
   unfolding from-row-2
   is-valid Valid h = (refl, h)
   is-valid (At n) h = absurd (omega arith)
 
-  by-tokens : status-of (from-row-3 source s .answer) ≡ 0
-      → (t ≤ token-room s) × (status-of (from-row-4 (first-refused 0 (tokenize source)) source s .answer) ≡ 0)
+  by-tokens : status-of (from-row-3 source (with-tokens source s) .answer) ≡ 0
+      → (t ≤ token-room s) × (status-of (from-row-4 (first-refused 0 (tokenize source)) source (with-tokens source s) .answer) ≡ 0)
   unfolding from-row-3
-  by-tokens = by-test (ltb (token-room s) t) refl
+  by-tokens = by-test (ltb (token-room (with-tokens source s)) t) refl
     where
-      by-test : (u : Bool) → ltb (token-room s) t ≡ u → status-of (from-row-3 source s .answer) ≡ 0
-          → (t ≤ token-room s) × (status-of (from-row-4 (first-refused 0 (tokenize source)) source s .answer) ≡ 0)
+      by-test : (u : Bool) → ltb (token-room (with-tokens source s)) t ≡ u → status-of (from-row-3 source (with-tokens source s) .answer) ≡ 0
+          → (t ≤ token-room s) × (status-of (from-row-4 (first-refused 0 (tokenize source)) source (with-tokens source s) .answer) ≡ 0)
       by-test true k h = absurd (omega (arith, rw k at h))
-      by-test false k h = (ltb-false (token-room s) t k, rw k at h)
+      by-test false k h = (omega (arith, ltb-false (token-room (with-tokens source s)) t k, same-room), rw k at h)
 
   by-length : status-of (parse-text source s .answer) ≡ 0
       → (length source ≤ MAX-SOURCE) × (status-of (from-row-2 (validate source) source s .answer) ≡ 0)
@@ -114,14 +120,14 @@ module _ (source : List ℕ) (s : Slices) where
         places = ltb-false (diagnostic-room s) d (f .1);
       }
 
-  pub reply-of-last-row : (counts : List ℕ) → LastRow source s counts → call source s counts ≡ reply 0 (with-all source s) (t ∷ e ∷ d ∷ drop 3 counts)
+  pub reply-of-last-row : (counts : List ℕ) → LastRow source s counts → call source s counts ≡ reply 0 (with-output source (with-tokens source s)) (t ∷ e ∷ d ∷ drop 3 counts)
   unfolding call parse-text from-row-2 from-row-3 from-row-4 from-row-5
   reply-of-last-row counts a =
       rw (
         le-ltb (length counts) 3 (a .words),
         le-ltb MAX-SOURCE (length source) (a .small),
         a .utf8,
-        le-ltb (token-room s) t (a .tokens),
+        le-ltb (token-room (with-tokens source s)) t (omega (arith, a .tokens, same-room)),
         a .no-refusal,
         le-ltb (length (s .events)) e (a .events),
         le-ltb (diagnostic-room s) d (a .places),
@@ -147,7 +153,7 @@ pub record GivesReading (source : List ℕ) (s : Slices) (counts : List ℕ) : T
   pub given-is : given s counts ≡ reading-slices source
 
 module _ (source : List ℕ) (s : Slices) (counts : List ℕ) (a : LastRow source s counts) where
-  all-given : given (with-all source s) (t source s ∷ e source s ∷ d source s ∷ drop 3 counts) ≡ reading-slices source
+  all-given : given (with-output source (with-tokens source s)) (t source s ∷ e source s ∷ d source s ∷ drop 3 counts) ≡ reading-slices source
   all-given =
       let ps = places-of source in
       rw (

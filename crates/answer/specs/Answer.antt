@@ -76,11 +76,11 @@ with-tokens source s = record {
   stops = s .stops;
 }
 
--- and the events and diagnostics that fit
-abbrev pub with-all : List ℕ → Slices → Slices
-with-all source s = record {
-  kinds = with-tokens source s .kinds;
-  ends = with-tokens source s .ends;
+-- the events and diagnostics that fit
+abbrev pub with-output : List ℕ → Slices → Slices
+with-output source s = record {
+  kinds = s .kinds;
+  ends = s .ends;
   events = fit (length (s .events)) (events-of source) (s .events);
   messages = fit (diagnostic-room s) (map (λ p. p .msg) (places-of source)) (s .messages);
   starts = fit (diagnostic-room s) (map (λ p. p .start) (places-of source)) (s .starts);
@@ -103,23 +103,23 @@ short source s = ltb (length (s .events)) (length (events-of source)) || ltb (di
 unfoldable pub from-row-5 : List ℕ → Slices → Outcome
 from-row-5 source s =
     outcome (cond (short source s) OutputRoom Accepted (length (tokenize source)) (length (events-of source)) (length (places-of source)))
-    (with-all source s)
+    (with-output source s)
 
 -- Row 4: an Ident `use` or `extern`, the first of them at n.
 unfoldable pub from-row-4 : Refusal → List ℕ → Slices → Outcome
 from-row-4 refusal.Nothing source s = from-row-5 source s
-from-row-4 (refusal.At n) source s = outcome (Refused n) (with-tokens source s)
+from-row-4 (refusal.At n) source s = outcome (Refused n) s
 
 -- Row 3: no room for the tokens.
 unfoldable pub from-row-3 : List ℕ → Slices → Outcome
 from-row-3 source s =
     cond (ltb (token-room s) (length (tokenize source)))
-    (outcome (TokenRoom (length (tokenize source))) (with-tokens source s))
+    (outcome (TokenRoom (length (tokenize source))) s)
     (from-row-4 (first-refused 0 (tokenize source)) source s)
 
--- Row 2: not UTF-8, the longest valid start ends at n.
+-- Row 2: not UTF-8, the longest valid start ends at n. Behind it the tokens that fit are in the slices, whatever is answered.
 unfoldable pub from-row-2 : Utf8 → List ℕ → Slices → Outcome
-from-row-2 Valid source s = from-row-3 source s
+from-row-2 Valid source s = from-row-3 source (with-tokens source s)
 from-row-2 (At n) source s = outcome (NotUtf8 n) s
 
 -- Row 1, too long, and so the whole: the reading of any bytes into any slices.

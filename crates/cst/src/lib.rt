@@ -2,19 +2,20 @@
 use answer::Answer;
 use answer::numbers;
 use lexer::MAX_SOURCE;
+use room::least;
 use utf8::Utf8;
 ghost use mathlib.Core.Path.{_≡_};
 ghost use Prim.Native.Nat.{_≤_};
 ghost use lib.ListN.{length};
 ghost use Rattle.utf8.specs.WellFormed.{WellFormed};
 ghost use Rattle.lexer.specs.Tokens.{MAX-SOURCE};
-ghost use Rattle.answer.specs.Answer.{entry-slices, exit-slices, outcome, from-row-3, parse-text};
+ghost use Rattle.answer.specs.Answer.{entry-slices, exit-slices, outcome, with-tokens, from-row-3, parse-text};
 ghost use Rattle.answer.specs.Call.{MasmParseText};
 
 mod rows;
 
-// From the lexer on: row 3. The marks in the kinds are taken off wherever the reading ends.
-fn parse_from_row_3(
+// A text that is not too long: its tokens with their marks, the rows from 3 on, and the marks taken off.
+fn parse_utf8(
     source: &[u8],
     kinds: &mut [u16],
     ends: &mut [u32],
@@ -25,26 +26,26 @@ fn parse_from_row_3(
 ) -> Answer
     requires { ⌜ (length (now source) ≤ MAX-SOURCE) × WellFormed (now source) ⌝ }
     ensures { λ r. ⌜ outcome r (exit-slices kinds ends events messages starts stops)
-        ≡ from-row-3 (now (source .entry)) (entry-slices kinds ends events messages starts stops) ⌝ }
+        ≡ from-row-3 (now (source .entry))
+        (with-tokens (now (source .entry)) (entry-slices kinds ends events messages starts stops)) ⌝ }
 {
     let read = marks::mark_source(source, kinds, ends);
     let t = read.count;
     let refusal = read.refusal;
-    let room = room::least(kinds.len(), ends.len());
-    if room < t {
-        marks::unmark(&mut kinds[..room]);
-        return Answer::TokenRoom(t);
-    }
-    rows::parse_from_row_4(
+    let answer = rows::parse_from_row_3(
         source,
+        t,
         refusal,
-        &mut kinds[..t],
-        &ends[..t],
+        kinds,
+        ends,
         events,
         messages,
         starts,
         stops,
-    )
+    );
+    let n = least(least(kinds.len(), ends.len()), t);
+    marks::unmark(&mut kinds[..n]);
+    answer
 }
 
 // The whole reading, of any bytes into any slices.
@@ -66,7 +67,7 @@ pub fn parse_text(
     let found = utf8::validate(source);
     match found {
         Utf8::At(n) => Answer::NotUtf8(n),
-        Utf8::Valid => parse_from_row_3(source, kinds, ends, events, messages, starts, stops),
+        Utf8::Valid => parse_utf8(source, kinds, ends, events, messages, starts, stops),
     }
 }
 

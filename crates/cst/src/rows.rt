@@ -1,22 +1,20 @@
-// From the tokens to events and diagnostics: document 01's table from row 4 on.
+// From the marked tokens to events and diagnostics: document 01's table from row 3 on.
 use answer::Answer;
 use marks::Refusal;
 use room::least;
 ghost use mathlib.Core.Path.{_≡_};
 ghost use Prim.Native.Nat.{_≤_};
 ghost use mathlib.Core.Bool.{cond, _||_};
-ghost use mathlib.Core.List.{map};
 ghost use lib.Dec.{ltb};
-ghost use lib.ListN.{length};
+ghost use lib.ListN.{length, take};
 ghost use Rattle.utf8.specs.WellFormed.{WellFormed};
 ghost use Rattle.lexer.specs.Lexer.{tokenize};
 ghost use Rattle.lexer.specs.Tokens.{MAX-SOURCE, token-ends};
 ghost use Rattle.grammar.specs.Source.{symbols};
 ghost use Rattle.marks.specs.Marks.{first-refused};
-ghost use Rattle.marks.specs.Code.{mark};
 ghost use Rattle.answer.specs.declared.Answer.the-variants.{OutputRoom, Accepted};
-ghost use Rattle.answer.specs.Answer.{entry-slices, exit-slices, outcome};
-ghost use Rattle.answer.specs.Answer.{events-of, places-of, with-all, from-row-4, from-row-5};
+ghost use Rattle.answer.specs.Answer.{entry-slices, exit-slices, outcome, from-row-3, from-row-5};
+ghost use Rattle.cst.specs.Reading.{MarkedTokens, WriteReading};
 
 pub struct Counts {
     pub events: usize,
@@ -36,10 +34,10 @@ fn answer_by_room(event_room: usize, diagnostic_room: usize, t: usize, e: usize,
     Answer::Accepted(t, e, d)
 }
 
-// Events and diagnostics from marked kinds. The marks are taken off, and indices of tokens become places in bytes.
+// Events and diagnostics from marked kinds; then indices of tokens become places in bytes.
 fn write_reading(
     source: &[u8],
-    kinds: &mut [u16],
+    kinds: &[u16],
     ends: &[u32],
     events: &mut [u16],
     messages: &mut [u16],
@@ -48,16 +46,14 @@ fn write_reading(
 ) -> Counts
     requires { ⌜ (length (now source) ≤ MAX-SOURCE) × (WellFormed (now source))
         × (now kinds ≡ symbols (now source)) × (now ends ≡ token-ends (now source))
-        × (length (now messages) ≡ length (now starts)) × (length (now starts) ≡ length (now stops)) ⌝ }
-    ensures { λ r. ⌜ (r .events ≡ length (events-of (now (source .entry))))
-        × (r .diagnostics ≡ length (places-of (now (source .entry))))
-        × (exit-slices kinds ends events messages starts stops
-        ≡ with-all (now (source .entry)) (entry-slices kinds ends events messages starts stops)) ⌝ }
+        × (length (now starts) ≡ length (now stops)) ⌝ }
+    ensures { λ r. ⌜ WriteReading (now (source .entry))
+        (now (events .entry)) (now (messages .entry)) (now (starts .entry)) (now (stops .entry))
+        r (now (events .exit)) (now (messages .exit)) (now (starts .exit)) (now (stops .exit)) ⌝ }
 {
     let c = items::file::parse(kinds, events, messages, starts);
     let e = c.events;
     let d = c.diags;
-    marks::unmark(kinds);
     let anchor = utf8::last_char(source);
     places::places(ends, anchor, d, starts, stops);
     Counts {
@@ -66,10 +62,11 @@ fn write_reading(
     }
 }
 
-// The three diagnostic slices are cut to the shortest, and the answer says whether all had room.
+// The t tokens are read, the three diagnostic slices cut to the shortest, and the answer says whether all had room.
 fn parse_from_row_5(
     source: &[u8],
-    kinds: &mut [u16],
+    t: usize,
+    kinds: &[u16],
     ends: &[u32],
     events: &mut [u16],
     messages: &mut [u16],
@@ -77,16 +74,16 @@ fn parse_from_row_5(
     stops: &mut [u32],
 ) -> Answer
     requires { ⌜ (length (now source) ≤ MAX-SOURCE) × (WellFormed (now source))
-        × (now kinds ≡ symbols (now source)) × (now ends ≡ token-ends (now source)) ⌝ }
+        × (t ≤ length (now kinds)) × (take t (now kinds) ≡ symbols (now source))
+        × (t ≤ length (now ends)) × (take t (now ends) ≡ token-ends (now source)) ⌝ }
     ensures { λ r. ⌜ outcome r (exit-slices kinds ends events messages starts stops)
         ≡ from-row-5 (now (source .entry)) (entry-slices kinds ends events messages starts stops) ⌝ }
 {
-    let t = kinds.len();
     let room = least(least(messages.len(), starts.len()), stops.len());
     let counts = write_reading(
         source,
-        kinds,
-        ends,
+        &kinds[..t],
+        &ends[..t],
         events,
         &mut messages[..room],
         &mut starts[..room],
@@ -97,11 +94,12 @@ fn parse_from_row_5(
     answer_by_room(events.len(), room, t, e, d)
 }
 
-// From all tokens: a refused word, or the rest of the reading.
-pub fn parse_from_row_4(
+// Rows 3 and 4: tokens that have no room, a refused word; else the rest of the reading.
+pub fn parse_from_row_3(
     source: &[u8],
+    t: usize,
     refusal: Refusal,
-    kinds: &mut [u16],
+    kinds: &[u16],
     ends: &[u32],
     events: &mut [u16],
     messages: &mut [u16],
@@ -109,17 +107,17 @@ pub fn parse_from_row_4(
     stops: &mut [u32],
 ) -> Answer
     requires { ⌜ (length (now source) ≤ MAX-SOURCE) × (WellFormed (now source))
-        × (refusal ≡ first-refused 0 (tokenize (now source)))
-        × (now kinds ≡ map mark (tokenize (now source))) × (now ends ≡ token-ends (now source)) ⌝ }
+        × (refusal ≡ first-refused 0 (tokenize (now source))) × (MarkedTokens (now source) t (now kinds) (now ends)) ⌝ }
     ensures { λ r. ⌜ outcome r (exit-slices kinds ends events messages starts stops)
-        ≡ from-row-4 (first-refused 0 (tokenize (now (source .entry)))) (now (source .entry))
-        (entry-slices kinds ends events messages starts stops) ⌝ }
+        ≡ from-row-3 (now (source .entry)) (entry-slices kinds ends events messages starts stops) ⌝ }
 {
+    if least(kinds.len(), ends.len()) < t {
+        return Answer::TokenRoom(t);
+    }
     match refusal {
-        Refusal::At(n) => {
-            marks::unmark(kinds);
-            Answer::Refused(n)
+        Refusal::At(n) => Answer::Refused(n),
+        Refusal::Nothing => {
+            parse_from_row_5(source, t, kinds, ends, events, messages, starts, stops)
         }
-        Refusal::Nothing => parse_from_row_5(source, kinds, ends, events, messages, starts, stops),
     }
 }

@@ -6,8 +6,8 @@ use Prim.Native.Nat.{ℕ, zero, suc, _+_, _≤_}
 use native.Mathlib.Omega.{arith}
 use native.Mathlib.Nat.{add-zero, not-suc-le-zero}
 use native.Mathlib.Numerals.{add-one}
-use lib.ListN.{length, take, drop, set, length-set, take-append-drop}
-use lib.Seq.{take-all, take-at, drop-length}
+use lib.ListN.{length, take, drop, set, length-set, length-append, length-drop, take-append-drop}
+use lib.Seq.{take-all, take-at, drop-length, length-take-le}
 
 abbrev pub over : List ℕ → ℕ → List ℕ → List ℕ
 over l i [] = l
@@ -67,3 +67,8 @@ in-room (x ∷ l) (v ∷ vs) (suc r) h =
 
 pub given-back : (l l′ vs : List ℕ) (room n : ℕ) → l′ ≡ over (take room l) 0 vs → room ≡ n → n ≤ length l → l′ ++ drop room l ≡ fit n vs l
 given-back l l′ vs room n e h k = rw (e, h) (in-room l vs n k)
+
+pub length-fit : (r : ℕ) (vs l : List ℕ) → r ≤ length l → length (fit r vs l) ≡ length l
+length-fit r vs l h =
+    sym (ap length (in-room l vs r h))
+    ∙ omega (arith, length-append (over (take r l) 0 vs) (drop r l), length-over (take r l) 0 vs, length-take-le r l h, length-drop r l)
