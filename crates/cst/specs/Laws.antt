@@ -90,7 +90,7 @@ module _ (source kinds ends : List ℕ) (t : ℕ) (kinds₁ ends₁ : List ℕ) 
       ∙ ap (λ (vs : List ℕ). fit r vs kinds) (marks-unmarked source)
 
 -- ---- The rows from 3 on ask how many kinds there is room for, and leave them as they are.
-abbrev with-kinds : List ℕ → Outcome → Outcome
+abbrev pub with-kinds : List ℕ → Outcome → Outcome
 with-kinds k o = outcome (o .answer) (slices k (o .slices .ends) (o .slices .events) (o .slices .messages) (o .slices .starts) (o .slices .stops))
 
 module _ (source ends ev dm ds de k k′ : List ℕ) where

@@ -9,7 +9,7 @@ use Rattle.utf8.specs.declared.Utf8.the-variants.{Valid, At}
 use Rattle.utf8.specs.Validate.{validate}
 use Rattle.utf8.specs.Laws.{accepted}
 use Rattle.answer.specs.declared.Answer.the-variants.{TooLong, NotUtf8}
-use Rattle.answer.specs.Answer.{Slices, Outcome, outcome, from-row-3, from-row-2, parse-text}
+use Rattle.answer.specs.Answer.{Slices, Outcome, outcome, with-tokens, from-row-3, from-row-2, parse-text}
 use borrow.Author.Needs.{needs}
 use Rattle.cst.proofs.parse_text.Statement.{statement}
 use Rattle.cst.proofs.parse_text.Tie as tie
@@ -24,19 +24,19 @@ module _ (source : List ℕ) (s : Slices) where
     unfolding parse-text from-row-2
     not-utf8 n v = rw (le-ltb MAX-SOURCE (length source) h, v) refl
 
-    goes-on : {o : Outcome} → validate source ≡ Valid → o ≡ from-row-3 source s → o ≡ parse-text source s
+    goes-on : {o : Outcome} → validate source ≡ Valid → o ≡ from-row-3 source (with-tokens source s) → o ≡ parse-text source s
     unfolding parse-text from-row-2
     goes-on v e = e ∙ rw (le-ltb MAX-SOURCE (length source) h, v) refl
 
 -- places
-abbrev after-parse-from-row-3 : tie.After-slice-known12 → tie.After-parse-from-row-3
-after-parse-from-row-3 c = c .before .before .before .before .before .before .before .before .before .before .before .before
+abbrev after-parse-utf8 : tie.After-slice-known12 → tie.After-parse-utf8
+after-parse-utf8 c = c .before .before .before .before .before .before .before .before .before .before .before .before
 
-abbrev after-enum-told : tie.After-parse-from-row-3 → tie.After-enum-told
+abbrev after-enum-told : tie.After-parse-utf8 → tie.After-enum-told
 after-enum-told c = c .before .before .before .before .before .before .before
 
-abbrev after-enum-told-from-parse-from-row-3-arg6 : tie.After-parse-from-row-3-arg6 → tie.After-enum-told
-after-enum-told-from-parse-from-row-3-arg6 c = c .before .before .before .before .before .before
+abbrev after-enum-told-from-parse-utf8-arg6 : tie.After-parse-utf8-arg6 → tie.After-enum-told
+after-enum-told-from-parse-utf8-arg6 c = c .before .before .before .before .before .before
 
 abbrev after-validate : tie.After-known-told → tie.After-validate
 after-validate c = c .before .before .before
@@ -53,9 +53,9 @@ enum-known-found c = search needs
 enum-told : tie.Need-enum-told
 enum-told c = search needs
 
-parse-from-row-3-requires : tie.Need-parse-from-row-3-requires
-parse-from-row-3-requires c κs =
-    let c₁ = after-enum-told-from-parse-from-row-3-arg6 c in
+parse-utf8-requires : tie.Need-parse-utf8-requires
+parse-utf8-requires c κs =
+    let c₁ = after-enum-told-from-parse-utf8-arg6 c in
     let c₂ = c₁ .before .before in
     let c₃ = c₂ .before in
     (c₃ .if1 .left, accepted _ (sym (c₂ .validate .ensures) ∙ c₁ .enum-told .given .1))
@@ -86,11 +86,11 @@ same-length-6 c = search needs
 
 returns-3 : tie.Need-returns-3
 returns-3 c =
-    let c₁ = after-parse-from-row-3 c in
+    let c₁ = after-parse-utf8 c in
     let c₂ = after-enum-told c₁ in
     let c₃ = c₂ .before .before in
     let c₄ = c₃ .before in
-    goes-on _ _ (c₄ .if1 .left) (sym (c₃ .validate .ensures) ∙ c₂ .enum-told .given .1) (c₁ .parse-from-row-3 .ensures)
+    goes-on _ _ (c₄ .if1 .left) (sym (c₃ .validate .ensures) ∙ c₂ .enum-told .given .1) (c₁ .parse-utf8 .ensures)
 
 pub parse-text-spec : {M : Type 1} → statement M
 parse-text-spec =
@@ -100,7 +100,7 @@ parse-text-spec =
     validate-requires
     enum-known-found
     enum-told
-    parse-from-row-3-requires
+    parse-utf8-requires
     returns-2
     same-length
     same-length-2
