@@ -5,42 +5,6 @@ use borrow.Author.Needs.{needs}
 use Rattle.answer.proofs.numbers.Statement.{statement}
 use Rattle.answer.proofs.numbers.Tie as tie
 
-enum-told : tie.Need-enum-told
-enum-told c = search needs
-
-with-requires : tie.Need-with-requires
-with-requires c κs = search needs
-
-enum-known-answer : tie.Need-enum-known-answer
-enum-known-answer c = search needs
-
-with-requires-2 : tie.Need-with-requires-2
-with-requires-2 c κs = search needs
-
-enum-known-answer-2 : tie.Need-enum-known-answer-2
-enum-known-answer-2 c = search needs
-
-with-requires-3 : tie.Need-with-requires-3
-with-requires-3 c κs = search needs
-
-enum-known-answer-3 : tie.Need-enum-known-answer-3
-enum-known-answer-3 c = search needs
-
-with-requires-4 : tie.Need-with-requires-4
-with-requires-4 c κs = search needs
-
-enum-known-answer-4 : tie.Need-enum-known-answer-4
-enum-known-answer-4 c = search needs
-
-with-requires-5 : tie.Need-with-requires-5
-with-requires-5 c κs = search needs
-
-enum-known-answer-5 : tie.Need-enum-known-answer-5
-enum-known-answer-5 c = search needs
-
-with-requires-6 : tie.Need-with-requires-6
-with-requires-6 c κs = search needs
-
 returns : tie.Need-returns
 returns c = c .with .ensures ∙ ap numbers (sym (c .before .enum-told .given .1))
 
@@ -63,18 +27,18 @@ pub numbers-spec : {M : Type 1} → statement M
 numbers-spec =
     tie.close
     (tie.spec
-    enum-told
-    with-requires
-    enum-known-answer
-    with-requires-2
-    enum-known-answer-2
-    with-requires-3
-    enum-known-answer-3
-    with-requires-4
-    enum-known-answer-4
-    with-requires-5
-    enum-known-answer-5
-    with-requires-6
+    (λ c. search needs)
+    (λ c κs. search needs)
+    (λ c. search needs)
+    (λ c κs. search needs)
+    (λ c. search needs)
+    (λ c κs. search needs)
+    (λ c. search needs)
+    (λ c κs. search needs)
+    (λ c. search needs)
+    (λ c κs. search needs)
+    (λ c. search needs)
+    (λ c κs. search needs)
     returns
     returns-2
     returns-3

@@ -48,43 +48,10 @@ else1 c = c .before .before .before .before .before .before .before
 returns : tie.Need-returns
 returns c = too-short _ _ _ (c .if1 .taken)
 
-parse-text-requires : tie.Need-parse-text-requires
-parse-text-requires c κs = search needs
-
-numbers-requires : tie.Need-numbers-requires
-numbers-requires c κs = search needs
-
-slice-write-counts : tie.Need-slice-write-counts
-slice-write-counts c = search needs
-
 slice-write-counts-2 : tie.Need-slice-write-counts-2
 slice-write-counts-2 c =
     let c₁ = else1 (after-parse-text c) in
     simp length-set (omega (arith, c₁ .if1 .left))
-
-slice-write-counts-3 : tie.Need-slice-write-counts-3
-slice-write-counts-3 c = search needs
-
-same-length : tie.Need-same-length
-same-length c = search needs
-
-same-length-2 : tie.Need-same-length-2
-same-length-2 c = search needs
-
-same-length-3 : tie.Need-same-length-3
-same-length-3 c = search needs
-
-same-length-4 : tie.Need-same-length-4
-same-length-4 c = search needs
-
-same-length-5 : tie.Need-same-length-5
-same-length-5 c = search needs
-
-same-length-6 : tie.Need-same-length-6
-same-length-6 c = search needs
-
-same-length-7 : tie.Need-same-length-7
-same-length-7 c = search needs
 
 returns-2 : tie.Need-returns-2
 returns-2 c =
@@ -97,16 +64,16 @@ masm-parse-text-spec =
     tie.close
     (tie.spec
     returns
-    parse-text-requires
-    numbers-requires
-    slice-write-counts
+    (λ c κs. search needs)
+    (λ c κs. search needs)
+    (λ c. search needs)
     slice-write-counts-2
-    slice-write-counts-3
-    same-length
-    same-length-2
-    same-length-3
-    same-length-4
-    same-length-5
-    same-length-6
-    same-length-7
+    (λ c. search needs)
+    (λ c. search needs)
+    (λ c. search needs)
+    (λ c. search needs)
+    (λ c. search needs)
+    (λ c. search needs)
+    (λ c. search needs)
+    (λ c. search needs)
     returns-2)

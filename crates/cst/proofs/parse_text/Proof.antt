@@ -44,15 +44,6 @@ after-validate c = c .before .before .before
 returns : tie.Need-returns
 returns c = too-long _ _ (c .if1 .taken)
 
-validate-requires : tie.Need-validate-requires
-validate-requires c κs = search needs
-
-enum-known-found : tie.Need-enum-known-found
-enum-known-found c = search needs
-
-enum-told : tie.Need-enum-told
-enum-told c = search needs
-
 parse-utf8-requires : tie.Need-parse-utf8-requires
 parse-utf8-requires c κs =
     let c₁ = after-enum-told-from-parse-utf8-arg6 c in
@@ -65,24 +56,6 @@ returns-2 c =
     let c₁ = after-validate c in
     let c₂ = c₁ .before in
     not-utf8 _ _ (c₂ .if1 .left) _ (sym (c₁ .validate .ensures) ∙ c .before .found .given .1)
-
-same-length : tie.Need-same-length
-same-length c = search needs
-
-same-length-2 : tie.Need-same-length-2
-same-length-2 c = search needs
-
-same-length-3 : tie.Need-same-length-3
-same-length-3 c = search needs
-
-same-length-4 : tie.Need-same-length-4
-same-length-4 c = search needs
-
-same-length-5 : tie.Need-same-length-5
-same-length-5 c = search needs
-
-same-length-6 : tie.Need-same-length-6
-same-length-6 c = search needs
 
 returns-3 : tie.Need-returns-3
 returns-3 c =
@@ -97,15 +70,15 @@ parse-text-spec =
     tie.close
     (tie.spec
     returns
-    validate-requires
-    enum-known-found
-    enum-told
+    (λ c κs. search needs)
+    (λ c. search needs)
+    (λ c. search needs)
     parse-utf8-requires
     returns-2
-    same-length
-    same-length-2
-    same-length-3
-    same-length-4
-    same-length-5
-    same-length-6
+    (λ c. search needs)
+    (λ c. search needs)
+    (λ c. search needs)
+    (λ c. search needs)
+    (λ c. search needs)
+    (λ c. search needs)
     returns-3)

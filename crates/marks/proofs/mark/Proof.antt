@@ -27,9 +27,6 @@ few c = rw (c .number-of .ensures) (few-numbers _)
 returns : tie.Need-returns
 returns c = other _ _ (c .if1 .taken)
 
-number-of-requires : tie.Need-number-of-requires
-number-of-requires c κs = search needs
-
 mul-result : tie.Need-mul-result
 mul-result c = omega (arith, few c)
 
@@ -42,4 +39,4 @@ returns-2 c = ident _ _ (c .before .if1 .left) (c .number-of .ensures)
 pub mark-spec : {M : Type 1} → statement M
 mark-spec =
     tie.close
-    (tie.spec returns number-of-requires mul-result add-result returns-2)
+    (tie.spec returns (λ c κs. search needs) mul-result add-result returns-2)

@@ -17,17 +17,8 @@ after-least c = c .before .before .before
 abbrev start : tie.After-least → tie.Start
 start c = c .before .before .before .before
 
-least-requires : tie.Need-least-requires
-least-requires c κs = search needs
-
-slice-relend-prefix-mark-tokens : tie.Need-slice-relend-prefix-mark-tokens
-slice-relend-prefix-mark-tokens c = search needs
-
 slice-aggregate-mark-tokens : tie.Need-slice-aggregate-mark-tokens
 slice-aggregate-mark-tokens c = sym (length-take-le _ _ (omega arith))
-
-slice-relend-prefix-mark-tokens-2 : tie.Need-slice-relend-prefix-mark-tokens-2
-slice-relend-prefix-mark-tokens-2 c = search needs
 
 slice-aggregate-mark-tokens-2 : tie.Need-slice-aggregate-mark-tokens-2
 slice-aggregate-mark-tokens-2 c = sym (length-take-le _ _ (omega arith))
@@ -37,12 +28,6 @@ mark-tokens-requires c κs =
     let a = start (c .before .before) .args in
     let room = c .before .before .least .result in
     (search needs, length-take-le room (a .kinds .now) (omega arith) ∙ sym (length-take-le room (a .ends .now) (omega arith)))
-
-same-length : tie.Need-same-length
-same-length c = search needs
-
-same-length-2 : tie.Need-same-length-2
-same-length-2 c = search needs
 
 returns : tie.Need-returns
 returns c =
@@ -57,12 +42,12 @@ pub mark-source-spec : {M : Type 1} → statement M
 mark-source-spec =
     tie.close
     (tie.spec
-    least-requires
-    slice-relend-prefix-mark-tokens
+    (λ c κs. search needs)
+    (λ c. search needs)
     slice-aggregate-mark-tokens
-    slice-relend-prefix-mark-tokens-2
+    (λ c. search needs)
     slice-aggregate-mark-tokens-2
     mark-tokens-requires
-    same-length
-    same-length-2
+    (λ c. search needs)
+    (λ c. search needs)
     returns)

@@ -30,14 +30,8 @@ after-next c = c .before .before .before
 abbrev start : tie.After-classes Inv-loop μ-loop → tie.Start Inv-loop μ-loop
 start c = c .before .before .before .before
 
-classes-requires : tie.Need-classes-requires Inv-loop μ-loop
-classes-requires c κs = search needs
-
 loop-holds : tie.Need-loop-holds Inv-loop μ-loop
 loop-holds c = begins _ _ _ (start c .pre .0) (start c .pre .1)
-
-next-requires : tie.Need-next-requires Inv-loop μ-loop
-next-requires c κs = search needs
 
 mark-requires : tie.Need-mark-requires Inv-loop μ-loop
 unfolding words may-be passes all-pass
@@ -45,9 +39,6 @@ mark-requires c κs =
     let t = c .before .before .next in
     let e = ends-within (c .before .before .before .before .before .loop .inv .going) (c .before .before .before .before .loop-test .taken) (t .result) (t .ensures) in
     (refl, e .0, e .1)
-
-or-else-requires : tie.Need-or-else-requires Inv-loop μ-loop
-or-else-requires c κs = search needs
 
 cast-put-token : tie.Need-cast-put-token Inv-loop μ-loop
 cast-put-token c =
@@ -57,9 +48,6 @@ cast-put-token c =
 
 put-token-requires : tie.Need-put-token-requires Inv-loop μ-loop
 put-token-requires c κs = let g = after-next (c .before .before .before) .before .before .before .loop .inv .going in g .kinds-len ∙ g .same-room ∙ sym (g .ends-len)
-
-add-n : tie.Need-add-n Inv-loop μ-loop
-add-n c = search needs
 
 loop-less : tie.Need-loop-less Inv-loop μ-loop
 loop-less c =
@@ -72,12 +60,6 @@ loop-again c =
     let p = after-put-token c .put-token in
     goes-on (after-next (after-or-else (after-put-token c) .before) .before .before .before .loop .inv) (after-next (after-or-else (after-put-token c) .before) .before .before .loop-test .taken) (t .result) (t .ensures) _ (after-or-else (after-put-token c) .before .mark .ensures) _ (after-or-else (after-put-token c) .or-else .ensures) _ _ (p .ensures .0) (p .ensures .1)
 
-same-length : tie.Need-same-length Inv-loop μ-loop
-same-length c = search needs
-
-same-length-2 : tie.Need-same-length-2 Inv-loop μ-loop
-same-length-2 c = search needs
-
 returns : tie.Need-returns Inv-loop μ-loop
 returns c = ended (c .before .loop .inv) (c .loop-test .left)
 
@@ -87,16 +69,16 @@ mark-tokens-spec =
     (tie.spec
     Inv-loop
     μ-loop
-    classes-requires
+    (λ c κs. search needs)
     loop-holds
-    next-requires
+    (λ c κs. search needs)
     mark-requires
-    or-else-requires
+    (λ c κs. search needs)
     cast-put-token
     put-token-requires
-    add-n
+    (λ c. search needs)
     loop-less
     loop-again
-    same-length
-    same-length-2
+    (λ c. search needs)
+    (λ c. search needs)
     returns)

@@ -26,36 +26,6 @@ module _ (s : List ℕ) (start end : ℕ) (h : start < end) (w : end ≤ length 
       let l = text-length in
       sym (u text (byte-is 0 start (omega arith) (omega arith)) (byte-is (length text - 1) (end - 1) (omega arith) (omega arith)) l)
 
-shared-slice-read-may-be : tie.Need-shared-slice-read-may-be
-shared-slice-read-may-be c = search needs
-
-sub-may-be : tie.Need-sub-may-be
-sub-may-be c = search needs
-
-shared-slice-read-may-be-2 : tie.Need-shared-slice-read-may-be-2
-shared-slice-read-may-be-2 c = search needs
-
-sub-may-be-2 : tie.Need-sub-may-be-2
-sub-may-be-2 c = search needs
-
-may-be-requires : tie.Need-may-be-requires
-may-be-requires c κs = search needs
-
-sub-word-of : tie.Need-sub-word-of
-sub-word-of c = search needs
-
-part-word-of-start : tie.Need-part-word-of-start
-part-word-of-start c = search needs
-
-part-word-of-end : tie.Need-part-word-of-end
-part-word-of-end c = search needs
-
-word-of-requires : tie.Need-word-of-requires
-word-of-requires c κs = search needs
-
-returns : tie.Need-returns
-returns c = search needs
-
 returns-2 : tie.Need-returns-2
 returns-2 c =
     let c₁ = c .before .before .before .before .before in
@@ -66,14 +36,14 @@ pub number-of-spec : {M : Type 1} → statement M
 number-of-spec =
     tie.close
     (tie.spec
-    shared-slice-read-may-be
-    sub-may-be
-    shared-slice-read-may-be-2
-    sub-may-be-2
-    may-be-requires
-    sub-word-of
-    part-word-of-start
-    part-word-of-end
-    word-of-requires
-    returns
+    (λ c. search needs)
+    (λ c. search needs)
+    (λ c. search needs)
+    (λ c. search needs)
+    (λ c κs. search needs)
+    (λ c. search needs)
+    (λ c. search needs)
+    (λ c. search needs)
+    (λ c κs. search needs)
+    (λ c. search needs)
     returns-2)

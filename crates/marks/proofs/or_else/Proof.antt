@@ -21,12 +21,6 @@ module _ (v m : ℕ) where
 returns : tie.Need-returns
 returns c = keeps _ _ _ (c .if1 .taken)
 
-enum-known-refusal : tie.Need-enum-known-refusal
-enum-known-refusal c = search needs
-
-enum-told : tie.Need-enum-told
-enum-told c = search needs
-
 returns-2 : tie.Need-returns-2
 returns-2 c =
     let a = c .before .before .before .before .args in
@@ -38,4 +32,4 @@ returns-3 c =
     refuses (a .kind) (a .start) (c .before .before .if1 .left) ∙ ap (λ (r : Refusal). or-else r (refused-at (a .kind) (a .start))) (sym (c .enum-told .given .1))
 
 pub or-else-spec : {M : Type 1} → statement M
-or-else-spec = tie.close (tie.spec returns enum-known-refusal enum-told returns-2 returns-3)
+or-else-spec = tie.close (tie.spec returns (λ c. search needs) (λ c. search needs) returns-2 returns-3)

@@ -45,29 +45,11 @@ loop-holds c = (refl, record { len = refl; done = refl })
 mul-plain : tie.Need-mul-plain Inv-loop μ-loop
 mul-plain c = omega (arith, c .before .loop .inv .1 .len)
 
-slice-read-plain : tie.Need-slice-read-plain Inv-loop μ-loop
-slice-read-plain c = search needs
-
-plain-requires : tie.Need-plain-requires Inv-loop μ-loop
-plain-requires c κs = search needs
-
 mul-kinds : tie.Need-mul-kinds Inv-loop μ-loop
 mul-kinds c = omega (arith, c .before .before .before .loop .inv .1 .len)
 
-slice-write-kinds : tie.Need-slice-write-kinds Inv-loop μ-loop
-slice-write-kinds c = search needs
-
-add-i : tie.Need-add-i Inv-loop μ-loop
-add-i c = search needs
-
-loop-less : tie.Need-loop-less Inv-loop μ-loop
-loop-less c = search needs
-
 loop-again : tie.Need-loop-again Inv-loop μ-loop
 loop-again c = (refl, goes-on (c .before .before .before .loop .inv .1) (search needs) (c .plain .ensures))
-
-same-length : tie.Need-same-length Inv-loop μ-loop
-same-length c = search needs
 
 returns : tie.Need-returns Inv-loop μ-loop
 returns c = ended (c .before .loop .inv .1) (search needs)
@@ -80,12 +62,12 @@ unmark-spec =
     μ-loop
     loop-holds
     mul-plain
-    slice-read-plain
-    plain-requires
+    (λ c. search needs)
+    (λ c κs. search needs)
     mul-kinds
-    slice-write-kinds
-    add-i
-    loop-less
+    (λ c. search needs)
+    (λ c. search needs)
+    (λ c. search needs)
     loop-again
-    same-length
+    (λ c. search needs)
     returns)

@@ -11,18 +11,9 @@ returns c = sym (start-behind _ _ _ (c .if1 .taken))
 returns-2 : tie.Need-returns-2
 returns-2 c = sym (start-first _ _ _ (c .if2 .taken) (c .before .if1 .left))
 
-sub-result : tie.Need-sub-result
-sub-result c = search needs
-
-mul-result : tie.Need-mul-result
-mul-result c = search needs
-
-shared-slice-read-result : tie.Need-shared-slice-read-result
-shared-slice-read-result c = search needs
-
 returns-3 : tie.Need-returns-3
 returns-3 c = sym (start-later _ _ _ (c .before .if2 .left) (c .before .before .if1 .left))
 
 pub start-of-spec : {M : Type 1} → statement M
 start-of-spec =
-    tie.close (tie.spec returns returns-2 sub-result mul-result shared-slice-read-result returns-3)
+    tie.close (tie.spec returns returns-2 (λ c. search needs) (λ c. search needs) (λ c. search needs) returns-3)

@@ -5,12 +5,6 @@ use Rattle.places.specs.Laws.{stop-at, stop-behind}
 use Rattle.places.proofs.stop_of.Statement.{statement}
 use Rattle.places.proofs.stop_of.Tie as tie
 
-mul-result : tie.Need-mul-result
-mul-result c = search needs
-
-shared-slice-read-result : tie.Need-shared-slice-read-result
-shared-slice-read-result c = search needs
-
 returns : tie.Need-returns
 returns c = sym (stop-at _ _ _ (c .before .if1 .taken))
 
@@ -18,4 +12,4 @@ returns-2 : tie.Need-returns-2
 returns-2 c = sym (stop-behind _ _ _ (c .if1 .left))
 
 pub stop-of-spec : {M : Type 1} → statement M
-stop-of-spec = tie.close (tie.spec mul-result shared-slice-read-result returns returns-2)
+stop-of-spec = tie.close (tie.spec (λ c. search needs) (λ c. search needs) returns returns-2)

@@ -9,20 +9,16 @@ use Rattle.refusals.proofs.main.Tie as tie
 slice-aggregate-put-calls : tie.Need-slice-aggregate-put-calls
 slice-aggregate-put-calls c = sym (length-replicate {0} {A = ℕ} 1048577 32)
 
-slice-aggregate-put-calls-2 : tie.Need-slice-aggregate-put-calls-2
-slice-aggregate-put-calls-2 c = search needs
-
-slice-aggregate-put-calls-3 : tie.Need-slice-aggregate-put-calls-3
-slice-aggregate-put-calls-3 c = search needs
-
 slice-aggregate-put-calls-4 : tie.Need-slice-aggregate-put-calls-4
 slice-aggregate-put-calls-4 c = sym (length-replicate {0} {A = ℕ} 4096 0)
 
-put-calls-requires : tie.Need-put-calls-requires
-put-calls-requires c κs = search needs
-
-returns : tie.Need-returns
-returns c = search needs
-
 pub main-spec : {M : Type 1} → statement M
-main-spec = tie.close (tie.spec slice-aggregate-put-calls slice-aggregate-put-calls-2 slice-aggregate-put-calls-3 slice-aggregate-put-calls-4 put-calls-requires returns)
+main-spec =
+    tie.close
+    (tie.spec
+    slice-aggregate-put-calls
+    (λ c. search needs)
+    (λ c. search needs)
+    slice-aggregate-put-calls-4
+    (λ c κs. search needs)
+    (λ c. search needs))

@@ -18,23 +18,11 @@ abbrev μ-loop : tie.MeasureT-loop
 loop-holds : tie.Need-loop-holds Inv-loop μ-loop
 loop-holds c = passes-none _ _ (omega arith)
 
-ascii-end-requires : tie.Need-ascii-end-requires Inv-loop μ-loop
-ascii-end-requires c κs = search needs
-
-bound-requires : tie.Need-bound-requires Inv-loop μ-loop
-bound-requires c κs = search needs
-
-walk-requires : tie.Need-walk-requires Inv-loop μ-loop
-walk-requires c κs = search needs
-
 returns : tie.Need-returns Inv-loop μ-loop
 returns c =
     let w = c .before .walk .ensures in
     let p = passes-both (c .before .before .before .before .before .loop .inv) (passes-both (c .before .before .before .ascii-end .ensures) (w .passes)) in
     sym (p .same ∙ stops-at _ _ (omega arith) (w .stopped (c .if1 .taken)))
-
-loop-less : tie.Need-loop-less Inv-loop μ-loop
-loop-less c = search needs
 
 loop-again : tie.Need-loop-again Inv-loop μ-loop
 loop-again c =
@@ -50,10 +38,10 @@ validate-spec =
     Inv-loop
     μ-loop
     loop-holds
-    ascii-end-requires
-    bound-requires
-    walk-requires
+    (λ c κs. search needs)
+    (λ c κs. search needs)
+    (λ c κs. search needs)
     returns
-    loop-less
+    (λ c. search needs)
     loop-again
     returns-2)

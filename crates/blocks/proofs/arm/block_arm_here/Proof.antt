@@ -18,12 +18,6 @@ after-current c = c .before .before .before .before
 abbrev after-current-from-then2 : tie.Then2 → tie.After-current
 after-current-from-then2 c = c .before .before .before
 
-current-requires : tie.Need-current-requires
-current-requires c κs = search needs
-
-is-regular-trivia-requires : tie.Need-is-regular-trivia-requires
-is-regular-trivia-requires c κs = search needs
-
 returns : tie.Need-returns
 unfolding block-arm oneOf
 returns c =
@@ -36,9 +30,6 @@ returns-2 c =
     let c₁ = after-current-from-then2 c in
     let c₂ = c₁ .before .before in
     (ident-arm (c₂ .args .terminators) _ (c₁ .current .ensures) (c .if2 .taken), c₂ .pre .0)
-
-eof-requires : tie.Need-eof-requires
-eof-requires c κs = search needs
 
 returns-3 : tie.Need-returns-3
 unfolding block-arm oneOf
@@ -56,9 +47,6 @@ returns-4 c =
     let c₁ = c .before .before .before in
     let c₂ = after-current c₁ .before .before in
     (rw (sym (c₁ .eof .ensures) ∙ c .before .before .if3 .left, sym (c .before .at-terminator .ensures) ∙ c .if4 .taken), c₂ .pre .0)
-
-at-stray-else-requires : tie.Need-at-stray-else-requires
-at-stray-else-requires c κs = search needs
 
 returns-5 : tie.Need-returns-5
 unfolding block-arm oneOf
@@ -92,5 +80,5 @@ returns-6 c =
 pub block-arm-here-spec : {M : Type 1} → statement M
 block-arm-here-spec =
     tie.close
-    (tie.spec current-requires is-regular-trivia-requires returns returns-2 eof-requires returns-3 at-terminator-requires returns-4
-    at-stray-else-requires returns-5 inner-arm-requires returns-6)
+    (tie.spec (λ c κs. search needs) (λ c κs. search needs) returns returns-2 (λ c κs. search needs) returns-3 at-terminator-requires returns-4
+    (λ c κs. search needs) returns-5 inner-arm-requires returns-6)

@@ -26,9 +26,6 @@ returns : tie.Need-returns
 unfolding inner-arm
 returns c = (rw (c .before .before .pre .1 .starts (c .if1 .taken)), c .before .before .pre .0)
 
-current-requires : tie.Need-current-requires
-current-requires c κs = search needs
-
 starts-behind-doc-requires : tie.Need-starts-behind-doc-requires
 starts-behind-doc-requires c κs =
     let c₁ = start (c .before) in
@@ -55,9 +52,6 @@ returns-4 c =
     let c₂ = start c₁ in
     (rw (plain-starter _ (at-not DocComment _ refl (c₁ .current .ensures) (c .before .before .if2 .left)) ∙ sym (c .before .is-top-level-starter .ensures) ∙ c .if4 .taken), c₂ .pre .0)
 
-is-control-flow-requires : tie.Need-is-control-flow-requires
-is-control-flow-requires c κs = search needs
-
 returns-5 : tie.Need-returns-5
 unfolding inner-arm oneOf starts-instruction name-like
 returns-5 c =
@@ -67,9 +61,6 @@ returns-5 c =
     let c₄ = start c₃ in
     let d = at-not DocComment _ refl (c₃ .current .ensures) (c₂ .if2 .left) in
     (rw (plain-starter _ d ∙ sym (c₁ .is-top-level-starter .ensures) ∙ c .before .before .if4 .left, d, at-number control-flow _ refl (c₃ .current .ensures) (c .before .is-control-flow .ensures) (c .if5 .taken)), c₄ .pre .0)
-
-starts-instruction-requires : tie.Need-starts-instruction-requires
-starts-instruction-requires c κs = search needs
 
 returns-6 : tie.Need-returns-6
 unfolding inner-arm oneOf starts-instruction name-like
@@ -98,5 +89,5 @@ returns-7 c =
 pub inner-arm-spec : {M : Type 1} → statement M
 inner-arm-spec =
     tie.close
-    (tie.spec returns current-requires starts-behind-doc-requires returns-2 returns-3 is-top-level-starter-requires returns-4
-    is-control-flow-requires returns-5 starts-instruction-requires returns-6 returns-7)
+    (tie.spec returns (λ c κs. search needs) starts-behind-doc-requires returns-2 returns-3 is-top-level-starter-requires returns-4
+    (λ c κs. search needs) returns-5 (λ c κs. search needs) returns-6 returns-7)

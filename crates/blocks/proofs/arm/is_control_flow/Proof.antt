@@ -7,12 +7,9 @@ use Rattle.parser.specs.Sets.{word-bits-are}
 use Rattle.blocks.proofs.arm.is_control_flow.Statement.{statement}
 use Rattle.blocks.proofs.arm.is_control_flow.Tie as tie
 
-in-words-requires : tie.Need-in-words-requires
-in-words-requires c κs = search needs
-
 returns : tie.Need-returns
 unfolding oneOf
 returns c = c .in-words .ensures ∙ word-bits-are _ (8 ∷ 4 ∷ 16 ∷ 14 ∷ []) (c .before .args .k) tt tt
 
 pub is-control-flow-spec : {M : Type 1} → statement M
-is-control-flow-spec = tie.close (tie.spec in-words-requires returns)
+is-control-flow-spec = tie.close (tie.spec (λ c κs. search needs) returns)

@@ -17,16 +17,10 @@ start c = c .before .before .before
 abbrev start-from-then1 : tie.Then1 → tie.Start
 start-from-then1 c = c .before .before .before
 
-is-root-requires : tie.Need-is-root-requires
-is-root-requires c κs = search needs
-
 returns : tie.Need-returns
 returns c =
     let c₁ = start-from-then1 c in
     (type-inside _ _ (sym (c .before .is-root .ensures) ∙ not-true _ (c .if1 .taken)), c₁ .pre)
-
-at-kind-requires : tie.Need-at-kind-requires
-at-kind-requires c κs = search needs
 
 returns-2 : tie.Need-returns-2
 unfolding type-ends
@@ -47,4 +41,12 @@ returns-3 c =
     (rw (sym (c .before .before .at-kind .ensures) ∙ not-false _ (c .before .if2 .left), sym (c₂ .is-root .ensures) ∙ not-false _ (c₁ .if1 .left)) (c .line-break-starts-new-top-level-item .ensures .0), c .line-break-starts-new-top-level-item .ensures .1)
 
 pub at-type-end-spec : {M : Type 1} → statement M
-at-type-end-spec = tie.close (tie.spec is-root-requires returns at-kind-requires returns-2 line-break-starts-new-top-level-item-requires returns-3)
+at-type-end-spec =
+    tie.close
+    (tie.spec
+    (λ c κs. search needs)
+    returns
+    (λ c κs. search needs)
+    returns-2
+    line-break-starts-new-top-level-item-requires
+    returns-3)

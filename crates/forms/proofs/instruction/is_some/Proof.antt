@@ -4,12 +4,6 @@ use Rattle.grammar.specs.Instruction.{is-some}
 use Rattle.forms.proofs.instruction.is_some.Statement.{statement}
 use Rattle.forms.proofs.instruction.is_some.Tie as tie
 
-enum-told : tie.Need-enum-told
-enum-told c = search needs
-
-enum-told-2 : tie.Need-enum-told-2
-enum-told-2 c = search needs
-
 returns : tie.Need-returns
 unfolding is-some
 returns c = search needs
@@ -19,4 +13,4 @@ unfolding is-some
 returns-2 c = search needs
 
 pub is-some-spec : {M : Type 1} → statement M
-is-some-spec = tie.close (tie.spec enum-told enum-told-2 returns returns-2)
+is-some-spec = tie.close (tie.spec (λ c. search needs) (λ c. search needs) returns returns-2)

@@ -6,15 +6,9 @@ use Rattle.forms.specs.Path.{group-step}
 use Rattle.forms.proofs.path.group_depth.Statement.{statement}
 use Rattle.forms.proofs.path.group_depth.Tie as tie
 
-add-result : tie.Need-add-result
-add-result c = search needs
-
 returns : tie.Need-returns
 unfolding group-step
 returns c = rw (eq-eqb _ _ (c .if1 .taken), add-one)
-
-sub-result : tie.Need-sub-result
-sub-result c = search needs
 
 returns-2 : tie.Need-returns-2
 unfolding group-step
@@ -25,4 +19,4 @@ unfolding group-step
 returns-3 c = rw (ne-eqb _ _ (c .before .if1 .left), ne-eqb _ _ (c .if2 .left))
 
 pub group-depth-spec : {M : Type 1} → statement M
-group-depth-spec = tie.close (tie.spec add-result returns sub-result returns-2 returns-3)
+group-depth-spec = tie.close (tie.spec (λ c. search needs) returns (λ c. search needs) returns-2 returns-3)

@@ -12,35 +12,8 @@ Inv-loop out₀ at k n rest₀ left₀ out rest left = (length out ≡ length ou
 abbrev μ-loop : tie.MeasureT-loop
 μ-loop out₀ at k n rest₀ left₀ out rest left = left
 
-loop-holds : tie.Need-loop-holds Inv-loop μ-loop
-loop-holds c = search needs
-
-sub-left : tie.Need-sub-left Inv-loop μ-loop
-sub-left c = search needs
-
-add-out : tie.Need-add-out Inv-loop μ-loop
-add-out c = search needs
-
-cast-out : tie.Need-cast-out Inv-loop μ-loop
-cast-out c = search needs
-
-add-out-2 : tie.Need-add-out-2 Inv-loop μ-loop
-add-out-2 c = search needs
-
-slice-write-out : tie.Need-slice-write-out Inv-loop μ-loop
-slice-write-out c = search needs
-
-loop-less : tie.Need-loop-less Inv-loop μ-loop
-loop-less c = search needs
-
 loop-again : tie.Need-loop-again Inv-loop μ-loop
 loop-again c = simp length-set (search needs)
-
-same-length : tie.Need-same-length Inv-loop μ-loop
-same-length c = search needs
-
-returns : tie.Need-returns Inv-loop μ-loop
-returns c = search needs
 
 pub put-digits-spec : {M : Type 1} → statement M
 put-digits-spec =
@@ -48,13 +21,13 @@ put-digits-spec =
     (tie.spec
     Inv-loop
     μ-loop
-    loop-holds
-    sub-left
-    add-out
-    cast-out
-    add-out-2
-    slice-write-out
-    loop-less
+    (λ c. search needs)
+    (λ c. search needs)
+    (λ c. search needs)
+    (λ c. search needs)
+    (λ c. search needs)
+    (λ c. search needs)
+    (λ c. search needs)
     loop-again
-    same-length
-    returns)
+    (λ c. search needs)
+    (λ c. search needs))

@@ -20,15 +20,9 @@ found r e p q = e ∙ ap₂ arm-by p q ∙ arm-is r
 abbrev else2 : tie.After-declared-arm → tie.Else2
 else2 c = c .before .before .before
 
-current-requires : tie.Need-current-requires
-current-requires c κs = search needs
-
 returns : tie.Need-returns
 unfolding arm-by
 returns c = found _ (rw (eq-eqb _ _ (c .if1 .taken))) (c .before .current .ensures) refl
-
-is-regular-trivia-requires : tie.Need-is-regular-trivia-requires
-is-regular-trivia-requires c κs = search needs
 
 returns-2 : tie.Need-returns-2
 unfolding arm-by
@@ -48,9 +42,6 @@ declared-requires c κs =
     let c₁ = c .before .before .before .before .before .before in
     c₁ .pre
 
-declared-arm-requires : tie.Need-declared-arm-requires
-declared-arm-requires c κs = search needs
-
 returns-4 : tie.Need-returns-4
 unfolding arm-by
 returns-4 c =
@@ -63,4 +54,4 @@ returns-4 c =
 pub item-arm-here-spec : {M : Type 1} → statement M
 item-arm-here-spec =
     tie.close
-    (tie.spec current-requires returns is-regular-trivia-requires returns-2 returns-3 declared-requires declared-arm-requires returns-4)
+    (tie.spec (λ c κs. search needs) returns (λ c κs. search needs) returns-2 returns-3 declared-requires (λ c κs. search needs) returns-4)

@@ -7,48 +7,6 @@ use Rattle.lexer.specs.Chars.{holds}
 use Rattle.lexer.proofs.chars.goes_on.Statement.{statement}
 use Rattle.lexer.proofs.chars.goes_on.Tie as tie
 
-enum-told : tie.Need-enum-told
-enum-told c = search needs
-
-is-blank-requires : tie.Need-is-blank-requires
-is-blank-requires c κs = search needs
-
-enum-told-2 : tie.Need-enum-told-2
-enum-told-2 c = search needs
-
-is-line-end-requires : tie.Need-is-line-end-requires
-is-line-end-requires c κs = search needs
-
-enum-told-3 : tie.Need-enum-told-3
-enum-told-3 c = search needs
-
-is-hex-requires : tie.Need-is-hex-requires
-is-hex-requires c κs = search needs
-
-enum-told-4 : tie.Need-enum-told-4
-enum-told-4 c = search needs
-
-is-binary-requires : tie.Need-is-binary-requires
-is-binary-requires c κs = search needs
-
-enum-told-5 : tie.Need-enum-told-5
-enum-told-5 c = search needs
-
-is-within-requires : tie.Need-is-within-requires
-is-within-requires c κs = search needs
-
-enum-told-6 : tie.Need-enum-told-6
-enum-told-6 c = search needs
-
-is-graphic-inside-requires : tie.Need-is-graphic-inside-requires
-is-graphic-inside-requires c κs = search needs
-
-enum-told-7 : tie.Need-enum-told-7
-enum-told-7 c = search needs
-
-is-line-inside-requires : tie.Need-is-line-inside-requires
-is-line-inside-requires c κs = search needs
-
 returns : tie.Need-returns
 returns c = c .is-blank .ensures ∙ ap (λ (run : Run). holds run (c .before .before .before .args .b)) (sym (c .before .enum-told .given .1))
 
@@ -74,20 +32,20 @@ pub goes-on-spec : {M : Type 1} → statement M
 goes-on-spec =
     tie.close
     (tie.spec
-    enum-told
-    is-blank-requires
-    enum-told-2
-    is-line-end-requires
-    enum-told-3
-    is-hex-requires
-    enum-told-4
-    is-binary-requires
-    enum-told-5
-    is-within-requires
-    enum-told-6
-    is-graphic-inside-requires
-    enum-told-7
-    is-line-inside-requires
+    (λ c. search needs)
+    (λ c κs. search needs)
+    (λ c. search needs)
+    (λ c κs. search needs)
+    (λ c. search needs)
+    (λ c κs. search needs)
+    (λ c. search needs)
+    (λ c κs. search needs)
+    (λ c. search needs)
+    (λ c κs. search needs)
+    (λ c. search needs)
+    (λ c κs. search needs)
+    (λ c. search needs)
+    (λ c κs. search needs)
     returns
     returns-2
     returns-3

@@ -4,12 +4,6 @@ use Rattle.lexer.proofs.Tests.{and-yes, and-no}
 use Rattle.lexer.proofs.chars.is_graphic_inside.Statement.{statement}
 use Rattle.lexer.proofs.chars.is_graphic_inside.Tie as tie
 
-is-graphic-requires : tie.Need-is-graphic-requires
-is-graphic-requires c κs = search needs
-
-is-inside-requires : tie.Need-is-inside-requires
-is-inside-requires c κs = search needs
-
 returns : tie.Need-returns
 returns c = and-yes (c .before .before .is-graphic .ensures) (c .before .if1 .taken) (c .is-inside .ensures)
 
@@ -17,4 +11,4 @@ returns-2 : tie.Need-returns-2
 returns-2 c = and-no (c .before .is-graphic .ensures) _ (c .if1 .left)
 
 pub is-graphic-inside-spec : {M : Type 1} → statement M
-is-graphic-inside-spec = tie.close (tie.spec is-graphic-requires is-inside-requires returns returns-2)
+is-graphic-inside-spec = tie.close (tie.spec (λ c κs. search needs) (λ c κs. search needs) returns returns-2)

@@ -6,12 +6,6 @@ use Rattle.lexer.proofs.Tests.{and-yes, and-no}
 use Rattle.lexer.proofs.chars.is_line_inside.Statement.{statement}
 use Rattle.lexer.proofs.chars.is_line_inside.Tie as tie
 
-is-line-end-requires : tie.Need-is-line-end-requires
-is-line-end-requires c κs = search needs
-
-is-inside-requires : tie.Need-is-inside-requires
-is-inside-requires c κs = search needs
-
 returns : tie.Need-returns
 returns c = and-yes (ap not (c .before .before .is-line-end .ensures)) (c .before .if1 .taken) (c .is-inside .ensures)
 
@@ -19,4 +13,4 @@ returns-2 : tie.Need-returns-2
 returns-2 c = and-no (ap not (c .before .is-line-end .ensures)) _ (c .if1 .left)
 
 pub is-line-inside-spec : {M : Type 1} → statement M
-is-line-inside-spec = tie.close (tie.spec is-line-end-requires is-inside-requires returns returns-2)
+is-line-inside-spec = tie.close (tie.spec (λ c κs. search needs) (λ c κs. search needs) returns returns-2)

@@ -9,12 +9,9 @@ use Rattle.lexer.proofs.Laws.{entry}
 use Rattle.lexer.proofs.class.class_in.Statement.{statement}
 use Rattle.lexer.proofs.class.class_in.Tie as tie
 
-element-copy-out-result : tie.Need-element-copy-out-result
-element-copy-out-result c = search needs
-
 returns : tie.Need-returns
 unfolding class-table
 returns c = ap (λ (l : List ℕ). getD l (c .before .args .b) 0) (c .before .pre) ∙ entry class 256 (c .before .args .b) (search needs)
 
 pub class-in-spec : {M : Type 1} → statement M
-class-in-spec = tie.close (tie.spec element-copy-out-result returns)
+class-in-spec = tie.close (tie.spec (λ c. search needs) returns)

@@ -29,11 +29,8 @@ word-class : (b : ℕ) → b < 256 → leb 64 (class b) ≡ word b
 unfolding agrees
 word-class b h = beq-true (leb 64 (class b)) (word b) (sym (entry agrees 256 b h) ∙ ap (λ l. getD l b 0) every ∙ getD-replicate 256 b 1 0 h)
 
-class-in-requires : tie.Need-class-in-requires
-class-in-requires c κs = search needs
-
 returns : tie.Need-returns
 returns c = ap (leb 64) (c .class-in .ensures) ∙ word-class (c .before .args .b) (search needs)
 
 pub is-word-spec : {M : Type 1} → statement M
-is-word-spec = tie.close (tie.spec class-in-requires returns)
+is-word-spec = tie.close (tie.spec (λ c κs. search needs) returns)

@@ -18,12 +18,6 @@ to-line-end : (k from end : ℕ) (s : List ℕ) → end ≡ from + advance-while
 unfolding lex-while
 to-line-end k from end s e = ap (λ (n : ℕ). record { kind = k; end = n }) e
 
-current-is-requires : tie.Need-current-is-requires
-current-is-requires c κs = search needs
-
-add-line-rest : tie.Need-add-line-rest
-add-line-rest c = search needs
-
 line-rest-requires : tie.Need-line-rest-requires
 line-rest-requires c κs =
     let a = c .before .before .before .args in
@@ -35,9 +29,6 @@ returns c =
     to-line-end DocComment (a .from + 1) _ (a .source .now) (c .line-rest .ensures)
     ∙ placed-yes 33 (lex-while DocComment in-line) (lex-while Comment in-line) (a .source .now) (a .from) (sym (c .before .before .current-is .ensures) ∙ c .before .if1 .taken)
 
-line-rest-requires-2 : tie.Need-line-rest-requires-2
-line-rest-requires-2 c κs = search needs
-
 returns-2 : tie.Need-returns-2
 returns-2 c =
     let a = c .before .before .before .before .args in
@@ -46,4 +37,4 @@ returns-2 c =
 
 pub comment-spec : {M : Type 1} → statement M
 comment-spec =
-    tie.close (tie.spec current-is-requires add-line-rest line-rest-requires returns line-rest-requires-2 returns-2)
+    tie.close (tie.spec (λ c κs. search needs) (λ c. search needs) line-rest-requires returns (λ c κs. search needs) returns-2)

@@ -7,12 +7,6 @@ use borrow.Author.Needs.{needs}
 use Rattle.lexer.proofs.lexer.dot.Statement.{statement}
 use Rattle.lexer.proofs.lexer.dot.Tie as tie
 
-current-is-requires : tie.Need-current-is-requires
-current-is-requires c κs = search needs
-
-add-pair : tie.Need-add-pair
-add-pair c = search needs
-
 pair-requires : tie.Need-pair-requires
 pair-requires c κs =
     let a = c .before .before .before .args in
@@ -29,4 +23,4 @@ returns-2 c =
     one-here Dot (a .from) ∙ placed-no 46 (follow 46 (lex-one DotDotDot) (lex-one DotDot)) (lex-one Dot) (a .from) _ (sym (c .before .current-is .ensures) ∙ c .if1 .left)
 
 pub dot-spec : {M : Type 1} → statement M
-dot-spec = tie.close (tie.spec current-is-requires add-pair pair-requires returns returns-2)
+dot-spec = tie.close (tie.spec (λ c κs. search needs) (λ c. search needs) pair-requires returns returns-2)

@@ -7,12 +7,9 @@ use Rattle.lexer.specs.Lexer.{lex-while}
 use Rattle.lexer.proofs.lexer.ident.Statement.{statement}
 use Rattle.lexer.proofs.lexer.ident.Tie as tie
 
-word-end-requires : tie.Need-word-end-requires
-word-end-requires c κs = search needs
-
 returns : tie.Need-returns
 unfolding lex-while
 returns c = ap (λ (n : ℕ). record { kind = Ident; end = n }) (c .word-end .ensures)
 
 pub ident-spec : {M : Type 1} → statement M
-ident-spec = tie.close (tie.spec word-end-requires returns)
+ident-spec = tie.close (tie.spec (λ c κs. search needs) returns)

@@ -4,17 +4,11 @@ use borrow.Author.Needs.{needs}
 use Rattle.lexer.proofs.lexer.lex_number.Statement.{statement}
 use Rattle.lexer.proofs.lexer.lex_number.Tie as tie
 
-zero-led-requires : tie.Need-zero-led-requires
-zero-led-requires c κs = search needs
-
 returns : tie.Need-returns
 returns c = rw (eq-eqb _ _ (c .before .if1 .taken)) (c .zero-led .ensures)
-
-run-requires : tie.Need-run-requires
-run-requires c κs = search needs
 
 returns-2 : tie.Need-returns-2
 returns-2 c = rw (ne-eqb _ _ (c .before .if1 .left)) (c .run .ensures)
 
 pub lex-number-spec : {M : Type 1} → statement M
-lex-number-spec = tie.close (tie.spec zero-led-requires returns run-requires returns-2)
+lex-number-spec = tie.close (tie.spec (λ c κs. search needs) returns (λ c κs. search needs) returns-2)

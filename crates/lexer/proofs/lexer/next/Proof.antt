@@ -18,51 +18,6 @@ chosen : (source : List ℕ) (at k : ℕ) → class (getD source at 0) ≡ k
 unfolding next
 chosen source at k e = ap (λ (j : ℕ). placed (at + 1) (arm j (getD source at 0) (drop (at + 1) source))) (sym e)
 
-shared-slice-read-b : tie.Need-shared-slice-read-b
-shared-slice-read-b c = search needs
-
-class-in-requires : tie.Need-class-in-requires
-class-in-requires c κs = search needs
-
-add-from : tie.Need-add-from
-add-from c = search needs
-
-run-requires : tie.Need-run-requires
-run-requires c κs = search needs
-
-pair-requires : tie.Need-pair-requires
-pair-requires c κs = search needs
-
-comment-requires : tie.Need-comment-requires
-comment-requires c κs = search needs
-
-ident-requires : tie.Need-ident-requires
-ident-requires c κs = search needs
-
-special-requires : tie.Need-special-requires
-special-requires c κs = search needs
-
-lex-number-requires : tie.Need-lex-number-requires
-lex-number-requires c κs = search needs
-
-lex-quoted-requires : tie.Need-lex-quoted-requires
-lex-quoted-requires c κs = search needs
-
-pair-requires-2 : tie.Need-pair-requires-2
-pair-requires-2 c κs = search needs
-
-dot-requires : tie.Need-dot-requires
-dot-requires c κs = search needs
-
-pair-requires-3 : tie.Need-pair-requires-3
-pair-requires-3 c κs = search needs
-
-pair-requires-4 : tie.Need-pair-requires-4
-pair-requires-4 c κs = search needs
-
-stray-requires : tie.Need-stray-requires
-stray-requires c κs = search needs
-
 returns : tie.Need-returns
 unfolding arm
 returns c =
@@ -153,21 +108,21 @@ pub next-spec : {M : Type 1} → statement M
 next-spec =
     tie.close
     (tie.spec
-    shared-slice-read-b
-    class-in-requires
-    add-from
-    run-requires
-    pair-requires
-    comment-requires
-    ident-requires
-    special-requires
-    lex-number-requires
-    lex-quoted-requires
-    pair-requires-2
-    dot-requires
-    pair-requires-3
-    pair-requires-4
-    stray-requires
+    (λ c. search needs)
+    (λ c κs. search needs)
+    (λ c. search needs)
+    (λ c κs. search needs)
+    (λ c κs. search needs)
+    (λ c κs. search needs)
+    (λ c κs. search needs)
+    (λ c κs. search needs)
+    (λ c κs. search needs)
+    (λ c κs. search needs)
+    (λ c κs. search needs)
+    (λ c κs. search needs)
+    (λ c κs. search needs)
+    (λ c κs. search needs)
+    (λ c κs. search needs)
     (λ c. search needs)
     returns
     returns-2

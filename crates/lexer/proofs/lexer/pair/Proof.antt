@@ -7,12 +7,6 @@ use borrow.Author.Needs.{needs}
 use Rattle.lexer.proofs.lexer.pair.Statement.{statement}
 use Rattle.lexer.proofs.lexer.pair.Tie as tie
 
-current-is-requires : tie.Need-current-is-requires
-current-is-requires c κs = search needs
-
-add-t7 : tie.Need-add-t7
-add-t7 c = search needs
-
 returns : tie.Need-returns
 returns c =
     let a = c .before .before .before .args in
@@ -25,4 +19,4 @@ returns-2 c =
     ∙ ap (placed (a .from)) (sym (follow-no (a .x) (lex-one (a .longer)) (lex-one (a .shorter)) _ (sym (c .before .current-is .ensures) ∙ c .if1 .left)))
 
 pub pair-spec : {M : Type 1} → statement M
-pair-spec = tie.close (tie.spec current-is-requires add-t7 returns returns-2)
+pair-spec = tie.close (tie.spec (λ c κs. search needs) (λ c. search needs) returns returns-2)

@@ -6,27 +6,6 @@ use borrow.Author.Needs.{needs}
 use Rattle.lexer.proofs.lexer.put_token.Statement.{statement}
 use Rattle.lexer.proofs.lexer.put_token.Tie as tie
 
-mul-kinds : tie.Need-mul-kinds
-mul-kinds c = search needs
-
-slice-write-kinds : tie.Need-slice-write-kinds
-slice-write-kinds c = search needs
-
-mul-ends : tie.Need-mul-ends
-mul-ends c = search needs
-
-slice-write-ends : tie.Need-slice-write-ends
-slice-write-ends c = search needs
-
-same-length : tie.Need-same-length
-same-length c = search needs
-
-same-length-2 : tie.Need-same-length-2
-same-length-2 c = search needs
-
-returns : tie.Need-returns
-returns c = search needs
-
 returns-2 : tie.Need-returns-2
 returns-2 c = (sym (set-out _ _ _ (c .if1 .left)), sym (set-out _ _ _ (omega arith)))
 
@@ -34,11 +13,11 @@ pub put-token-spec : {M : Type 1} → statement M
 put-token-spec =
     tie.close
     (tie.spec
-    mul-kinds
-    slice-write-kinds
-    mul-ends
-    slice-write-ends
-    same-length
-    same-length-2
-    returns
+    (λ c. search needs)
+    (λ c. search needs)
+    (λ c. search needs)
+    (λ c. search needs)
+    (λ c. search needs)
+    (λ c. search needs)
+    (λ c. search needs)
     returns-2)

@@ -6,12 +6,9 @@ use borrow.Author.Needs.{needs}
 use Rattle.lexer.proofs.lexer.run.Statement.{statement}
 use Rattle.lexer.proofs.lexer.run.Tie as tie
 
-run-end-requires : tie.Need-run-end-requires
-run-end-requires c κs = search needs
-
 returns : tie.Need-returns
 unfolding lex-while
 returns c = ap (λ (n : ℕ). record { kind = c .before .before .args .kind; end = n }) (c .run-end .ensures)
 
 pub run-spec : {M : Type 1} → statement M
-run-spec = tie.close (tie.spec run-end-requires returns)
+run-spec = tie.close (tie.spec (λ c κs. search needs) returns)

@@ -28,34 +28,13 @@ named from end r t u e p q =
     λ i. record { kind = cond (p i || q i) SpecialIdent Error; end = h i } in
     first ∙ ap (λ (k : ℕ). record { kind = cond (same (take k r) kernel || same (take k r) exec) SpecialIdent Error; end = from + k }) n
 
-word-end-requires : tie.Need-word-end-requires
-word-end-requires c κs = search needs
-
-sub-text : tie.Need-sub-text
-sub-text c = search needs
-
-part-text-start : tie.Need-part-text-start
-part-text-start c = search needs
-
 part-text-end : tie.Need-part-text-end
 part-text-end c = omega (arith, c .word-end .ensures, advance-within word (drop (c .before .before .args .from) (c .before .before .args .source .now)), length-drop (c .before .before .args .from) (c .before .before .args .source .now))
-
-slice-aggregate-same : tie.Need-slice-aggregate-same
-slice-aggregate-same c = search needs
-
-same-requires : tie.Need-same-requires
-same-requires c κs = search needs
 
 returns : tie.Need-returns
 returns c =
     let a = c .before .before .before .before .before .before .args in
     rw (c .if1 .taken) at (named (a .from) _ (drop (a .from) (a .source .now)) (c .before .same .result) _ (c .before .before .before .before .word-end .ensures) (c .before .same .ensures) refl)
-
-slice-aggregate-same-2 : tie.Need-slice-aggregate-same-2
-slice-aggregate-same-2 c = search needs
-
-same-requires-2 : tie.Need-same-requires-2
-same-requires-2 c κs = search needs
 
 returns-2 : tie.Need-returns-2
 returns-2 c =
@@ -73,14 +52,14 @@ pub special-spec : {M : Type 1} → statement M
 special-spec =
     tie.close
     (tie.spec
-    word-end-requires
-    sub-text
-    part-text-start
+    (λ c κs. search needs)
+    (λ c. search needs)
+    (λ c. search needs)
     part-text-end
-    slice-aggregate-same
-    same-requires
+    (λ c. search needs)
+    (λ c κs. search needs)
     returns
-    slice-aggregate-same-2
-    same-requires-2
+    (λ c. search needs)
+    (λ c κs. search needs)
     returns-2
     returns-3)

@@ -10,17 +10,8 @@ use borrow.Author.Needs.{needs}
 use Rattle.lexer.proofs.lexer.stray.Statement.{statement}
 use Rattle.lexer.proofs.lexer.stray.Tie as tie
 
-width-requires : tie.Need-width-requires
-width-requires c κs = search needs
-
 sub-more : tie.Need-sub-more
 sub-more c = omega (arith, c .width .ensures, width-pos (c .before .before .args .b))
-
-sub-if1 : tie.Need-sub-if1
-sub-if1 c = search needs
-
-add-t8 : tie.Need-add-t8
-add-t8 c = search needs
 
 returns : tie.Need-returns
 unfolding stray
@@ -39,4 +30,4 @@ returns-2 c =
     (omega (arith, w, width-pos (a .b), length-take (pred (width (a .b))) (drop (a .from) (a .source .now)), length-drop (a .from) (a .source .now)))
 
 pub stray-spec : {M : Type 1} → statement M
-stray-spec = tie.close (tie.spec width-requires sub-more sub-if1 add-t8 returns returns-2)
+stray-spec = tie.close (tie.spec (λ c κs. search needs) sub-more (λ c. search needs) (λ c. search needs) returns returns-2)

@@ -17,17 +17,8 @@ after-least c = c .before .before .before
 abbrev start : tie.After-least → tie.Start
 start c = c .before .before .before .before
 
-least-requires : tie.Need-least-requires
-least-requires c κs = search needs
-
-slice-relend-prefix-tokens : tie.Need-slice-relend-prefix-tokens
-slice-relend-prefix-tokens c = search needs
-
 slice-aggregate-tokens : tie.Need-slice-aggregate-tokens
 slice-aggregate-tokens c = sym (length-take-le _ _ (omega arith))
-
-slice-relend-prefix-tokens-2 : tie.Need-slice-relend-prefix-tokens-2
-slice-relend-prefix-tokens-2 c = search needs
 
 slice-aggregate-tokens-2 : tie.Need-slice-aggregate-tokens-2
 slice-aggregate-tokens-2 c = sym (length-take-le _ _ (omega arith))
@@ -38,12 +29,6 @@ tokens-requires c κs =
     let room = c .before .before .least .result in
     (search needs, length-take-le room (a .kinds .now) (omega arith) ∙ sym (length-take-le room (a .ends .now) (omega arith)))
 
-same-length : tie.Need-same-length
-same-length c = search needs
-
-same-length-2 : tie.Need-same-length-2
-same-length-2 c = search needs
-
 returns : tie.Need-returns
 returns c =
     let a = start (after-least (after-tokens c)) .args in
@@ -53,12 +38,12 @@ pub tokenize-spec : {M : Type 1} → statement M
 tokenize-spec =
     tie.close
     (tie.spec
-    least-requires
-    slice-relend-prefix-tokens
+    (λ c κs. search needs)
+    (λ c. search needs)
     slice-aggregate-tokens
-    slice-relend-prefix-tokens-2
+    (λ c. search needs)
     slice-aggregate-tokens-2
     tokens-requires
-    same-length
-    same-length-2
+    (λ c. search needs)
+    (λ c. search needs)
     returns)

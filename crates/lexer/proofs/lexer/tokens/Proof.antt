@@ -29,14 +29,8 @@ after-next-from-put-token-arg2 c = c .before .before
 abbrev start : tie.After-classes Inv-loop μ-loop → tie.Start Inv-loop μ-loop
 start c = c .before .before .before .before
 
-classes-requires : tie.Need-classes-requires Inv-loop μ-loop
-classes-requires c κs = search needs
-
 loop-holds : tie.Need-loop-holds Inv-loop μ-loop
 loop-holds c = begins _ _ _ (start c .pre .0) (start c .pre .1)
-
-next-requires : tie.Need-next-requires Inv-loop μ-loop
-next-requires c κs = search needs
 
 cast-put-token : tie.Need-cast-put-token Inv-loop μ-loop
 cast-put-token c =
@@ -46,9 +40,6 @@ cast-put-token c =
 
 put-token-requires : tie.Need-put-token-requires Inv-loop μ-loop
 put-token-requires c κs = let g = after-next-from-put-token-arg2 c .before .before .before .loop .inv in g .kinds-len ∙ g .same-room ∙ sym (g .ends-len)
-
-add-n : tie.Need-add-n Inv-loop μ-loop
-add-n c = search needs
 
 loop-less : tie.Need-loop-less Inv-loop μ-loop
 loop-less c =
@@ -62,12 +53,6 @@ loop-again c =
     let p = after-put-token c .put-token in
     goes-on (after-next (after-put-token c) .before .before .before .loop .inv) (after-next (after-put-token c) .before .before .loop-test .taken) (t .result) (t .ensures) _ (ap (λ (x : Placed). x .kind) (t .ensures)) _ _ (p .ensures .0) (p .ensures .1)
 
-same-length : tie.Need-same-length Inv-loop μ-loop
-same-length c = search needs
-
-same-length-2 : tie.Need-same-length-2 Inv-loop μ-loop
-same-length-2 c = search needs
-
 returns : tie.Need-returns Inv-loop μ-loop
 returns c = ended (c .before .loop .inv) (c .loop-test .left)
 
@@ -77,14 +62,14 @@ tokens-spec =
     (tie.spec
     Inv-loop
     μ-loop
-    classes-requires
+    (λ c κs. search needs)
     loop-holds
-    next-requires
+    (λ c κs. search needs)
     cast-put-token
     put-token-requires
-    add-n
+    (λ c. search needs)
     loop-less
     loop-again
-    same-length
-    same-length-2
+    (λ c. search needs)
+    (λ c. search needs)
     returns)

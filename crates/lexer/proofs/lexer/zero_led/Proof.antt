@@ -91,12 +91,6 @@ start-from-then1 c = c .before .before .before
 abbrev start-from-then2 : tie.Then2 → tie.Start
 start-from-then2 c = c .before .before .before .before .before
 
-current-is-requires : tie.Need-current-is-requires
-current-is-requires c κs = search needs
-
-add-run : tie.Need-add-run
-add-run c = search needs
-
 run-requires : tie.Need-run-requires
 run-requires c κs =
     let a = start-from-then1 c .args in
@@ -107,12 +101,6 @@ returns c =
     let a = start-from-run c .args in
     c .run .ensures
     ∙ placed-yes 120 (lex-while Number hex) after-120 (a .source .now) (a .from) (sym (c .before .before .current-is .ensures) ∙ c .before .if1 .taken)
-
-current-is-requires-2 : tie.Need-current-is-requires-2
-current-is-requires-2 c κs = search needs
-
-add-run-2 : tie.Need-add-run-2
-add-run-2 c = search needs
 
 run-requires-2 : tie.Need-run-requires-2
 run-requires-2 c κs =
@@ -126,12 +114,6 @@ returns-2 c =
     ∙ placed-yes 88 (lex-while Number hex) after-88 (a .source .now) (a .from) (sym (c .before .before .current-is2 .ensures) ∙ c .before .if2 .taken)
     ∙ placed-no 120 (lex-while Number hex) after-120 (a .from) _ (sym (after-current-is-from-run2 c .current-is .ensures) ∙ else1-from-run2 c .if1 .left)
 
-current-is-requires-3 : tie.Need-current-is-requires-3
-current-is-requires-3 c κs = search needs
-
-add-run-3 : tie.Need-add-run-3
-add-run-3 c = search needs
-
 run-requires-3 : tie.Need-run-requires-3
 run-requires-3 c κs =
     let a = start-from-current-is2 (after-current-is2-from-then3 c) .args in
@@ -144,12 +126,6 @@ returns-3 c =
     ∙ placed-yes 98 (lex-while Number binary) after-98 (a .source .now) (a .from) (sym (c .before .before .current-is3 .ensures) ∙ c .before .if3 .taken)
     ∙ placed-no 88 (lex-while Number hex) after-88 (a .from) _ (sym (after-current-is2-from-run3 c .current-is2 .ensures) ∙ else2 c .if2 .left)
     ∙ placed-no 120 (lex-while Number hex) after-120 (a .from) _ (sym (after-current-is (else2 c) .current-is .ensures) ∙ else1-from-run3 c .if1 .left)
-
-current-is-requires-4 : tie.Need-current-is-requires-4
-current-is-requires-4 c κs = search needs
-
-add-run-4 : tie.Need-add-run-4
-add-run-4 c = search needs
 
 run-requires-4 : tie.Need-run-requires-4
 run-requires-4 c κs =
@@ -165,9 +141,6 @@ returns-4 c =
     ∙ placed-no 88 (lex-while Number hex) after-88 (a .from) _ (sym (after-current-is2 (else3 c) .current-is2 .ensures) ∙ else2-from-run4 c .if2 .left)
     ∙ placed-no 120 (lex-while Number hex) after-120 (a .from) _ (sym (after-current-is-from-else3 (else3 c) .current-is .ensures) ∙ else1-from-else3 (else3 c) .if1 .left)
 
-run-requires-5 : tie.Need-run-requires-5
-run-requires-5 c κs = search needs
-
 returns-5 : tie.Need-returns-5
 returns-5 c =
     let a = start-from-current-is2 (after-current-is2 (else3-from-run5 c)) .args in
@@ -181,21 +154,21 @@ pub zero-led-spec : {M : Type 1} → statement M
 zero-led-spec =
     tie.close
     (tie.spec
-    current-is-requires
-    add-run
+    (λ c κs. search needs)
+    (λ c. search needs)
     run-requires
     returns
-    current-is-requires-2
-    add-run-2
+    (λ c κs. search needs)
+    (λ c. search needs)
     run-requires-2
     returns-2
-    current-is-requires-3
-    add-run-3
+    (λ c κs. search needs)
+    (λ c. search needs)
     run-requires-3
     returns-3
-    current-is-requires-4
-    add-run-4
+    (λ c κs. search needs)
+    (λ c. search needs)
     run-requires-4
     returns-4
-    run-requires-5
+    (λ c κs. search needs)
     returns-5)

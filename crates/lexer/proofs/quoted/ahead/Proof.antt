@@ -9,12 +9,6 @@ use Rattle.lexer.proofs.Quotes.{over-graphic, over-inside}
 use Rattle.lexer.proofs.quoted.ahead.Statement.{statement}
 use Rattle.lexer.proofs.quoted.ahead.Tie as tie
 
-returns : tie.Need-returns
-returns c = search needs
-
-advance-while-requires : tie.Need-advance-while-requires
-advance-while-requires c κs = search needs
-
 returns-2 : tie.Need-returns-2
 returns-2 c =
     let a = c .before .before .before .before in
@@ -23,9 +17,6 @@ returns-2 c =
       omega (arith, a .pre, c .advance-while .ensures, advance-within (holds Graphic) (drop (a .args .at) s), length-drop (a .args .at) s),
       rw (c .before .before .if1 .left, c .before .if2 .taken) (over-graphic s (a .args .at) _ (c .advance-while .ensures)),
     )
-
-advance-while-requires-2 : tie.Need-advance-while-requires-2
-advance-while-requires-2 c κs = search needs
 
 returns-3 : tie.Need-returns-3
 returns-3 c =
@@ -37,4 +28,4 @@ returns-3 c =
     )
 
 pub ahead-spec : {M : Type 1} → statement M
-ahead-spec = tie.close (tie.spec returns advance-while-requires returns-2 advance-while-requires-2 returns-3)
+ahead-spec = tie.close (tie.spec (λ c. search needs) (λ c κs. search needs) returns-2 (λ c κs. search needs) returns-3)

@@ -16,18 +16,6 @@ as-token {q} {t} g i e p l =
     let k : quote-kind g i ≡ t .kind = ap (λ (h : Ending). quote-kind h i) (sym p) ∙ ap (quote-kind (q .ending)) (sym l) ∙ e .kind-is in
     λ j. record { kind = k j; end = e .end-is j }
 
-quote-requires : tie.Need-quote-requires
-quote-requires c κs = search needs
-
-enum-told : tie.Need-enum-told
-enum-told c = search needs
-
-enum-told-2 : tie.Need-enum-told-2
-enum-told-2 c = search needs
-
-enum-told-3 : tie.Need-enum-told-3
-enum-told-3 c = search needs
-
 returns : tie.Need-returns
 returns c = as-token _ _ (c .before .before .before .quote .ensures) (c .before .enum-told .given .1) (c .if1 .taken)
 
@@ -44,10 +32,10 @@ pub lex-quoted-spec : {M : Type 1} → statement M
 lex-quoted-spec =
     tie.close
     (tie.spec
-    quote-requires
-    enum-told
-    enum-told-2
-    enum-told-3
+    (λ c κs. search needs)
+    (λ c. search needs)
+    (λ c. search needs)
+    (λ c. search needs)
     returns
     returns-2
     returns-3

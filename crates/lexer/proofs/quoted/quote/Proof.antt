@@ -63,42 +63,12 @@ after-ahead c = c .before .before .before
 abbrev after-ahead-from-then2 : tie.Then2 Inv-loop μ-loop → tie.After-ahead Inv-loop μ-loop
 after-ahead-from-then2 c = c .before .before .before
 
-loop-holds : tie.Need-loop-holds Inv-loop μ-loop
-loop-holds c = search needs
-
-ahead-requires : tie.Need-ahead-requires Inv-loop μ-loop
-ahead-requires c κs = search needs
-
-shared-slice-read-b : tie.Need-shared-slice-read-b Inv-loop μ-loop
-shared-slice-read-b c = search needs
-
-add-at : tie.Need-add-at Inv-loop μ-loop
-add-at c = search needs
-
-loop-less : tie.Need-loop-less Inv-loop μ-loop
-loop-less c = search needs
-
 loop-again : tie.Need-loop-again Inv-loop μ-loop
 loop-again c =
     let a = after-ahead-from-then2 c .ahead in
     let l = after-ahead-from-then2 c .before .loop in
     let s = after-ahead-from-then2 c .before .before .before .args .source .now in
     (search needs, l .inv .1 ∙ a .ensures .2 ∙ ap (λ (t : Bool). placed (a .result) (quoted t (l .identifier-like) (drop (a .result) s))) (c .if2 .taken) ∙ takes s (a .result) (l .identifier-like) (search needs))
-
-is-line-end-requires : tie.Need-is-line-end-requires Inv-loop μ-loop
-is-line-end-requires c κs = search needs
-
-add-at-2 : tie.Need-add-at-2 Inv-loop μ-loop
-add-at-2 c = search needs
-
-keeps-requires : tie.Need-keeps-requires Inv-loop μ-loop
-keeps-requires c κs = search needs
-
-add-at-3 : tie.Need-add-at-3 Inv-loop μ-loop
-add-at-3 c = search needs
-
-loop-less-2 : tie.Need-loop-less-2 Inv-loop μ-loop
-loop-less-2 c = search needs
 
 loop-again-2 : tie.Need-loop-again-2 Inv-loop μ-loop
 loop-again-2 c =
@@ -154,17 +124,17 @@ quote-spec =
     (tie.spec
     Inv-loop
     μ-loop
-    loop-holds
-    ahead-requires
-    shared-slice-read-b
-    add-at
-    loop-less
+    (λ c. search needs)
+    (λ c κs. search needs)
+    (λ c. search needs)
+    (λ c. search needs)
+    (λ c. search needs)
     loop-again
-    is-line-end-requires
-    add-at-2
-    keeps-requires
-    add-at-3
-    loop-less-2
+    (λ c κs. search needs)
+    (λ c. search needs)
+    (λ c κs. search needs)
+    (λ c. search needs)
+    (λ c. search needs)
     loop-again-2
     returns
     returns-2

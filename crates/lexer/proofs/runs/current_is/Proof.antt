@@ -5,9 +5,6 @@ use Rattle.lexer.proofs.Laws.{starts-here, starts-none}
 use Rattle.lexer.proofs.runs.current_is.Statement.{statement}
 use Rattle.lexer.proofs.runs.current_is.Tie as tie
 
-shared-slice-read-result : tie.Need-shared-slice-read-result
-shared-slice-read-result c = search needs
-
 returns : tie.Need-returns
 returns c =
     let a = c .before .before .args in
@@ -19,4 +16,4 @@ returns-2 c =
     sym (starts-none (a .x) (a .source .now) (a .at) (search needs))
 
 pub current-is-spec : {M : Type 1} → statement M
-current-is-spec = tie.close (tie.spec shared-slice-read-result returns returns-2)
+current-is-spec = tie.close (tie.spec (λ c. search needs) returns returns-2)

@@ -12,12 +12,6 @@ neither : (s t : Bool) → not s ≡ true → not t ≡ true → not (s || t) �
 neither true t e f = e
 neither false t e f = f
 
-none-within-requires : tie.Need-none-within-requires
-none-within-requires c κs = search needs
-
-none-within-requires-2 : tie.Need-none-within-requires-2
-none-within-requires-2 c κs = search needs
-
 returns : tie.Need-returns
 returns c = λ e k h.
     let a = c .before .before .before .before .args in
@@ -28,4 +22,4 @@ returns-2 : tie.Need-returns-2
 returns-2 c = λ e. absurd (false≢true (sym (c .if1 .left) ∙ e))
 
 pub in-line-within-spec : {M : Type 1} → statement M
-in-line-within-spec = tie.close (tie.spec none-within-requires none-within-requires-2 returns returns-2)
+in-line-within-spec = tie.close (tie.spec (λ c κs. search needs) (λ c κs. search needs) returns returns-2)

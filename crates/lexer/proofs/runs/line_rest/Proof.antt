@@ -19,29 +19,11 @@ abbrev μ-loop : tie.MeasureT-loop
 loop-holds : tie.Need-loop-holds Inv-loop μ-loop
 loop-holds c = record { within = search needs; goes = refl }
 
-sub-loop : tie.Need-sub-loop Inv-loop μ-loop
-sub-loop c = search needs
-
-in-line-within-requires : tie.Need-in-line-within-requires Inv-loop μ-loop
-in-line-within-requires c κs = search needs
-
-run-end-requires : tie.Need-run-end-requires Inv-loop μ-loop
-run-end-requires c κs = search needs
-
 returns : tie.Need-returns Inv-loop μ-loop
 returns c = c .run-end .ensures ∙ sym (c .before .before .before .before .loop .inv .goes)
 
-add-at : tie.Need-add-at Inv-loop μ-loop
-add-at c = search needs
-
-loop-less : tie.Need-loop-less Inv-loop μ-loop
-loop-less c = search needs
-
 loop-again : tie.Need-loop-again Inv-loop μ-loop
 loop-again c = reaches-over (c .before .before .before .loop .inv) 16 (omega arith) (c .before .in-line-within .ensures (not-false _ (c .if1 .left)))
-
-run-end-requires-2 : tie.Need-run-end-requires-2 Inv-loop μ-loop
-run-end-requires-2 c κs = search needs
 
 returns-2 : tie.Need-returns-2 Inv-loop μ-loop
 returns-2 c = c .run-end2 .ensures ∙ sym (c .before .before .loop .inv .goes)
@@ -53,12 +35,12 @@ line-rest-spec =
     Inv-loop
     μ-loop
     loop-holds
-    sub-loop
-    in-line-within-requires
-    run-end-requires
+    (λ c. search needs)
+    (λ c κs. search needs)
+    (λ c κs. search needs)
     returns
-    add-at
-    loop-less
+    (λ c. search needs)
+    (λ c. search needs)
     loop-again
-    run-end-requires-2
+    (λ c κs. search needs)
     returns-2)

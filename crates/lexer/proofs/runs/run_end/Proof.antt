@@ -36,86 +36,20 @@ three c = reaches-next (two (c .before .before .before)) (omega arith) (omega ar
 loop-holds : tie.Need-loop-holds Inv-loop μ-loop
 loop-holds c = record { within = search needs; goes = refl }
 
-sub-loop : tie.Need-sub-loop Inv-loop μ-loop
-sub-loop c = search needs
-
-shared-slice-read-surely : tie.Need-shared-slice-read-surely Inv-loop μ-loop
-shared-slice-read-surely c = search needs
-
-surely-requires : tie.Need-surely-requires Inv-loop μ-loop
-surely-requires c κs = search needs
-
-advance-while-requires : tie.Need-advance-while-requires Inv-loop μ-loop
-advance-while-requires c κs = search needs
-
 returns : tie.Need-returns Inv-loop μ-loop
 returns c = c .advance-while .ensures ∙ sym (c .before .before .before .before .before .loop .inv .goes)
-
-add-surely : tie.Need-add-surely Inv-loop μ-loop
-add-surely c = search needs
-
-shared-slice-read-surely-2 : tie.Need-shared-slice-read-surely-2 Inv-loop μ-loop
-shared-slice-read-surely-2 c = search needs
-
-surely-requires-2 : tie.Need-surely-requires-2 Inv-loop μ-loop
-surely-requires-2 c κs = search needs
-
-add-advance-while : tie.Need-add-advance-while Inv-loop μ-loop
-add-advance-while c = search needs
-
-advance-while-requires-2 : tie.Need-advance-while-requires-2 Inv-loop μ-loop
-advance-while-requires-2 c κs = search needs
 
 returns-2 : tie.Need-returns-2 Inv-loop μ-loop
 returns-2 c = c .advance-while2 .ensures ∙ sym (one (c .before .before .before .before) .goes)
 
-add-surely-2 : tie.Need-add-surely-2 Inv-loop μ-loop
-add-surely-2 c = search needs
-
-shared-slice-read-surely-3 : tie.Need-shared-slice-read-surely-3 Inv-loop μ-loop
-shared-slice-read-surely-3 c = search needs
-
-surely-requires-3 : tie.Need-surely-requires-3 Inv-loop μ-loop
-surely-requires-3 c κs = search needs
-
-add-advance-while-2 : tie.Need-add-advance-while-2 Inv-loop μ-loop
-add-advance-while-2 c = search needs
-
-advance-while-requires-3 : tie.Need-advance-while-requires-3 Inv-loop μ-loop
-advance-while-requires-3 c κs = search needs
-
 returns-3 : tie.Need-returns-3 Inv-loop μ-loop
 returns-3 c = c .advance-while3 .ensures ∙ sym (two (c .before .before .before .before) .goes)
-
-add-surely-3 : tie.Need-add-surely-3 Inv-loop μ-loop
-add-surely-3 c = search needs
-
-shared-slice-read-surely-4 : tie.Need-shared-slice-read-surely-4 Inv-loop μ-loop
-shared-slice-read-surely-4 c = search needs
-
-surely-requires-4 : tie.Need-surely-requires-4 Inv-loop μ-loop
-surely-requires-4 c κs = search needs
-
-add-advance-while-3 : tie.Need-add-advance-while-3 Inv-loop μ-loop
-add-advance-while-3 c = search needs
-
-advance-while-requires-4 : tie.Need-advance-while-requires-4 Inv-loop μ-loop
-advance-while-requires-4 c κs = search needs
 
 returns-4 : tie.Need-returns-4 Inv-loop μ-loop
 returns-4 c = c .advance-while4 .ensures ∙ sym (three (c .before .before .before .before) .goes)
 
-add-at : tie.Need-add-at Inv-loop μ-loop
-add-at c = search needs
-
-loop-less : tie.Need-loop-less Inv-loop μ-loop
-loop-less c = search needs
-
 loop-again : tie.Need-loop-again Inv-loop μ-loop
 loop-again c = reaches-next (three (c .before .before .before)) (omega arith) (omega arith) (c .before .surely4 .ensures (not-false _ (c .if4 .left)))
-
-advance-while-requires-5 : tie.Need-advance-while-requires-5 Inv-loop μ-loop
-advance-while-requires-5 c κs = search needs
 
 returns-5 : tie.Need-returns-5 Inv-loop μ-loop
 returns-5 c = c .advance-while5 .ensures ∙ sym (c .before .before .loop .inv .goes)
@@ -127,31 +61,31 @@ run-end-spec =
     Inv-loop
     μ-loop
     loop-holds
-    sub-loop
-    shared-slice-read-surely
-    surely-requires
-    advance-while-requires
+    (λ c. search needs)
+    (λ c. search needs)
+    (λ c κs. search needs)
+    (λ c κs. search needs)
     returns
-    add-surely
-    shared-slice-read-surely-2
-    surely-requires-2
-    add-advance-while
-    advance-while-requires-2
+    (λ c. search needs)
+    (λ c. search needs)
+    (λ c κs. search needs)
+    (λ c. search needs)
+    (λ c κs. search needs)
     returns-2
-    add-surely-2
-    shared-slice-read-surely-3
-    surely-requires-3
-    add-advance-while-2
-    advance-while-requires-3
+    (λ c. search needs)
+    (λ c. search needs)
+    (λ c κs. search needs)
+    (λ c. search needs)
+    (λ c κs. search needs)
     returns-3
-    add-surely-3
-    shared-slice-read-surely-4
-    surely-requires-4
-    add-advance-while-3
-    advance-while-requires-4
+    (λ c. search needs)
+    (λ c. search needs)
+    (λ c κs. search needs)
+    (λ c. search needs)
+    (λ c κs. search needs)
     returns-4
-    add-at
-    loop-less
+    (λ c. search needs)
+    (λ c. search needs)
     loop-again
-    advance-while-requires-5
+    (λ c κs. search needs)
     returns-5)

@@ -17,12 +17,6 @@ above b e =
     let h = ltb-true 13 b e in
     rw (ne-eqb b 10 (λ q. omega arith), ne-eqb b 13 (λ q. omega arith)) refl
 
-enum-told : tie.Need-enum-told
-enum-told c = search needs
-
-enum-told-2 : tie.Need-enum-told-2
-enum-told-2 c = search needs
-
 returns : tie.Need-returns
 returns c = λ e.
     let b = c .before .before .args .b in
@@ -37,4 +31,4 @@ returns-3 : tie.Need-returns-3
 returns-3 c = λ e. absurd (false≢true e)
 
 pub surely-spec : {M : Type 1} → statement M
-surely-spec = tie.close (tie.spec enum-told enum-told-2 returns returns-2 returns-3)
+surely-spec = tie.close (tie.spec (λ c. search needs) (λ c. search needs) returns returns-2 returns-3)

@@ -36,74 +36,20 @@ three c = reaches-next (two (c .before .before .before)) (omega arith) (omega ar
 loop-holds : tie.Need-loop-holds Inv-loop μ-loop
 loop-holds c = record { within = search needs; goes = refl }
 
-sub-loop : tie.Need-sub-loop Inv-loop μ-loop
-sub-loop c = search needs
-
-shared-slice-read-is-word : tie.Need-shared-slice-read-is-word Inv-loop μ-loop
-shared-slice-read-is-word c = search needs
-
-is-word-requires : tie.Need-is-word-requires Inv-loop μ-loop
-is-word-requires c κs = search needs
-
 returns : tie.Need-returns Inv-loop μ-loop
 returns c = reaches-end (c .before .before .before .before .loop .inv) (omega arith) (sym (c .before .is-word .ensures) ∙ not-true _ (c .if1 .taken))
-
-add-is-word : tie.Need-add-is-word Inv-loop μ-loop
-add-is-word c = search needs
-
-shared-slice-read-is-word-2 : tie.Need-shared-slice-read-is-word-2 Inv-loop μ-loop
-shared-slice-read-is-word-2 c = search needs
-
-is-word-requires-2 : tie.Need-is-word-requires-2 Inv-loop μ-loop
-is-word-requires-2 c κs = search needs
-
-add-result : tie.Need-add-result Inv-loop μ-loop
-add-result c = search needs
 
 returns-2 : tie.Need-returns-2 Inv-loop μ-loop
 returns-2 c = reaches-end (one (c .before .before .before)) (omega arith) (sym (c .before .is-word2 .ensures) ∙ not-true _ (c .if2 .taken))
 
-add-is-word-2 : tie.Need-add-is-word-2 Inv-loop μ-loop
-add-is-word-2 c = search needs
-
-shared-slice-read-is-word-3 : tie.Need-shared-slice-read-is-word-3 Inv-loop μ-loop
-shared-slice-read-is-word-3 c = search needs
-
-is-word-requires-3 : tie.Need-is-word-requires-3 Inv-loop μ-loop
-is-word-requires-3 c κs = search needs
-
-add-result-2 : tie.Need-add-result-2 Inv-loop μ-loop
-add-result-2 c = search needs
-
 returns-3 : tie.Need-returns-3 Inv-loop μ-loop
 returns-3 c = reaches-end (two (c .before .before .before)) (omega arith) (sym (c .before .is-word3 .ensures) ∙ not-true _ (c .if3 .taken))
-
-add-is-word-3 : tie.Need-add-is-word-3 Inv-loop μ-loop
-add-is-word-3 c = search needs
-
-shared-slice-read-is-word-4 : tie.Need-shared-slice-read-is-word-4 Inv-loop μ-loop
-shared-slice-read-is-word-4 c = search needs
-
-is-word-requires-4 : tie.Need-is-word-requires-4 Inv-loop μ-loop
-is-word-requires-4 c κs = search needs
-
-add-result-3 : tie.Need-add-result-3 Inv-loop μ-loop
-add-result-3 c = search needs
 
 returns-4 : tie.Need-returns-4 Inv-loop μ-loop
 returns-4 c = reaches-end (three (c .before .before .before)) (omega arith) (sym (c .before .is-word4 .ensures) ∙ not-true _ (c .if4 .taken))
 
-add-at : tie.Need-add-at Inv-loop μ-loop
-add-at c = search needs
-
-loop-less : tie.Need-loop-less Inv-loop μ-loop
-loop-less c = search needs
-
 loop-again : tie.Need-loop-again Inv-loop μ-loop
 loop-again c = reaches-next (three (c .before .before .before)) (omega arith) (omega arith) (sym (c .before .is-word4 .ensures) ∙ not-false _ (c .if4 .left))
-
-word-tail-requires : tie.Need-word-tail-requires Inv-loop μ-loop
-word-tail-requires c κs = search needs
 
 returns-5 : tie.Need-returns-5 Inv-loop μ-loop
 returns-5 c = c .word-tail .ensures ∙ sym (c .before .before .loop .inv .goes)
@@ -115,27 +61,27 @@ word-end-spec =
     Inv-loop
     μ-loop
     loop-holds
-    sub-loop
-    shared-slice-read-is-word
-    is-word-requires
+    (λ c. search needs)
+    (λ c. search needs)
+    (λ c κs. search needs)
     returns
-    add-is-word
-    shared-slice-read-is-word-2
-    is-word-requires-2
-    add-result
+    (λ c. search needs)
+    (λ c. search needs)
+    (λ c κs. search needs)
+    (λ c. search needs)
     returns-2
-    add-is-word-2
-    shared-slice-read-is-word-3
-    is-word-requires-3
-    add-result-2
+    (λ c. search needs)
+    (λ c. search needs)
+    (λ c κs. search needs)
+    (λ c. search needs)
     returns-3
-    add-is-word-3
-    shared-slice-read-is-word-4
-    is-word-requires-4
-    add-result-3
+    (λ c. search needs)
+    (λ c. search needs)
+    (λ c κs. search needs)
+    (λ c. search needs)
     returns-4
-    add-at
-    loop-less
+    (λ c. search needs)
+    (λ c. search needs)
     loop-again
-    word-tail-requires
+    (λ c κs. search needs)
     returns-5)

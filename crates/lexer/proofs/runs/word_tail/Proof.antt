@@ -19,20 +19,8 @@ abbrev μ-loop : tie.MeasureT-loop
 loop-holds : tie.Need-loop-holds Inv-loop μ-loop
 loop-holds c = record { within = search needs; goes = refl }
 
-shared-slice-read-is-word : tie.Need-shared-slice-read-is-word Inv-loop μ-loop
-shared-slice-read-is-word c = search needs
-
-is-word-requires : tie.Need-is-word-requires Inv-loop μ-loop
-is-word-requires c κs = search needs
-
 returns : tie.Need-returns Inv-loop μ-loop
 returns c = reaches-end (c .before .before .before .before .loop .inv) (search needs) (sym (c .before .is-word .ensures) ∙ not-true _ (c .if1 .taken))
-
-add-at : tie.Need-add-at Inv-loop μ-loop
-add-at c = search needs
-
-loop-less : tie.Need-loop-less Inv-loop μ-loop
-loop-less c = search needs
 
 loop-again : tie.Need-loop-again Inv-loop μ-loop
 loop-again c = reaches-next (c .before .before .before .before .loop .inv) (search needs) refl (sym (c .before .is-word .ensures) ∙ not-false _ (c .if1 .left))
@@ -47,10 +35,10 @@ word-tail-spec =
     Inv-loop
     μ-loop
     loop-holds
-    shared-slice-read-is-word
-    is-word-requires
+    (λ c. search needs)
+    (λ c κs. search needs)
     returns
-    add-at
-    loop-less
+    (λ c. search needs)
+    (λ c. search needs)
     loop-again
     returns-2)

@@ -40,43 +40,19 @@ module _ (t : List ℕ) (h : (0 < length t) × (getD t 0 0 ≡ 101)) where
       ∙ ap (cond (same else-text t) 5) (compared end-text t 6 (cond z 7 n) q ∙ ap (cond (same end-text t) 6) (compared enum-text t 7 n r ∙ ap (cond (same enum-text t) 7) e))
       ∙ by-words
 
-slice-aggregate-same : tie.Need-slice-aggregate-same
-slice-aggregate-same c = search needs
-
-same-requires : tie.Need-same-requires
-same-requires c κs = search needs
-
 returns : tie.Need-returns
 returns c =
     rw (c .if1 .taken) at (answers _ (c .before .before .before .before .pre) (c .before .same .ensures) refl refl refl)
-
-slice-aggregate-same-2 : tie.Need-slice-aggregate-same-2
-slice-aggregate-same-2 c = search needs
-
-same-requires-2 : tie.Need-same-requires-2
-same-requires-2 c κs = search needs
 
 returns-2 : tie.Need-returns-2
 returns-2 c =
     let s = c .before .before .before .before .before .before in
     rw (c .before .before .before .if1 .left, c .if2 .taken) at (answers _ (s .before .pre) (c .before .before .before .before .same .ensures) (c .before .same2 .ensures) refl refl)
 
-slice-aggregate-same-3 : tie.Need-slice-aggregate-same-3
-slice-aggregate-same-3 c = search needs
-
-same-requires-3 : tie.Need-same-requires-3
-same-requires-3 c κs = search needs
-
 returns-3 : tie.Need-returns-3
 returns-3 c =
     let s = c .before .before .before .before .before .before in
     rw (c .before .before .before .before .before .before .if1 .left, c .before .before .before .if2 .left, c .if3 .taken) at (answers _ (s .before .before .before .before .pre) (s .before .same .ensures) (c .before .before .before .before .same2 .ensures) (c .before .same3 .ensures) refl)
-
-slice-aggregate-only : tie.Need-slice-aggregate-only
-slice-aggregate-only c = search needs
-
-only-requires : tie.Need-only-requires
-only-requires c κs = search needs
 
 returns-4 : tie.Need-returns-4
 returns-4 c =
@@ -87,15 +63,15 @@ pub e-word-spec : {M : Type 1} → statement M
 e-word-spec =
     tie.close
     (tie.spec
-    slice-aggregate-same
-    same-requires
+    (λ c. search needs)
+    (λ c κs. search needs)
     returns
-    slice-aggregate-same-2
-    same-requires-2
+    (λ c. search needs)
+    (λ c κs. search needs)
     returns-2
-    slice-aggregate-same-3
-    same-requires-3
+    (λ c. search needs)
+    (λ c κs. search needs)
     returns-3
-    slice-aggregate-only
-    only-requires
+    (λ c. search needs)
+    (λ c κs. search needs)
     returns-4)

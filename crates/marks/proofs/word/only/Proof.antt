@@ -4,9 +4,6 @@ use Rattle.marks.proofs.Texts.{compared}
 use Rattle.marks.proofs.word.only.Statement.{statement}
 use Rattle.marks.proofs.word.only.Tie as tie
 
-same-requires : tie.Need-same-requires
-same-requires c κs = search needs
-
 returns : tie.Need-returns
 returns c = rw (c .if1 .taken) at (compared _ _ (c .before .before .before .before .args .n) 0 (c .before .same .ensures))
 
@@ -14,4 +11,4 @@ returns-2 : tie.Need-returns-2
 returns-2 c = rw (c .if1 .left) at (compared _ _ (c .before .before .before .before .args .n) 0 (c .before .same .ensures))
 
 pub only-spec : {M : Type 1} → statement M
-only-spec = tie.close (tie.spec same-requires returns returns-2)
+only-spec = tie.close (tie.spec (λ c κs. search needs) returns returns-2)

@@ -38,31 +38,13 @@ module _ (t : List ℕ) (h : (0 < length t) × (getD t 0 0 ≡ 112)) where
       ∙ ap (cond (same package-text t) 11) (compared proc-text t 12 n q ∙ ap (cond (same proc-text t) 12) e)
       ∙ by-words
 
-slice-aggregate-same : tie.Need-slice-aggregate-same
-slice-aggregate-same c = search needs
-
-same-requires : tie.Need-same-requires
-same-requires c κs = search needs
-
 returns : tie.Need-returns
 returns c = rw (c .if1 .taken) at (answers _ (c .before .before .before .before .pre) (c .before .same .ensures) refl refl)
-
-slice-aggregate-same-2 : tie.Need-slice-aggregate-same-2
-slice-aggregate-same-2 c = search needs
-
-same-requires-2 : tie.Need-same-requires-2
-same-requires-2 c κs = search needs
 
 returns-2 : tie.Need-returns-2
 returns-2 c =
     let s = c .before .before .before .before .before .before in
     rw (c .before .before .before .if1 .left, c .if2 .taken) at (answers _ (s .before .pre) (c .before .before .before .before .same .ensures) (c .before .same2 .ensures) refl)
-
-slice-aggregate-only : tie.Need-slice-aggregate-only
-slice-aggregate-only c = search needs
-
-only-requires : tie.Need-only-requires
-only-requires c κs = search needs
 
 returns-3 : tie.Need-returns-3
 returns-3 c =
@@ -73,12 +55,12 @@ pub p-word-spec : {M : Type 1} → statement M
 p-word-spec =
     tie.close
     (tie.spec
-    slice-aggregate-same
-    same-requires
+    (λ c. search needs)
+    (λ c κs. search needs)
     returns
-    slice-aggregate-same-2
-    same-requires-2
+    (λ c. search needs)
+    (λ c κs. search needs)
     returns-2
-    slice-aggregate-only
-    only-requires
+    (λ c. search needs)
+    (λ c κs. search needs)
     returns-3)

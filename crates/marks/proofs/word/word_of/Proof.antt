@@ -9,81 +9,6 @@ use Rattle.marks.proofs.Texts.{led, Only, other}
 use Rattle.marks.proofs.word.word_of.Statement.{statement}
 use Rattle.marks.proofs.word.word_of.Tie as tie
 
-shared-slice-read-b : tie.Need-shared-slice-read-b
-shared-slice-read-b c = search needs
-
-slice-aggregate-only : tie.Need-slice-aggregate-only
-slice-aggregate-only c = search needs
-
-only-requires : tie.Need-only-requires
-only-requires c κs = search needs
-
-slice-aggregate-only-2 : tie.Need-slice-aggregate-only-2
-slice-aggregate-only-2 c = search needs
-
-only-requires-2 : tie.Need-only-requires-2
-only-requires-2 c κs = search needs
-
-slice-aggregate-only-3 : tie.Need-slice-aggregate-only-3
-slice-aggregate-only-3 c = search needs
-
-only-requires-3 : tie.Need-only-requires-3
-only-requires-3 c κs = search needs
-
-slice-aggregate-only-4 : tie.Need-slice-aggregate-only-4
-slice-aggregate-only-4 c = search needs
-
-only-requires-4 : tie.Need-only-requires-4
-only-requires-4 c κs = search needs
-
-e-word-requires : tie.Need-e-word-requires
-e-word-requires c κs = search needs
-
-slice-aggregate-only-5 : tie.Need-slice-aggregate-only-5
-slice-aggregate-only-5 c = search needs
-
-only-requires-5 : tie.Need-only-requires-5
-only-requires-5 c κs = search needs
-
-slice-aggregate-only-6 : tie.Need-slice-aggregate-only-6
-slice-aggregate-only-6 c = search needs
-
-only-requires-6 : tie.Need-only-requires-6
-only-requires-6 c κs = search needs
-
-slice-aggregate-only-7 : tie.Need-slice-aggregate-only-7
-slice-aggregate-only-7 c = search needs
-
-only-requires-7 : tie.Need-only-requires-7
-only-requires-7 c κs = search needs
-
-p-word-requires : tie.Need-p-word-requires
-p-word-requires c κs = search needs
-
-slice-aggregate-only-8 : tie.Need-slice-aggregate-only-8
-slice-aggregate-only-8 c = search needs
-
-only-requires-8 : tie.Need-only-requires-8
-only-requires-8 c κs = search needs
-
-slice-aggregate-only-9 : tie.Need-slice-aggregate-only-9
-slice-aggregate-only-9 c = search needs
-
-only-requires-9 : tie.Need-only-requires-9
-only-requires-9 c κs = search needs
-
-slice-aggregate-only-10 : tie.Need-slice-aggregate-only-10
-slice-aggregate-only-10 c = search needs
-
-only-requires-10 : tie.Need-only-requires-10
-only-requires-10 c κs = search needs
-
-slice-aggregate-only-11 : tie.Need-slice-aggregate-only-11
-slice-aggregate-only-11 c = search needs
-
-only-requires-11 : tie.Need-only-requires-11
-only-requires-11 c κs = search needs
-
 returns : tie.Need-returns
 unfolding text-number numberIn words same
 returns c =
@@ -108,9 +33,6 @@ returns-4 c =
     let s = c .before .before .before .before .before in
     c .only4 .ensures ∙ led (Only 4 (100 ∷ 111 ∷ [])) 100 (s .args .text .now) (s .pre) (c .before .before .match .keys4) (λ r. refl)
 
-returns-5 : tie.Need-returns-5
-returns-5 c = search needs
-
 returns-6 : tie.Need-returns-6
 unfolding text-number numberIn words same
 returns-6 c =
@@ -128,9 +50,6 @@ unfolding text-number numberIn words same
 returns-8 c =
     let s = c .before .before .before .before .before in
     c .only7 .ensures ∙ led (Only 10 (110 ∷ 97 ∷ 109 ∷ 101 ∷ 115 ∷ 112 ∷ 97 ∷ 99 ∷ 101 ∷ [])) 110 (s .args .text .now) (s .pre) (c .before .before .match .keys8) (λ r. refl)
-
-returns-9 : tie.Need-returns-9
-returns-9 c = search needs
 
 returns-10 : tie.Need-returns-10
 unfolding text-number numberIn words same
@@ -163,40 +82,40 @@ pub word-of-spec : {M : Type 1} → statement M
 word-of-spec =
     tie.close
     (tie.spec
-    shared-slice-read-b
-    slice-aggregate-only
-    only-requires
-    slice-aggregate-only-2
-    only-requires-2
-    slice-aggregate-only-3
-    only-requires-3
-    slice-aggregate-only-4
-    only-requires-4
-    e-word-requires
-    slice-aggregate-only-5
-    only-requires-5
-    slice-aggregate-only-6
-    only-requires-6
-    slice-aggregate-only-7
-    only-requires-7
-    p-word-requires
-    slice-aggregate-only-8
-    only-requires-8
-    slice-aggregate-only-9
-    only-requires-9
-    slice-aggregate-only-10
-    only-requires-10
-    slice-aggregate-only-11
-    only-requires-11
+    (λ c. search needs)
+    (λ c. search needs)
+    (λ c κs. search needs)
+    (λ c. search needs)
+    (λ c κs. search needs)
+    (λ c. search needs)
+    (λ c κs. search needs)
+    (λ c. search needs)
+    (λ c κs. search needs)
+    (λ c κs. search needs)
+    (λ c. search needs)
+    (λ c κs. search needs)
+    (λ c. search needs)
+    (λ c κs. search needs)
+    (λ c. search needs)
+    (λ c κs. search needs)
+    (λ c κs. search needs)
+    (λ c. search needs)
+    (λ c κs. search needs)
+    (λ c. search needs)
+    (λ c κs. search needs)
+    (λ c. search needs)
+    (λ c κs. search needs)
+    (λ c. search needs)
+    (λ c κs. search needs)
     returns
     returns-2
     returns-3
     returns-4
-    returns-5
+    (λ c. search needs)
     returns-6
     returns-7
     returns-8
-    returns-9
+    (λ c. search needs)
     returns-10
     returns-11
     returns-12

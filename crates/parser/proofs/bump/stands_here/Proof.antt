@@ -6,12 +6,6 @@ use borrow.Author.Tests.{not-true}
 use Rattle.parser.proofs.bump.stands_here.Statement.{statement}
 use Rattle.parser.proofs.bump.stands_here.Tie as tie
 
-at-kind-requires : tie.Need-at-kind-requires
-at-kind-requires c κs = search needs
-
-is-regular-trivia-requires : tie.Need-is-regular-trivia-requires
-is-regular-trivia-requires c κs = search needs
-
 returns : tie.Need-returns
 returns c = λ e. (sym (c .before .before .at-kind .ensures) ∙ c .before .if1 .taken, sym (c .is-regular-trivia .ensures) ∙ not-true _ e)
 
@@ -19,4 +13,4 @@ returns-2 : tie.Need-returns-2
 returns-2 c = λ e. absurd (false≢true (sym (c .if1 .left) ∙ e))
 
 pub stands-here-spec : {M : Type 1} → statement M
-stands-here-spec = tie.close (tie.spec at-kind-requires is-regular-trivia-requires returns returns-2)
+stands-here-spec = tie.close (tie.spec (λ c κs. search needs) (λ c κs. search needs) returns returns-2)

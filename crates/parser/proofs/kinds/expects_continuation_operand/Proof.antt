@@ -8,12 +8,9 @@ use Rattle.parser.specs.Sets.{bits-are}
 use Rattle.parser.proofs.kinds.expects_continuation_operand.Statement.{statement}
 use Rattle.parser.proofs.kinds.expects_continuation_operand.Tie as tie
 
-in-set-requires : tie.Need-in-set-requires
-in-set-requires c κs = search needs
-
 returns : tie.Need-returns
 unfolding oneOf
 returns c = c .in-set .ensures ∙ bits-are _ (Dot ∷ Equal ∷ Comma ∷ DotDot ∷ DotDotDot ∷ Colon ∷ ColonColon ∷ RArrow ∷ Plus ∷ Minus ∷ Star ∷ Slash ∷ SlashSlash ∷ LBracket ∷ LParen ∷ LBrace ∷ []) (c .before .args .k) tt tt
 
 pub expects-continuation-operand-spec : {M : Type 1} → statement M
-expects-continuation-operand-spec = tie.close (tie.spec in-set-requires returns)
+expects-continuation-operand-spec = tie.close (tie.spec (λ c κs. search needs) returns)

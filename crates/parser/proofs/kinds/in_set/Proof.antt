@@ -9,12 +9,9 @@ returns : tie.Need-returns
 unfolding bit
 returns c = rw (le-ltb _ _ (c .if1 .taken))
 
-shr-result : tie.Need-shr-result
-shr-result c = search needs
-
 returns-2 : tie.Need-returns-2
 unfolding bit
 returns-2 c = rw (lt-ltb _ _ (c .if1 .left))
 
 pub in-set-spec : {M : Type 1} → statement M
-in-set-spec = tie.close (tie.spec returns shr-result returns-2)
+in-set-spec = tie.close (tie.spec returns (λ c. search needs) returns-2)

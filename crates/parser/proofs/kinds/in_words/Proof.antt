@@ -5,9 +5,6 @@ use Rattle.parser.specs.Sets.{word-bit}
 use Rattle.parser.proofs.kinds.in_words.Statement.{statement}
 use Rattle.parser.proofs.kinds.in_words.Tie as tie
 
-in-set-requires : tie.Need-in-set-requires
-in-set-requires c κs = search needs
-
 returns : tie.Need-returns
 unfolding word-bit
 returns c = rw (eq-eqb _ _ (c .before .if1 .taken)) (c .in-set .ensures)
@@ -17,4 +14,4 @@ unfolding word-bit
 returns-2 c = rw (ne-eqb _ _ (c .if1 .left))
 
 pub in-words-spec : {M : Type 1} → statement M
-in-words-spec = tie.close (tie.spec in-set-requires returns returns-2)
+in-words-spec = tie.close (tie.spec (λ c κs. search needs) returns returns-2)

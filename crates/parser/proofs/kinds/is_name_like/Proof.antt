@@ -20,9 +20,6 @@ plain : (k : ℕ) → k < MARK → oneOf (Ident ∷ SpecialIdent ∷ QuotedIdent
 unfolding name-like oneOf
 plain k h = rw (lt-ltb k MARK h)
 
-in-set-requires : tie.Need-in-set-requires
-in-set-requires c κs = search needs
-
 returns : tie.Need-returns
 returns c = word _ (c .if1 .taken)
 
@@ -31,4 +28,4 @@ unfolding oneOf
 returns-2 c = c .in-set .ensures ∙ bits-are _ (Ident ∷ SpecialIdent ∷ QuotedIdent ∷ []) (c .before .before .args .k) tt tt ∙ plain _ (c .before .if1 .left)
 
 pub is-name-like-spec : {M : Type 1} → statement M
-is-name-like-spec = tie.close (tie.spec in-set-requires returns returns-2)
+is-name-like-spec = tie.close (tie.spec (λ c κs. search needs) returns returns-2)

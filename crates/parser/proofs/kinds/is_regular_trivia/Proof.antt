@@ -8,12 +8,9 @@ use Rattle.parser.specs.Sets.{trivia-to, trivia-is}
 use Rattle.parser.proofs.kinds.is_regular_trivia.Statement.{statement}
 use Rattle.parser.proofs.kinds.is_regular_trivia.Tie as tie
 
-is-trivia-to-requires : tie.Need-is-trivia-to-requires
-is-trivia-to-requires c κs = search needs
-
 returns : tie.Need-returns
 unfolding oneOf trivia-to
 returns c = c .is-trivia-to .ensures ∙ trivia-is _ (Whitespace ∷ Newline ∷ Comment ∷ []) (c .before .args .k) tt tt
 
 pub is-regular-trivia-spec : {M : Type 1} → statement M
-is-regular-trivia-spec = tie.close (tie.spec is-trivia-to-requires returns)
+is-regular-trivia-spec = tie.close (tie.spec (λ c κs. search needs) returns)

@@ -7,9 +7,6 @@ use Rattle.parser.specs.Sets.{word-bits-are}
 use Rattle.parser.proofs.kinds.is_reserved_block_keyword.Statement.{statement}
 use Rattle.parser.proofs.kinds.is_reserved_block_keyword.Tie as tie
 
-in-words-requires : tie.Need-in-words-requires
-in-words-requires c κs = search needs
-
 -- all sixteen words but the eleventh, `package`
 returns : tie.Need-returns
 unfolding oneOf
@@ -18,4 +15,4 @@ returns c =
     ∙ word-bits-are _ (1 ∷ 2 ∷ 3 ∷ 4 ∷ 5 ∷ 6 ∷ 7 ∷ 8 ∷ 9 ∷ 10 ∷ 12 ∷ 13 ∷ 14 ∷ 15 ∷ 16 ∷ []) (c .before .args .k) tt tt
 
 pub is-reserved-block-keyword-spec : {M : Type 1} → statement M
-is-reserved-block-keyword-spec = tie.close (tie.spec in-words-requires returns)
+is-reserved-block-keyword-spec = tie.close (tie.spec (λ c κs. search needs) returns)

@@ -6,12 +6,6 @@ use Rattle.grammar.specs.Look.{is-reserved-block-keyword, starts-instruction}
 use Rattle.parser.proofs.kinds.starts_instruction.Statement.{statement}
 use Rattle.parser.proofs.kinds.starts_instruction.Tie as tie
 
-is-name-like-requires : tie.Need-is-name-like-requires
-is-name-like-requires c κs = search needs
-
-is-reserved-block-keyword-requires : tie.Need-is-reserved-block-keyword-requires
-is-reserved-block-keyword-requires c κs = search needs
-
 returns : tie.Need-returns
 unfolding starts-instruction
 returns c =
@@ -22,4 +16,4 @@ unfolding starts-instruction
 returns-2 c = rw (← c .before .is-name-like .ensures, c .if1 .left)
 
 pub starts-instruction-spec : {M : Type 1} → statement M
-starts-instruction-spec = tie.close (tie.spec is-name-like-requires is-reserved-block-keyword-requires returns returns-2)
+starts-instruction-spec = tie.close (tie.spec (λ c κs. search needs) (λ c κs. search needs) returns returns-2)

@@ -15,12 +15,6 @@ use Rattle.parser.proofs.kinds.starts_item.Tie as tie
 abbrev start : tie.After-in-words → tie.Start
 start c = c .before .before .before
 
-in-set-requires : tie.Need-in-set-requires
-in-set-requires c κs = search needs
-
-in-words-requires : tie.Need-in-words-requires
-in-words-requires c κs = search needs
-
 -- adv_map, begin, const, enum, mod, namespace, proc, type
 abbrev words : List ℕ
 words = 1 ∷ 2 ∷ 3 ∷ 7 ∷ 9 ∷ 10 ∷ 12 ∷ 15 ∷ []
@@ -53,4 +47,4 @@ returns-2 c =
     ∙ split DocComment At (keys words) k
 
 pub starts-item-spec : {M : Type 1} → statement M
-starts-item-spec = tie.close (tie.spec in-set-requires in-words-requires returns returns-2)
+starts-item-spec = tie.close (tie.spec (λ c κs. search needs) (λ c κs. search needs) returns returns-2)

@@ -6,20 +6,11 @@ use borrow.Author.Needs.{needs}
 use Rattle.show.proofs.diagnostics.step.Statement.{statement}
 use Rattle.show.proofs.diagnostics.step.Tie as tie
 
-shared-slice-read-if1 : tie.Need-shared-slice-read-if1
-shared-slice-read-if1 c = search needs
-
-add-t9 : tie.Need-add-t9
-add-t9 c = search needs
-
 add-t10 : tie.Need-add-t10
 add-t10 c = omega (arith, c .before .before .pre .1, few _ _ (c .before .before .pre .0) (c .before .before .pre .1))
 
 returns : tie.Need-returns
 returns c = (behind-line _ _ (c .before .before .pre .0) (c .before .before .pre .1) (c .if1 .taken), refl)
-
-add-t11 : tie.Need-add-t11
-add-t11 c = search needs
 
 add-t12 : tie.Need-add-t12
 add-t12 c = omega (arith, c .before .before .pre .1, few _ _ (c .before .before .pre .0) (c .before .before .pre .1))
@@ -29,4 +20,4 @@ returns-2 c = (same-line _ _ (c .before .before .pre .0) (c .before .before .pre
 
 pub step-spec : {M : Type 1} → statement M
 step-spec =
-    tie.close (tie.spec shared-slice-read-if1 add-t9 add-t10 returns add-t11 add-t12 returns-2)
+    tie.close (tie.spec (λ c. search needs) (λ c. search needs) add-t10 returns (λ c. search needs) add-t12 returns-2)

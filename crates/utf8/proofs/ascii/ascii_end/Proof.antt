@@ -17,28 +17,10 @@ abbrev μ-loop : tie.MeasureT-loop
 loop-holds : tie.Need-loop-holds Inv-loop μ-loop
 loop-holds c = passes-none _ _ (omega arith)
 
-sub-loop : tie.Need-sub-loop Inv-loop μ-loop
-sub-loop c = search needs
-
-most-requires : tie.Need-most-requires Inv-loop μ-loop
-most-requires c κs = search needs
-
-returns : tie.Need-returns Inv-loop μ-loop
-returns c = search needs
-
-add-at : tie.Need-add-at Inv-loop μ-loop
-add-at c = search needs
-
-loop-less : tie.Need-loop-less Inv-loop μ-loop
-loop-less c = search needs
-
 loop-again : tie.Need-loop-again Inv-loop μ-loop
 loop-again c =
     let l = c .before .before .before .loop in
     passes-both (l .inv) (passes-ascii _ 64 (l .at) (omega arith) (λ k h. omega (arith, c .before .most .ensures k h)))
-
-returns-2 : tie.Need-returns-2 Inv-loop μ-loop
-returns-2 c = search needs
 
 pub ascii-end-spec : {M : Type 1} → statement M
 ascii-end-spec =
@@ -47,10 +29,10 @@ ascii-end-spec =
     Inv-loop
     μ-loop
     loop-holds
-    sub-loop
-    most-requires
-    returns
-    add-at
-    loop-less
+    (λ c. search needs)
+    (λ c κs. search needs)
+    (λ c. search needs)
+    (λ c. search needs)
+    (λ c. search needs)
     loop-again
-    returns-2)
+    (λ c. search needs))

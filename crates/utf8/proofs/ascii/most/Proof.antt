@@ -14,21 +14,6 @@ Inv-loop source at most₀ i₀ most i = (i ≤ 64) × ((k : ℕ) → k < i → 
 abbrev μ-loop : tie.MeasureT-loop
 μ-loop source at most₀ i₀ most i = 64 - i
 
-loop-holds : tie.Need-loop-holds Inv-loop μ-loop
-loop-holds c = search needs
-
-add-b : tie.Need-add-b Inv-loop μ-loop
-add-b c = search needs
-
-shared-slice-read-b : tie.Need-shared-slice-read-b Inv-loop μ-loop
-shared-slice-read-b c = search needs
-
-add-i : tie.Need-add-i Inv-loop μ-loop
-add-i c = search needs
-
-loop-less : tie.Need-loop-less Inv-loop μ-loop
-loop-less c = search needs
-
 loop-again : tie.Need-loop-again Inv-loop μ-loop
 loop-again c =
     let l = c .before .before .before .loop in
@@ -46,10 +31,10 @@ most-spec =
     (tie.spec
     Inv-loop
     μ-loop
-    loop-holds
-    add-b
-    shared-slice-read-b
-    add-i
-    loop-less
+    (λ c. search needs)
+    (λ c. search needs)
+    (λ c. search needs)
+    (λ c. search needs)
+    (λ c. search needs)
     loop-again
     returns)

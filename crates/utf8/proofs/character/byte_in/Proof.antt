@@ -12,9 +12,6 @@ use Rattle.utf8.proofs.character.byte_in.Tie as tie
 returns : tie.Need-returns
 returns c = rw (drop-of-length-le _ (c .if1 .taken)) (sym (fits-none _ _))
 
-shared-slice-read-b : tie.Need-shared-slice-read-b
-shared-slice-read-b c = search needs
-
 returns-2 : tie.Need-returns-2
 returns-2 c =
     let a = c .before .before .before .args in
@@ -26,4 +23,4 @@ returns-3 c =
     rw (next-byte (a .source .now) (a .at) (search needs), fits-one, le-leb _ _ (c .if2 .left))
 
 pub byte-in-spec : {M : Type 1} → statement M
-byte-in-spec = tie.close (tie.spec returns shared-slice-read-b returns-2 returns-3)
+byte-in-spec = tie.close (tie.spec returns (λ c. search needs) returns-2 returns-3)

@@ -41,40 +41,10 @@ start-from-three4 c = c .before .before .before .before .before .before .before 
 abbrev start-from-two : tie.After-two → tie.Start
 start-from-two c = c .before .before .before .before .before .before .before
 
-shared-slice-read-b : tie.Need-shared-slice-read-b
-shared-slice-read-b c = search needs
-
 returns : tie.Need-returns
 returns c =
     let a = start c .args in
     sym (ascii-length (a .source .now) (a .at) (omega arith) (omega arith))
-
-add-next : tie.Need-add-next
-add-next c = search needs
-
-three-requires : tie.Need-three-requires
-three-requires c κs = search needs
-
-three-requires-2 : tie.Need-three-requires-2
-three-requires-2 c κs = search needs
-
-four-requires : tie.Need-four-requires
-four-requires c κs = search needs
-
-four-requires-2 : tie.Need-four-requires-2
-four-requires-2 c κs = search needs
-
-two-requires : tie.Need-two-requires
-two-requires c κs = search needs
-
-three-requires-3 : tie.Need-three-requires-3
-three-requires-3 c κs = search needs
-
-three-requires-4 : tie.Need-three-requires-4
-three-requires-4 c κs = search needs
-
-four-requires-3 : tie.Need-four-requires-3
-four-requires-3 c κs = search needs
 
 returns-2 : tie.Need-returns-2
 unfolding table-3-7
@@ -140,17 +110,17 @@ pub char-length-spec : {M : Type 1} → statement M
 char-length-spec =
     tie.close
     (tie.spec
-    shared-slice-read-b
+    (λ c. search needs)
     returns
-    add-next
-    three-requires
-    three-requires-2
-    four-requires
-    four-requires-2
-    two-requires
-    three-requires-3
-    three-requires-4
-    four-requires-3
+    (λ c. search needs)
+    (λ c κs. search needs)
+    (λ c κs. search needs)
+    (λ c κs. search needs)
+    (λ c κs. search needs)
+    (λ c κs. search needs)
+    (λ c κs. search needs)
+    (λ c κs. search needs)
+    (λ c κs. search needs)
     returns-2
     returns-3
     returns-4

@@ -6,17 +6,8 @@ use Rattle.utf8.proofs.Laws.{tail-then, tail-not}
 use Rattle.utf8.proofs.character.four.Statement.{statement}
 use Rattle.utf8.proofs.character.four.Tie as tie
 
-byte-in-requires : tie.Need-byte-in-requires
-byte-in-requires c κs = search needs
-
 returns : tie.Need-returns
 returns c = rw (tail-not _ _ _ _ (sym (c .before .byte-in .ensures) ∙ not-true _ (c .if1 .taken)))
-
-add-third : tie.Need-add-third
-add-third c = search needs
-
-byte-in-requires-2 : tie.Need-byte-in-requires-2
-byte-in-requires-2 c κs = search needs
 
 returns-2 : tie.Need-returns-2
 returns-2 c =
@@ -24,12 +15,6 @@ returns-2 c =
       tail-then _ _ _ _ (sym (c .before .before .before .byte-in .ensures) ∙ not-false _ (c .before .before .if1 .left)),
       tail-not _ _ _ _ (sym (c .before .byte-in2 .ensures) ∙ not-true _ (c .if2 .taken)),
     )
-
-add-byte-in : tie.Need-add-byte-in
-add-byte-in c = search needs
-
-byte-in-requires-3 : tie.Need-byte-in-requires-3
-byte-in-requires-3 c κs = search needs
 
 returns-3 : tie.Need-returns-3
 returns-3 c =
@@ -51,12 +36,12 @@ pub four-spec : {M : Type 1} → statement M
 four-spec =
     tie.close
     (tie.spec
-    byte-in-requires
+    (λ c κs. search needs)
     returns
-    add-third
-    byte-in-requires-2
+    (λ c. search needs)
+    (λ c κs. search needs)
     returns-2
-    add-byte-in
-    byte-in-requires-3
+    (λ c. search needs)
+    (λ c κs. search needs)
     returns-3
     returns-4)

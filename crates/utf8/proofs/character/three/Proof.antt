@@ -6,17 +6,8 @@ use Rattle.utf8.proofs.Laws.{tail-then, tail-not}
 use Rattle.utf8.proofs.character.three.Statement.{statement}
 use Rattle.utf8.proofs.character.three.Tie as tie
 
-byte-in-requires : tie.Need-byte-in-requires
-byte-in-requires c κs = search needs
-
 returns : tie.Need-returns
 returns c = rw (tail-not _ _ _ _ (sym (c .before .byte-in .ensures) ∙ not-true _ (c .if1 .taken)))
-
-add-byte-in : tie.Need-add-byte-in
-add-byte-in c = search needs
-
-byte-in-requires-2 : tie.Need-byte-in-requires-2
-byte-in-requires-2 c κs = search needs
 
 returns-2 : tie.Need-returns-2
 returns-2 c =
@@ -35,4 +26,4 @@ returns-3 c =
 pub three-spec : {M : Type 1} → statement M
 three-spec =
     tie.close
-    (tie.spec byte-in-requires returns add-byte-in byte-in-requires-2 returns-2 returns-3)
+    (tie.spec (λ c κs. search needs) returns (λ c. search needs) (λ c κs. search needs) returns-2 returns-3)

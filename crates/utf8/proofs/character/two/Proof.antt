@@ -4,9 +4,6 @@ use borrow.Author.Needs.{needs}
 use Rattle.utf8.proofs.character.two.Statement.{statement}
 use Rattle.utf8.proofs.character.two.Tie as tie
 
-byte-in-requires : tie.Need-byte-in-requires
-byte-in-requires c κs = search needs
-
 returns : tie.Need-returns
 returns c = rw (sym (c .before .byte-in .ensures) ∙ c .if1 .taken)
 
@@ -14,4 +11,4 @@ returns-2 : tie.Need-returns-2
 returns-2 c = rw (sym (c .before .byte-in .ensures) ∙ c .if1 .left)
 
 pub two-spec : {M : Type 1} → statement M
-two-spec = tie.close (tie.spec byte-in-requires returns returns-2)
+two-spec = tie.close (tie.spec (λ c κs. search needs) returns returns-2)

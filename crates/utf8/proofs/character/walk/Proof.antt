@@ -18,9 +18,6 @@ abbrev μ-loop : tie.MeasureT-loop
 loop-holds : tie.Need-loop-holds Inv-loop μ-loop
 loop-holds c = passes-none _ _ (omega arith)
 
-char-length-requires : tie.Need-char-length-requires Inv-loop μ-loop
-char-length-requires c κs = search needs
-
 returns : tie.Need-returns Inv-loop μ-loop
 returns c = record { passes = c .before .before .before .loop .inv; stopped = λ _. sym (c .before .char-length .ensures) ∙ c .if1 .taken }
 
@@ -55,7 +52,7 @@ walk-spec =
     Inv-loop
     μ-loop
     loop-holds
-    char-length-requires
+    (λ c κs. search needs)
     returns
     add-at
     loop-less

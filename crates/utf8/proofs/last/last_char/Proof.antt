@@ -38,9 +38,6 @@ abbrev μ-loop : tie.MeasureT-loop
 loop-holds : tie.Need-loop-holds Inv-loop μ-loop
 loop-holds c = record { within = omega arith; passed = λ k p q. absurd (omega arith) }
 
-sub-at : tie.Need-sub-at Inv-loop μ-loop
-sub-at c = search needs
-
 shared-slice-read-b : tie.Need-shared-slice-read-b Inv-loop μ-loop
 shared-slice-read-b c = omega (arith, c .before .before .loop .inv .within)
 
@@ -49,9 +46,6 @@ returns c = let l = c .before .before .before .loop in found (l .inv) (omega ari
 
 returns-2 : tie.Need-returns-2 Inv-loop μ-loop
 returns-2 c = let l = c .before .before .before .before .loop in found (l .inv) (omega arith) (c .before .before .before .before .before .pre) (λ b. omega (arith, b .1))
-
-loop-less : tie.Need-loop-less Inv-loop μ-loop
-loop-less c = search needs
 
 loop-again : tie.Need-loop-again Inv-loop μ-loop
 loop-again c = let l = c .before .before .before .before .loop in goes-on (l .inv) (omega arith) (omega arith)
@@ -69,10 +63,10 @@ last-char-spec =
     Inv-loop
     μ-loop
     loop-holds
-    sub-at
+    (λ c. search needs)
     shared-slice-read-b
     returns
     returns-2
-    loop-less
+    (λ c. search needs)
     loop-again
     returns-3)

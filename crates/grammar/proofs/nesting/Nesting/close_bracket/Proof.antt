@@ -10,12 +10,9 @@ returns : tie.Need-returns
 unfolding close-bracket
 returns c = simp (eq-eqb _ _ (c .if1 .taken))
 
-sub-t5 : tie.Need-sub-t5
-sub-t5 c = search needs
-
 returns-2 : tie.Need-returns-2
 unfolding close-bracket
 returns-2 c = simp (ne-eqb _ _ (c .if1 .left), sub-one)
 
 pub close-bracket-spec : {M : Type 1} → statement M
-close-bracket-spec = tie.close (tie.spec returns sub-t5 returns-2)
+close-bracket-spec = tie.close (tie.spec returns (λ c. search needs) returns-2)

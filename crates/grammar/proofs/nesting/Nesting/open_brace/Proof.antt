@@ -5,12 +5,9 @@ use Rattle.grammar.specs.Nesting.{open-brace}
 use Rattle.grammar.proofs.nesting.Nesting.open_brace.Statement.{statement}
 use Rattle.grammar.proofs.nesting.Nesting.open_brace.Tie as tie
 
-add-t2 : tie.Need-add-t2
-add-t2 c = search needs
-
 returns : tie.Need-returns
 unfolding open-brace
 returns c = rw add-one
 
 pub open-brace-spec : {M : Type 1} → statement M
-open-brace-spec = tie.close (tie.spec add-t2 returns)
+open-brace-spec = tie.close (tie.spec (λ c. search needs) returns)
