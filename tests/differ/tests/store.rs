@@ -33,7 +33,8 @@ fn stored_cases_replay() {
     let counts = [200, 600, 100];
     let examples = stores(&folder, [0; 3]);
     assert!(examples.len() == 3 && examples.iter().all(|count| *count > 0));
-    let expected: Vec<usize> = examples.iter().zip(counts).map(|(some, more)| some + more).collect();
+    let expected: Vec<usize> =
+        examples.iter().zip(counts).map(|(some, more)| some + more).collect();
     assert_eq!(stores(&folder, counts), expected);
 
     let frames = File::open(folder.join("stdin")).unwrap();
