@@ -122,12 +122,7 @@ fn cut_output(
     let m = frame_number(head, 20);
     let s = frame_number(head, 24);
     let e = frame_number(head, 28);
-    if TREE < part
-        || events.len() < v
-        || messages.len() < m
-        || starts.len() < s
-        || stops.len() < e
-    {
+    if events.len() < v || messages.len() < m || starts.len() < s || stops.len() < e {
         return Step { used, more: false };
     }
     body(
@@ -180,7 +175,7 @@ fn cut_tokens(
     )
 }
 
-// One frame, or none where the input ends or a number is too large.
+// One frame, or none where the input ends, there is no such part, or a number is too large.
 fn frame(
     source: &mut [u8],
     kinds: &mut [u16],
@@ -197,7 +192,7 @@ fn frame(
 {
     let mut head = [0u8; 32];
     let got = io::read_full(STDIN_FILENO, &mut head);
-    if got < 32 {
+    if got < 32 || TREE < frame_number(&head, 0) {
         return Step { used, more: false };
     }
     cut_tokens(
