@@ -1,7 +1,5 @@
 //! Cases of every part are stored beside its examples, and the imitation replays them.
 
-mod common;
-
 use std::{
     env,
     fs::{self, File},
@@ -9,7 +7,8 @@ use std::{
     process::{Command, id},
 };
 
-use common::{DIFFER, IMITATION};
+const DIFFER: &str = env!("CARGO_BIN_EXE_differ");
+const IMITATION: &str = env!("CARGO_BIN_EXE_imitation");
 
 /// Stores so many cases of each part; how many it says that there are.
 fn stores(folder: &Path, counts: [usize; 3]) -> Vec<usize> {

@@ -3,7 +3,7 @@
 use std::process::{Command, Output};
 
 pub const DIFFER: &str = env!("CARGO_BIN_EXE_differ");
-pub const IMITATION: &str = env!("CARGO_BIN_EXE_imitation");
+const IMITATION: &str = env!("CARGO_BIN_EXE_imitation");
 
 /// A part that the imitation answers.
 pub struct Imitated {
