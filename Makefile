@@ -18,17 +18,17 @@ test:
 
 # The lexer, the readings and the text of tree against the compiled reference, and the same on N times the sampled cases.
 differ:
-	rt check tokens readings replay
-	cd tests && cargo run --offline --release --bin differ lexer --program ../target/bin/tokens
-	cd tests && cargo run --offline --release --bin differ readings --program ../target/bin/readings
-	cd tests && cargo run --offline --release --bin differ trees --program ../target/bin/replay
+	rt check cases
+	cd tests && cargo run --offline --release --bin differ lexer --program ../target/bin/cases
+	cd tests && cargo run --offline --release --bin differ readings --program ../target/bin/cases
+	cd tests && cargo run --offline --release --bin differ trees --program ../target/bin/cases
 
 N ?= 10
 large:
-	rt check tokens readings replay
-	cd tests && cargo run --offline --release --bin differ lexer --program ../target/bin/tokens --large $(N)
-	cd tests && cargo run --offline --release --bin differ readings --program ../target/bin/readings --large $(N)
-	cd tests && cargo run --offline --release --bin differ trees --program ../target/bin/replay --large $(N)
+	rt check cases
+	cd tests && cargo run --offline --release --bin differ lexer --program ../target/bin/cases --large $(N)
+	cd tests && cargo run --offline --release --bin differ readings --program ../target/bin/cases --large $(N)
+	cd tests && cargo run --offline --release --bin differ trees --program ../target/bin/cases --large $(N)
 
 # The exported call over the corpus, and from C. Needs gcc and valgrind.
 calls:
@@ -48,20 +48,17 @@ fuzz:
 
 # Instructions on sources of n and 2n bytes (docs/PERFORMANCE.md). Needs valgrind.
 growth:
-	rt check readings
-	cd tests && cargo run --offline --release --bin growth -- --program ../target/bin/readings --markdown
+	rt check cases
+	cd tests && cargo run --offline --release --bin growth -- --program ../target/bin/cases --markdown
 
 # Times of the proved lexer and reader, a plain Rust lexer and the reference (docs/PERFORMANCE.md).
 speed:
-	rt staticlib masm_lex
 	rt staticlib cst
 	cd tests && cargo run --offline --profile speed --bin speed
 
 # Writes the stored cases and answers that `rt ci` replays.
 store:
-	cd tests && cargo run --offline --release --bin differ lexer --store ../crates/tokens 100
-	cd tests && cargo run --offline --release --bin differ readings --store ../crates/readings 200
-	cd tests && cargo run --offline --release --bin differ trees --store ../crates/replay 50
+	cd tests && cargo run --offline --release --bin differ -- --store ../crates/cases 100 200 50
 
 # Writes the reference's answers that the grammar's definitions are held to.
 samples:

@@ -1,4 +1,4 @@
-// Calls of `masm_parse_text` that the framed programs do not make: counts of two words, and sources at the greatest length.
+// Calls of `masm_parse_text` that the program `cases` does not make: counts of two words, and sources at the greatest length.
 use frames::output;
 ghost use Rattle.frames.specs.Ready.{Ready};
 

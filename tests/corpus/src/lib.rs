@@ -4,6 +4,7 @@ pub mod chosen;
 pub mod damage;
 pub mod edges;
 pub mod examples;
+pub mod frame;
 pub mod lexical;
 pub mod nested;
 pub mod pairs;

@@ -1,16 +1,24 @@
 //! The UTF-8 check and the lexer.
 
-use corpus::{Case, Family, rooms::Needs};
+use corpus::{
+    Case, Family,
+    frame::{Asked, frame},
+    rooms::Needs,
+};
 use reference::{Rooms, Slices, answer};
 
-use crate::part::{Exchange, Part, frame, push_line};
+use crate::part::{Exchange, Limits, Part, push_line};
 
-pub fn part() -> Part {
-    Part { name: "lexer", families: Family::LEXER, exchange: Box::new(exchange) }
+pub fn part(limits: Limits) -> Part {
+    Part {
+        name: "lexer",
+        families: Family::LEXER,
+        exchange: Box::new(move |case| exchange(case, limits)),
+    }
 }
 
-/// Frame: source length, kinds length, ends length, source. Answer: status and value, kinds, ends.
-fn exchange(case: &Case) -> Exchange {
+/// Answer: status and value, kinds, ends. The other slices are empty.
+fn exchange(case: &Case, limits: Limits) -> Exchange {
     let (status, value, tokens) = match answer::text(&case.source) {
         Err([status, value, ..]) => (status, value, Vec::new()),
         Ok(text) => {
@@ -19,7 +27,7 @@ fn exchange(case: &Case) -> Exchange {
         },
     };
     let needs = Needs { tokens: tokens.len(), ..Needs::default() };
-    let Rooms { token_kinds, token_ends, .. } = case.plan.rooms(needs);
+    let Rooms { token_kinds, token_ends, .. } = limits.cut(case.plan.rooms(needs));
     let rooms = Rooms { token_kinds, token_ends, ..Rooms::NONE };
     let mut slices = Slices::filled(rooms);
     slices.write_tokens(&tokens);
@@ -28,5 +36,5 @@ fn exchange(case: &Case) -> Exchange {
     push_line(&mut expected, [status, value]);
     push_line(&mut expected, slices.token_kinds);
     push_line(&mut expected, slices.token_ends);
-    Exchange { frame: frame(&case.source, &[token_kinds, token_ends]), expected }
+    Exchange { frame: frame(Asked::Tokens, &case.source, rooms), expected }
 }

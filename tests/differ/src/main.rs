@@ -12,16 +12,18 @@ use std::{env, path::Path, process::ExitCode, time::Duration};
 
 use corpus::{Family, Size, cases, pairs};
 use exported::accepted::accepted;
-use part::Part;
-use readings::{Limits, check_joins};
+use part::{Limits, Part};
+use readings::check_joins;
 use reference::joined;
 
 const USAGE: &str = "usage: differ PART --program PATH [OPTIONS]
-       differ PART --store DIR N
+       differ --store DIR N N N
        differ calls [OPTIONS]
-parts: lexer, readings, trees
+parts: lexer, readings, trees; so many cases of each are stored
 options: --large N, --every N, --family NAME, --patience SECONDS
-         and for readings the greatest lengths of slices: --tokens N, --events N, --diagnostics N";
+         and the greatest lengths of slices: --tokens N, --events N, --diagnostics N";
+
+const PARTS: [&str; 3] = ["lexer", "readings", "trees"];
 
 const PATIENCE: Duration = Duration::from_secs(120);
 
@@ -38,7 +40,7 @@ fn main() -> ExitCode {
     let arguments: Vec<String> = env::args().skip(1).collect();
     let words: Vec<&str> = arguments.iter().map(String::as_str).collect();
     let answer = match words.as_slice() {
-        [name, "--store", folder, count] => store(name, folder, count),
+        ["--store", folder, counts @ ..] => store(folder, counts),
         [name, "--program", program, rest @ ..] => compare(name, program, rest),
         ["calls", rest @ ..] => compare_calls(rest),
         _ => None,
@@ -51,7 +53,7 @@ fn main() -> ExitCode {
 
 fn part(name: &str, limits: Limits) -> Option<Part> {
     match name {
-        "lexer" => Some(lexer::part()),
+        "lexer" => Some(lexer::part(limits)),
         "readings" => Some(readings::part(limits)),
         "trees" => Some(trees::part()),
         _ => None,
@@ -59,9 +61,16 @@ fn part(name: &str, limits: Limits) -> Option<Part> {
 }
 
 /// Nothing if the words are not understood.
-fn store(name: &str, folder: &str, count: &str) -> Option<ExitCode> {
-    let part = part(name, Limits::default())?;
-    store::store(&part, Path::new(folder), count.parse().ok()?).expect("the folder is written");
+fn store(folder: &str, counts: &[&str]) -> Option<ExitCode> {
+    if counts.len() != PARTS.len() {
+        return None;
+    }
+    let chosen = PARTS.iter().zip(counts).map(|(name, count)| {
+        let part = part(name, Limits::default())?;
+        Some((part, count.parse().ok()?))
+    });
+    let chosen: Vec<(Part, usize)> = chosen.collect::<Option<_>>()?;
+    store::store(&chosen, Path::new(folder)).expect("the folder is written");
     Some(ExitCode::SUCCESS)
 }
 

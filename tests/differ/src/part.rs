@@ -1,8 +1,9 @@
-//! What the harness must know of the part that a program runs.
+//! What the harness must know of the part of the reader that is compared.
 
 use std::io::Write;
 
 use corpus::{Case, Family};
+use reference::Rooms;
 
 pub struct Part {
     pub name: &'static str,
@@ -17,15 +18,32 @@ pub struct Exchange {
     pub expected: Vec<u8>,
 }
 
-/// A frame: the length of the source and of each slice, then the source.
-pub fn frame(source: &[u8], slices: &[usize]) -> Vec<u8> {
-    let mut bytes = Vec::with_capacity(4 + 4 * slices.len() + source.len());
-    for &length in [source.len()].iter().chain(slices) {
-        let length = u32::try_from(length).expect("lengths fit in four bytes");
-        bytes.extend(length.to_le_bytes());
+/// The greatest lengths of slices that the program is asked for.
+#[derive(Debug, Clone, Copy)]
+pub struct Limits {
+    pub tokens: usize,
+    pub events: usize,
+    pub diagnostics: usize,
+}
+
+impl Default for Limits {
+    fn default() -> Self {
+        Self { tokens: 262_144, events: 917_506, diagnostics: 262_144 }
     }
-    bytes.extend(source);
-    bytes
+}
+
+impl Limits {
+    pub fn cut(&self, rooms: Rooms) -> Rooms {
+        Rooms {
+            counts: 3,
+            token_kinds: rooms.token_kinds.min(self.tokens),
+            token_ends: rooms.token_ends.min(self.tokens),
+            events: rooms.events.min(self.events),
+            messages: rooms.messages.min(self.diagnostics),
+            starts: rooms.starts.min(self.diagnostics),
+            ends: rooms.ends.min(self.diagnostics),
+        }
+    }
 }
 
 /// Appends one line with the numbers of a slice.

@@ -1,37 +1,14 @@
 //! The whole reader: tokens, events, diagnostics and the refusals.
 
-use corpus::{Case, Family, pairs::Pair, rooms::Needs};
-use reference::{Rooms, Slices, reading};
+use corpus::{
+    Case, Family,
+    frame::{Asked, frame},
+    pairs::Pair,
+    rooms::Needs,
+};
+use reference::{Slices, reading};
 
-use crate::part::{Exchange, Part, frame, push_line};
-
-/// The greatest lengths of slices that the program is asked for.
-#[derive(Debug, Clone, Copy)]
-pub struct Limits {
-    pub tokens: usize,
-    pub events: usize,
-    pub diagnostics: usize,
-}
-
-impl Default for Limits {
-    fn default() -> Self {
-        Self { tokens: 131_072, events: 917_506, diagnostics: 262_144 }
-    }
-}
-
-impl Limits {
-    fn cut(&self, rooms: Rooms) -> Rooms {
-        Rooms {
-            counts: 3,
-            token_kinds: rooms.token_kinds.min(self.tokens),
-            token_ends: rooms.token_ends.min(self.tokens),
-            events: rooms.events.min(self.events),
-            messages: rooms.messages.min(self.diagnostics),
-            starts: rooms.starts.min(self.diagnostics),
-            ends: rooms.ends.min(self.diagnostics),
-        }
-    }
-}
+use crate::part::{Exchange, Limits, Part, push_line};
 
 pub fn part(limits: Limits) -> Part {
     Part {
@@ -41,17 +18,14 @@ pub fn part(limits: Limits) -> Part {
     }
 }
 
-/// Frame: the lengths of the source and of the six slices, the source. Answer: the four numbers,
-/// then each slice.
+/// Answer: the four numbers, then each slice.
 fn exchange(case: &Case, limits: Limits) -> Exchange {
     let reading = reading(&case.source);
     let rooms = limits.cut(case.plan.rooms(Needs::of(&reading)));
     let answer = reading.answer(rooms);
     let mut expected = Vec::new();
     push_slices(&mut expected, [answer.status].iter().chain(&answer.counts), &answer.slices);
-    let Rooms { token_kinds, token_ends, events, messages, starts, ends, .. } = rooms;
-    let lengths = [token_kinds, token_ends, events, messages, starts, ends];
-    Exchange { frame: frame(&case.source, &lengths), expected }
+    Exchange { frame: frame(Asked::Reading, &case.source, rooms), expected }
 }
 
 /// A line with the numbers returned, then one for each slice but the counts.

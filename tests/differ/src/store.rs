@@ -4,7 +4,7 @@ use std::{fs, io, path::Path};
 
 use corpus::{Case, Family, edges, examples, rooms::Plan, spread::spread_over, utf8};
 
-use crate::part::Part;
+use crate::part::{Exchange, Part};
 
 /// Longer cases are not picked from the families.
 const LONGEST: usize = 60;
@@ -12,21 +12,27 @@ const LONGEST: usize = 60;
 /// Longer examples show no more of the lexer.
 const LEXER_LONGEST: usize = 15;
 
-/// Writes the examples and `count` cases, spread evenly over the families and over each family.
-pub fn store(part: &Part, folder: &Path, count: usize) -> io::Result<()> {
+/// Writes the cases of each part, with so many beside its examples.
+pub fn store(chosen: &[(Part, usize)], folder: &Path) -> io::Result<()> {
     let (mut stdin, mut stdout) = (Vec::new(), Vec::new());
-    let mut stored = 0;
-    for case in always(part.name).chain(spread_over(part.families, count, short)) {
-        let exchange = (part.exchange)(&case);
-        stdin.extend(exchange.frame);
-        stdout.extend(exchange.expected);
-        stored += 1;
+    for (part, count) in chosen {
+        let mut stored = 0;
+        for Exchange { frame, expected } in exchanges(part, *count) {
+            stdin.extend(frame);
+            stdout.extend(expected);
+            stored += 1;
+        }
+        println!("{}: {stored} cases stored", part.name);
     }
     fs::create_dir_all(folder)?;
     fs::write(folder.join("stdin"), stdin)?;
-    fs::write(folder.join("stdout"), stdout)?;
-    println!("{}: {stored} cases stored", part.name);
-    Ok(())
+    fs::write(folder.join("stdout"), stdout)
+}
+
+/// The examples and `count` cases, spread evenly over the families and over each family.
+fn exchanges(part: &Part, count: usize) -> impl Iterator<Item = Exchange> {
+    let cases = always(part.name).chain(spread_over(part.families, count, short));
+    cases.map(|case| (part.exchange)(&case))
 }
 
 /// The examples, with room enough; the bounds of table 3-7, or for `tree` those of its room.

@@ -1,5 +1,4 @@
-//! The harness against an imitation of the lexer's program: right answers pass, every fault is
-//! caught.
+//! The harness against an imitation of the lexer: right answers pass, every fault is caught.
 
 mod common;
 
@@ -7,11 +6,12 @@ use std::process::{Command, Stdio};
 
 use common::{DIFFER, Imitated};
 
-const LEXER: Imitated = Imitated { part: "lexer", program: env!("CARGO_BIN_EXE_imitation") };
+const LEXER: Imitated = Imitated { part: "lexer" };
 
 #[test]
 fn right_answers_pass() {
     LEXER.passes("", "--every 13");
+    LEXER.passes("", "--family edges --tokens 300");
 }
 
 #[test]
@@ -52,9 +52,4 @@ fn a_missing_program_is_caught() {
         .unwrap();
     assert!(!status.status.success());
     assert!(String::from_utf8_lossy(&status.stdout).contains("stopped after 0 answers"));
-}
-
-#[test]
-fn stored_cases_replay() {
-    LEXER.replays(200);
 }

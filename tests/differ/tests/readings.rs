@@ -1,12 +1,10 @@
-//! The harness against an imitation of the reader's program: right answers pass, every fault is
-//! caught.
+//! The harness against an imitation of the reader: right answers pass, every fault is caught.
 
 mod common;
 
 use common::Imitated;
 
-const READER: Imitated =
-    Imitated { part: "readings", program: env!("CARGO_BIN_EXE_readings_imitation") };
+const READER: Imitated = Imitated { part: "readings" };
 
 #[test]
 fn right_answers_pass() {
@@ -66,9 +64,4 @@ fn joined_files_are_counted() {
     assert!(success, "{text}");
     let line = text.lines().find(|line| line.starts_with("demand 3 of the reference: "));
     assert!(line.is_some_and(|line| line.ends_with(" pairs, 0 failures")), "{text}");
-}
-
-#[test]
-fn stored_cases_replay() {
-    READER.replays(600);
 }

@@ -2,7 +2,13 @@
 
 use std::thread;
 
-use corpus::{random::Random, script::script, shapes::SHAPES};
+use corpus::{
+    frame::{self, Asked},
+    random::Random,
+    script::script,
+    shapes::SHAPES,
+};
+use reference::Rooms;
 
 use crate::callgrind::Valgrind;
 
@@ -101,7 +107,15 @@ impl Row {
 
 /// The frame of a source, with rooms that are enough for any source of this size.
 fn frame(source: &[u8], size: usize) -> Vec<u8> {
-    let lengths = [source.len(), size, size, 7 * size + 2, 2 * size, 2 * size, 2 * size];
-    let header = lengths.iter().flat_map(|length| (*length as u32).to_le_bytes());
-    header.chain(source.iter().copied()).collect()
+    let diagnostics = 2 * size;
+    let rooms = Rooms {
+        counts: 3,
+        token_kinds: size,
+        token_ends: size,
+        events: 7 * size + 2,
+        messages: diagnostics,
+        starts: diagnostics,
+        ends: diagnostics,
+    };
+    frame::frame(Asked::Reading, source, rooms)
 }

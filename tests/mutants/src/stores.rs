@@ -24,19 +24,17 @@ pub struct Store {
     cases: Vec<Case>,
 }
 
-/// The rooms of program `tree`.
-const TREE: [usize; 6] = [2_048, 2_048, 14_338, 2_048, 2_048, 2_048];
-
 /// The stores of the repository.
 pub fn stores() -> Vec<Store> {
     let samples = corpus::samples::sources().map(|source| {
         let rooms = Rooms::ample(source.len());
         (source, rooms)
     });
+    let [lexer, readings, trees] = framed();
     vec![
-        Store::new("tokens", true, framed("tokens", 2)),
-        Store::new("readings", false, framed("readings", 6)),
-        Store::new("replay", false, framed("replay", 0)),
+        Store::new("lexer", true, lexer),
+        Store::new("readings", false, readings),
+        Store::new("trees", false, trees),
         Store::new("samples", false, samples.collect()),
     ]
 }
@@ -84,18 +82,17 @@ impl Store {
     }
 }
 
-/// The frames of a program's input: the length of the source, of so many slices, the source.
-fn framed(program: &str, slices: usize) -> Vec<(Vec<u8>, Rooms)> {
-    let root = PathBuf::from(env!("CARGO_MANIFEST_DIR")).join("../../crates");
-    let bytes = fs::read(root.join(program).join("stdin")).expect("the stored cases are there");
+/// The frames of program `cases`, part by part: the part, the length of the source and of the six slices, the source.
+fn framed() -> [Vec<(Vec<u8>, Rooms)>; 3] {
+    let file = PathBuf::from(env!("CARGO_MANIFEST_DIR")).join("../../crates/cases/stdin");
+    let bytes = fs::read(file).expect("the stored cases are there");
     let mut rest = bytes.as_slice();
-    let mut cases = Vec::new();
+    let mut cases = [const { Vec::new() }; 3];
     while !rest.is_empty() {
-        let numbers: Vec<usize> = (0..=slices).map(|_| number(&mut rest)).collect();
-        let (source, behind) = rest.split_at(numbers[0]);
+        let [part, length, lengths @ ..]: [usize; 8] = std::array::from_fn(|_| number(&mut rest));
+        let (source, behind) = rest.split_at(length);
         rest = behind;
-        let lengths = if slices == 0 { &TREE } else { &numbers[1..] };
-        cases.push((source.to_vec(), rooms(lengths)));
+        cases[part].push((source.to_vec(), rooms(lengths)));
     }
     cases
 }
@@ -106,15 +103,7 @@ fn number(rest: &mut &[u8]) -> usize {
     u32::from_le_bytes(*bytes) as usize
 }
 
-fn rooms(lengths: &[usize]) -> Rooms {
-    let length = |at: usize| lengths.get(at).copied().unwrap_or(0);
-    Rooms {
-        counts: 3,
-        token_kinds: length(0),
-        token_ends: length(1),
-        events: length(2),
-        messages: length(3),
-        starts: length(4),
-        ends: length(5),
-    }
+fn rooms(lengths: [usize; 6]) -> Rooms {
+    let [token_kinds, token_ends, events, messages, starts, ends] = lengths;
+    Rooms { counts: 3, token_kinds, token_ends, events, messages, starts, ends }
 }

@@ -5,23 +5,24 @@ use std::io::Write;
 use crate::{answer, parsed};
 
 const MAX_INPUT: usize = 2_048;
-const EVENT_ROOM: usize = 14_338;
+
+/// What `tree` lends.
+pub const ROOMS: answer::Rooms = answer::Rooms {
+    counts: 3,
+    token_kinds: MAX_INPUT,
+    token_ends: MAX_INPUT,
+    events: 14_338,
+    messages: MAX_INPUT,
+    starts: MAX_INPUT,
+    ends: MAX_INPUT,
+};
 
 /// What `tree` prints for this input. After `ok` and `no 5` the events and diagnostics in the slices follow.
 pub fn tree(source: &[u8]) -> Vec<u8> {
     if source.len() > MAX_INPUT {
         return b"long\n".to_vec();
     }
-    let rooms = answer::Rooms {
-        counts: 3,
-        token_kinds: MAX_INPUT,
-        token_ends: MAX_INPUT,
-        events: EVENT_ROOM,
-        messages: MAX_INPUT,
-        starts: MAX_INPUT,
-        ends: MAX_INPUT,
-    };
-    let answer::Answer { status, counts: [a, b, c], .. } = answer::answer(source, rooms);
+    let answer::Answer { status, counts: [a, b, c], .. } = answer::answer(source, ROOMS);
     let mut out = match status {
         0 => format!("ok {a} {b} {c}\n"),
         _ => format!("no {status} {a} {b} {c}\n"),
@@ -31,7 +32,7 @@ pub fn tree(source: &[u8]) -> Vec<u8> {
         let text = str::from_utf8(source).expect("a source with a tree is UTF-8");
         let parsed = parsed::parsed(text);
         print_events(&mut out, &parsed);
-        for diagnostic in parsed.diagnostics.iter().take(MAX_INPUT) {
+        for diagnostic in parsed.diagnostics.iter().take(ROOMS.diagnostics()) {
             print_diagnostic(&mut out, text, diagnostic);
         }
     }
@@ -41,7 +42,7 @@ pub fn tree(source: &[u8]) -> Vec<u8> {
 fn print_events(out: &mut Vec<u8>, parsed: &parsed::Parsed) {
     let mut tokens = parsed.tokens.iter();
     let mut start = 0;
-    for &event in parsed.events.iter().take(EVENT_ROOM) {
+    for &event in parsed.events.iter().take(ROOMS.events) {
         match event {
             0 => writeln!(out, "-"),
             1..=26 => writeln!(out, "+ {event}"),

@@ -1,59 +1,69 @@
 //! The lexers that are timed. Each checks UTF-8 and writes kinds and ends.
+//!
+//! The proved one is the exported call with one token's room less than the source needs: it ends
+//! behind the tokens with status 3.
+
+use exported::Lent;
 
 use crate::{inputs, table, timing};
 
-#[derive(PartialEq)]
 pub struct Slices {
     kinds: Vec<u16>,
     ends: Vec<u32>,
+    /// The call's room: one entry less than there are tokens.
+    room: usize,
+    counts: [u64; 3],
 }
 
 /// A lexer that returns the number of tokens of a well-formed source.
 type Side = timing::Side<Slices>;
 
-#[cfg(masm_lex)]
 const SIDES: [Side; 3] = [
     Side { name: "proved", call: proved },
     Side { name: "plain", call: plain },
     Side { name: "reference", call: reference },
 ];
 
-#[cfg(not(masm_lex))]
-const SIDES: [Side; 2] =
-    [Side { name: "plain", call: plain }, Side { name: "reference", call: reference }];
+/// The status of a call whose tokens do not fit.
+const TOKEN_ROOM: u64 = 3;
 
 /// The table of the lexers' times.
 pub fn run() {
-    println!("lexers: UTF-8, then kinds and ends into slices");
-    if !cfg!(masm_lex) {
-        println!("no archive with masm_lex: the proved lexer is left out (see tests/README.md)");
+    println!("lexers: UTF-8, then kinds and ends into slices; `proved` is masm_parse_text, which");
+    println!("has room for all tokens but the last and ends there; words are marked and unmarked");
+    let sides = if exported::LINKED { &SIDES[..] } else { &SIDES[1..] };
+    if !exported::LINKED {
+        println!("{}: the proved lexer is left out", exported::MISSING);
     }
-    table::print_head(&SIDES);
+    table::print_head(sides);
     for input in inputs::for_lexers() {
-        let tokens = check(&input);
-        let times = timing::time(&SIDES, &input.bytes, &mut Slices::new(&input.bytes));
+        let (tokens, mut slices) = check(&input, sides);
+        let times = timing::time(sides, &input.bytes, &mut slices);
         table::print_row(input.name, input.bytes.len(), tokens, &times);
     }
 }
 
-/// The number of tokens, on which all sides agree.
-fn check(input: &inputs::Input) -> u64 {
-    let answer = |side: &Side| {
-        let mut slices = Slices::new(&input.bytes);
-        ((side.call)(&input.bytes, &mut slices), slices)
-    };
-    let first = answer(&SIDES[0]);
-    for side in &SIDES[1..] {
-        let (one, other) = (SIDES[0].name, side.name);
-        assert!(first == answer(side), "{one} and {other} differ on {}", input.name);
+/// The number of tokens, on which all sides agree, as they do on what the call has room for; and
+/// slices for the timing.
+fn check(input: &inputs::Input, sides: &[Side]) -> (u64, Slices) {
+    let source = &input.bytes;
+    let mut expected = Slices::new(source, 0);
+    let tokens = plain(source, &mut expected);
+    let room = tokens as usize - 1;
+    for side in sides {
+        let mut found = Slices::new(source, room);
+        let same = (side.call)(source, &mut found) == tokens
+            && found.kinds[..room] == expected.kinds[..room]
+            && found.ends[..room] == expected.ends[..room];
+        assert!(same, "{} and plain differ on {}", side.name, input.name);
     }
-    first.0
+    (tokens, Slices::new(source, room))
 }
 
 impl Slices {
-    /// Room for one token a byte.
-    fn new(source: &[u8]) -> Self {
-        Self { kinds: vec![0; source.len()], ends: vec![0; source.len()] }
+    /// One entry a byte.
+    fn new(source: &[u8], room: usize) -> Self {
+        Self { kinds: vec![0; source.len()], ends: vec![0; source.len()], room, counts: [0; 3] }
     }
 }
 
@@ -73,30 +83,18 @@ fn reference(source: &[u8], slices: &mut Slices) -> u64 {
     tokens.len() as u64
 }
 
-#[cfg(masm_lex)]
 fn proved(source: &[u8], slices: &mut Slices) -> u64 {
-    unsafe extern "C" {
-        fn masm_lex(
-            source: *const u8,
-            source_len: usize,
-            kinds: *mut u16,
-            kinds_len: usize,
-            ends: *mut u32,
-            ends_len: usize,
-        ) -> u64;
-    }
-    let Slices { kinds, ends } = slices;
-    // SAFETY: the pointers and lengths are those of three slices that do not overlap.
-    let count = unsafe {
-        masm_lex(
-            source.as_ptr(),
-            source.len(),
-            kinds.as_mut_ptr(),
-            kinds.len(),
-            ends.as_mut_ptr(),
-            ends.len(),
-        )
+    let Slices { kinds, ends, room, counts } = slices;
+    let lent = Lent {
+        counts,
+        token_kinds: &mut kinds[..*room],
+        token_ends: &mut ends[..*room],
+        events: &mut [],
+        messages: &mut [],
+        starts: &mut [],
+        ends: &mut [],
     };
-    assert!(count <= source.len() as u64, "a well-formed source");
-    count
+    assert_eq!(exported::parse_text(source, lent), TOKEN_ROOM);
+    assert_eq!(counts[0], *room as u64 + 1, "the number of tokens");
+    counts[0]
 }

@@ -8,11 +8,14 @@ use std::{
     io::{self, Read, Write},
 };
 
+/// The bytes before the source: eight numbers.
+const HEADER: usize = 32;
+
 fn main() {
     let pace = env::var("PACE").unwrap_or_default();
     let mut frame = Vec::new();
     io::stdin().read_to_end(&mut frame).unwrap();
-    let source = &frame[28..];
+    let source = &frame[HEADER..];
     let steps = match pace.as_str() {
         "quadratic" => (0..source.len()).map(|at| newlines(&source[at..])).sum(),
         _ => source.iter().map(black_box).count(),
