@@ -30,11 +30,17 @@ slice-aggregate-run-cases-7 c = sym (length-replicate {0} {A = ℕ} 262144 0)
 slice-aggregate-run-cases-8 : tie.Need-slice-aggregate-run-cases-8
 slice-aggregate-run-cases-8 c = sym (length-replicate {0} {A = ℕ} 65536 0)
 
-run-cases-requires : tie.Need-run-cases-requires
-run-cases-requires c κs = search needs
-
-returns : tie.Need-returns
-returns c = search needs
-
 pub main-spec : {M : Type 1} → statement M
-main-spec = tie.close (tie.spec slice-aggregate-run-cases slice-aggregate-run-cases-2 slice-aggregate-run-cases-3 slice-aggregate-run-cases-4 slice-aggregate-run-cases-5 slice-aggregate-run-cases-6 slice-aggregate-run-cases-7 slice-aggregate-run-cases-8 run-cases-requires returns)
+main-spec =
+    tie.close
+    (tie.spec
+    slice-aggregate-run-cases
+    slice-aggregate-run-cases-2
+    slice-aggregate-run-cases-3
+    slice-aggregate-run-cases-4
+    slice-aggregate-run-cases-5
+    slice-aggregate-run-cases-6
+    slice-aggregate-run-cases-7
+    slice-aggregate-run-cases-8
+    (λ c κs. search needs)
+    (λ c. search needs))

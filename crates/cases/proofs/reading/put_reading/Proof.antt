@@ -17,22 +17,10 @@ after-fill c = c .before .before .before .before .before .before .before .before
 abbrev start : tie.After-fill → tie.Start
 start c = c .before .before .before .before .before .before .before .before .before .before .before .before .before .before .before
 
-fill-requires : tie.Need-fill-requires
-fill-requires c κs = search needs
-
-parse-text-requires : tie.Need-parse-text-requires
-parse-text-requires c κs = search needs
-
 put-answer-requires : tie.Need-put-answer-requires
 put-answer-requires c κs =
     let c₁ = start (after-fill (after-parse-text c)) in
     c₁ .pre
-
-put-tree-slices-requires : tie.Need-put-tree-slices-requires
-put-tree-slices-requires c κs = search needs
-
-put-diagnostic-slices-requires : tie.Need-put-diagnostic-slices-requires
-put-diagnostic-slices-requires c κs = search needs
 
 same-length : tie.Need-same-length
 same-length c =
@@ -70,26 +58,20 @@ same-length-6 c =
     let c₂ = after-fill c₁ in
     omega (arith, c₁ .parse-text .kept, c₂ .fill .kept)
 
-same-length-7 : tie.Need-same-length-7
-same-length-7 c = search needs
-
-returns : tie.Need-returns
-returns c = search needs
-
 pub put-reading-spec : {M : Type 1} → statement M
 put-reading-spec =
     tie.close
     (tie.spec
-    fill-requires
-    parse-text-requires
+    (λ c κs. search needs)
+    (λ c κs. search needs)
     put-answer-requires
-    put-tree-slices-requires
-    put-diagnostic-slices-requires
+    (λ c κs. search needs)
+    (λ c κs. search needs)
     same-length
     same-length-2
     same-length-3
     same-length-4
     same-length-5
     same-length-6
-    same-length-7
-    returns)
+    (λ c. search needs)
+    (λ c. search needs))
