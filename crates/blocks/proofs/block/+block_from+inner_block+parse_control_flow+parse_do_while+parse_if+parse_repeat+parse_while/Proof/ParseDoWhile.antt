@@ -11,17 +11,11 @@ use Rattle.blocks.proofs.block.+block_from+inner_block+parse_control_fl
 use Rattle.blocks.proofs.block.+block_from+inner_block+parse_control_flow+parse_do_while+parse_if+parse_repeat+parse_while.Proof.Common.{parse-do-while-place}
 
 -- places
-abbrev start : (t : ℕ) → parse-do-while-place lts.After-do-header t → parse-do-while-place lts.Start t
-start t c = c .before .before .before .before .before .before .before .before
+abbrev start : (t : ℕ) → parse-do-while-place lts.After-do-header-arg3 t → parse-do-while-place lts.Start t
+start t c = c .before .before .before .before .before .before .before
 
-abbrev start-from-do-header-arg3 : (t : ℕ) → parse-do-while-place lts.After-do-header-arg3 t → parse-do-while-place lts.Start t
-start-from-do-header-arg3 t c = c .before .before .before .before .before .before .before
-
-abbrev after-do-header : (t : ℕ) → parse-do-while-place lts.After-inner-block t → parse-do-while-place lts.After-do-header t
-after-do-header t c = c .before .before .before .before .before .before .before .before .before .before
-
-abbrev after-do-header-from-inner-block-arg3 : (t : ℕ) → parse-do-while-place lts.After-inner-block-arg3 t → parse-do-while-place lts.After-do-header t
-after-do-header-from-inner-block-arg3 t c = c .before .before .before .before .before .before .before .before .before
+abbrev after-do-header : (t : ℕ) → parse-do-while-place lts.After-inner-block-arg3 t → parse-do-while-place lts.After-do-header t
+after-do-header t c = c .before .before .before .before .before .before .before .before .before
 
 abbrev after-inner-block : (t : ℕ) → parse-do-while-place lts.After-goes-to-while t → parse-do-while-place lts.After-inner-block t
 after-inner-block t c = c .before .before .before .before .before .before .before .before
@@ -29,36 +23,25 @@ after-inner-block t c = c .before .before .before .before .before .before .befor
 abbrev after-finish : (t : ℕ) → parse-do-while-place lts.After-slice-known12 t → parse-do-while-place lts.After-finish t
 after-finish t c = c .before .before .before .before .before .before
 
-abbrev after-keyword-line : (t : ℕ) → parse-do-while-place lts.After-inner-block2 t → parse-do-while-place lts.After-keyword-line t
-after-keyword-line t c = c .before .before .before .before .before .before .before .before .before .before
+abbrev after-keyword-line : (t : ℕ) → parse-do-while-place lts.After-inner-block-arg6 t → parse-do-while-place lts.After-keyword-line t
+after-keyword-line t c = c .before .before .before .before .before .before .before .before .before
 
-abbrev after-keyword-line-from-inner-block-arg6 : (t : ℕ) → parse-do-while-place lts.After-inner-block-arg6 t → parse-do-while-place lts.After-keyword-line t
-after-keyword-line-from-inner-block-arg6 t c = c .before .before .before .before .before .before .before .before .before
-
-abbrev after-inner-block2 : (t : ℕ) → parse-do-while-place lts.After-finish2 t → parse-do-while-place lts.After-inner-block2 t
-after-inner-block2 t c = c .before .before .before .before .before .before .before .before .before .before
-
-abbrev after-inner-block2-from-finish-arg6 : (t : ℕ) → parse-do-while-place lts.After-finish-arg6 t → parse-do-while-place lts.After-inner-block2 t
-after-inner-block2-from-finish-arg6 t c = c .before .before .before .before .before .before .before .before .before
+abbrev after-inner-block2 : (t : ℕ) → parse-do-while-place lts.After-finish-arg6 t → parse-do-while-place lts.After-inner-block2 t
+after-inner-block2 t c = c .before .before .before .before .before .before .before .before .before
 
 abbrev after-finish2 : (t : ℕ) → parse-do-while-place lts.After-slice-known21 t → parse-do-while-place lts.After-finish2 t
 after-finish2 t c = c .before .before .before .before .before .before
 
 pub do-header-requires : (t : ℕ) → parse-do-while-place lts.Need-do-header-requires t
-do-header-requires t c κs =
-    let c₁ = start-from-do-header-arg3 t c in
-    c₁ .pre .1 .0
+do-header-requires t c κs = start t c .pre .1 .0
 
 pub inner-block-requires : (t : ℕ) → parse-do-while-place lts.Need-inner-block-requires t
 inner-block-requires t c κs =
-    let c₁ = after-do-header-from-inner-block-arg3 t c in
-    let c₂ = start t c₁ in
-    omega (arith, c₂ .pre, c₁ .do-header .ensures .past)
+    let c₁ = after-do-header t c in
+    omega (arith, start t (c₁ .before) .pre, c₁ .do-header .ensures .past)
 
 pub finish-requires : (t : ℕ) → parse-do-while-place lts.Need-finish-requires t
-finish-requires t c κs =
-    let c₁ = after-inner-block t (c .before .before .before .before) in
-    c₁ .inner-block .ensures .here
+finish-requires t c κs = after-inner-block t (c .before .before .before .before) .inner-block .ensures .here
 
 pub returns : (t : ℕ) → parse-do-while-place lts.Need-returns t
 unfolding parse-do-while
@@ -67,8 +50,8 @@ returns t c =
     let c₂ = c₁ .before .before .before .before in
     let c₃ = c₂ .before in
     let c₄ = after-inner-block t c₃ in
-    let c₅ = after-do-header t c₄ in
-    let depth = start t c₅ .args .depth in
+    let c₅ = after-do-header t (c₄ .before) in
+    let depth = start t (c₅ .before) .args .depth in
     let first = c₄ .inner-block .ensures .ran in
     let fails = not-true (c₃ .goes-to-while .result) (c₂ .if1 .taken) in
     let end = c₁ .finish .ensures in
@@ -79,34 +62,30 @@ unfolding oneOf
 keyword-line-requires t c κs =
     let c₁ = c .before .before .before in
     let c₂ = c₁ .before in
-    let c₃ = after-inner-block t c₂ in
     let holds = not-false (c₂ .goes-to-while .result) (c₁ .if1 .left) in
-    (and-r (found-terminator (c₃ .inner-block .result .outcome)) _ (sym (c₂ .goes-to-while .ensures) ∙ holds), refl)
+    (and-r (found-terminator (after-inner-block t c₂ .inner-block .result .outcome)) _ (sym (c₂ .goes-to-while .ensures) ∙ holds), refl)
 
 pub inner-block-requires-2 : (t : ℕ) → parse-do-while-place lts.Need-inner-block-requires-2 t
 inner-block-requires-2 t c κs =
-    let c₁ = after-keyword-line-from-inner-block-arg6 t c in
+    let c₁ = after-keyword-line t c in
     let c₂ = after-inner-block t (c₁ .before .before .before .before .before) in
-    let c₃ = after-do-header t c₂ in
-    let c₄ = start t c₃ in
-    omega (arith, c₄ .pre, c₃ .do-header .ensures .past, c₂ .inner-block .ensures .ran .ran .onward, c₁ .keyword-line .ensures .onward)
+    let c₃ = after-do-header t (c₂ .before) in
+    omega (arith, start t (c₃ .before) .pre, c₃ .do-header .ensures .past, c₂ .inner-block .ensures .ran .ran .onward, c₁ .keyword-line .ensures .onward)
 
 pub finish-requires-2 : (t : ℕ) → parse-do-while-place lts.Need-finish-requires-2 t
-finish-requires-2 t c κs =
-    let c₁ = after-inner-block2-from-finish-arg6 t c in
-    c₁ .inner-block2 .ensures .here
+finish-requires-2 t c κs = after-inner-block2 t c .inner-block2 .ensures .here
 
 pub returns-2 : (t : ℕ) → parse-do-while-place lts.Need-returns-2 t
 unfolding parse-do-while
 returns-2 t c =
     let c₁ = after-finish2 t c in
-    let c₂ = after-inner-block2 t c₁ in
-    let c₃ = after-keyword-line t c₂ in
+    let c₂ = after-inner-block2 t (c₁ .before) in
+    let c₃ = after-keyword-line t (c₂ .before) in
     let c₄ = c₃ .before .before .before .before in
     let c₅ = c₄ .before in
     let c₆ = after-inner-block t c₅ in
-    let c₇ = after-do-header t c₆ in
-    let depth = start t c₇ .args .depth in
+    let c₇ = after-do-header t (c₆ .before) in
+    let depth = start t (c₇ .before) .args .depth in
     let holds = not-false (c₅ .goes-to-while .result) (c₄ .if1 .left) in
     let last = c₂ .inner-block2 .ensures .ran in
     let end = c₁ .finish2 .ensures in
