@@ -2,7 +2,7 @@
 use mathlib.Core.Bool.{Bool, true, false, cond, not, _&&_, _||_, false≢true}
 use mathlib.Core.List.{List, [], _∷_}
 use mathlib.Core.Path.{_≡_, refl, sym, ap, subst, _∙_}
-use Prim.Native.Nat.{ℕ, suc, _+_, _<_, _≤_}
+use Prim.Native.Nat.{ℕ, suc, _+_, _<_}
 use native.Mathlib.Omega.{arith}
 use lib.ListN.{length}
 use Rattle.lexer.specs.Syntax
@@ -243,6 +243,12 @@ at-while {F} {w} {w′} {o} d h e =
     bare-while _ (ap (at-terminator Terminators.While) (sym (h .ran .rest)) ∙ stops-block limit BlockOwner.DoWhileBody Terminators.While d .stops _ (h .val ∙ found-is o e))
 
 -- ---- parse_if behind its first block, and parse_do_while behind its body
+-- the line of an `else`, and the block behind it
+behind-else : {F : File} {w l v : World} {block : P BlockParseOutcome} {o : BlockParseOutcome} → at (is ELSE) (from F (w .c .pos)) ≡ true
+    → Lined F ELSE w l → RanTo F block l v o → RanTo F (else-line block) w v o
+unfolding oneOf
+behind-else here l h = take-expected ELSE Message.Unreached refl here (l .key) then-to l .line then-to h
+
 module _ {F : File} {w u : World} (d : ℕ) {x b : Bool} where
   pub no-else : (o : BlockParseOutcome) → x ≡ (not (reached-eof o) && at (is ELSE) (from F (w .c .pos))) → x ≡ false
       → RanTo F (ended BlockOwner.If o) w u b → RanTo F (else-part (parse-block limit) d o) w u b
@@ -254,16 +260,9 @@ module _ {F : File} {w u : World} (d : ℕ) {x b : Bool} where
   pub with-else : {l v : World} {p : BlockParseOutcome} (o : BlockParseOutcome) → x ≡ (not (reached-eof o) && at (is ELSE) (from F (w .c .pos))) → x ≡ true
       → Lined F ELSE w l → RanTo F (parse-block limit BlockOwner.If Terminators.End d) l v p → RanTo F (ended BlockOwner.If p) v u b
       → RanTo F (else-part (parse-block limit) d o) w u b
-  unfolding oneOf
-  with-else {l} {v} {p} o e k line g h = go o e
-    where
-      taken : at (is ELSE) (from F (w .c .pos)) ≡ true → RanTo F (else-line (parse-block limit BlockOwner.If Terminators.End d)) w v p
-      taken here = take-expected ELSE Message.Unreached refl here (line .key) then-to line .line then-to g
-
-      go : (o : BlockParseOutcome) → x ≡ (not (reached-eof o) && at (is ELSE) (from F (w .c .pos))) → RanTo F (else-part (parse-block limit) d o) w u b
-      go BlockParseOutcome.ReachedEof e = absurd (false≢true (sym e ∙ k))
-      go BlockParseOutcome.FoundTerminator e = bind-to (λ last. ended BlockOwner.If last) (yes-to _ _ e k (taken (sym e ∙ k))) h
-      go BlockParseOutcome.RecoveredImplicitEnd e = bind-to (λ last. ended BlockOwner.If last) (yes-to _ _ e k (taken (sym e ∙ k))) h
+  with-else BlockParseOutcome.ReachedEof e k l g h = absurd (false≢true (sym e ∙ k))
+  with-else BlockParseOutcome.FoundTerminator e k l g h = bind-to (λ last. ended BlockOwner.If last) (yes-to _ _ e k (behind-else (sym e ∙ k) l g)) h
+  with-else BlockParseOutcome.RecoveredImplicitEnd e k l g h = bind-to (λ last. ended BlockOwner.If last) (yes-to _ _ e k (behind-else (sym e ∙ k) l g)) h
 
   pub no-condition : {v : World} (o : BlockParseOutcome) → RanTo F (parse-block limit BlockOwner.DoWhileBody Terminators.While d) v w o
       → x ≡ (found-terminator o && at (is WHILE) (from F (w .c .pos))) → x ≡ false → RanTo F (ended BlockOwner.DoWhile o) w u b → RanTo F (do-condition (parse-block limit) d o) w u b

@@ -1,10 +1,9 @@
 -- What the functions around a block do, as parts of a form: an opening, what leads up to a block, an end. Assumes nothing: these are definitions.
 use mathlib.Core.Path.{_≡_}
-use mathlib.Core.Bool.{Bool, true, false, not, _&&_}
-use mathlib.Core.List.{List}
+use mathlib.Core.Bool.{Bool, true, false}
 use Prim.Native.Nat.{ℕ, _<_}
-use Rattle.grammar.specs.Words.{Sym, File, from, is, ELSE, WHILE}
-use Rattle.grammar.specs.Look.{at, at-keyword, current, at-top-level-form-starter-in-block}
+use Rattle.grammar.specs.Words.{Sym, File, from, ELSE}
+use Rattle.grammar.specs.Look.{at-keyword, current, at-top-level-form-starter-in-block}
 use Rattle.grammar.specs.Run.{Kind, num, Error, P, pure, inNode, pick, _>>_, _>>=_, if_then_else_}
 use Rattle.grammar.specs.declared.message.Message.{Message}
 use Rattle.grammar.specs.declared.block.BlockOwner.{BlockOwner}
@@ -13,7 +12,7 @@ use Rattle.grammar.specs.declared.block.BlockRecoveryBoundary.{BlockRecoveryBou
 use Rattle.grammar.specs.declared.block.BlockParseOutcome.{BlockParseOutcome}
 use Rattle.grammar.specs.Bump.{bump, error-here, expect-keyword}
 use Rattle.grammar.specs.Line.{parse-line-tail}
-use Rattle.grammar.specs.Block.{MAX-CONTROL-FLOW-NESTING as limit, Blocks, parse-structured-header-suffixes, found-terminator, reached-eof, ended, block-in, parse-block}
+use Rattle.grammar.specs.Block.{MAX-CONTROL-FLOW-NESTING as limit, Blocks, parse-structured-header-suffixes, reached-eof, ended, block-in, parse-block}
 use Rattle.parser.specs.Rep.{World, Onward, Past, Wrote, Ran, RanTo}
 use Rattle.blocks.specs.declared.arm.Closing.{Closing}
 use Rattle.blocks.specs.declared.arm.Arm.{Arm}
@@ -43,7 +42,7 @@ pub record Lined (F : File) (keyword : Sym) (w w′ : World) : Type 0 where
   pub onward : Onward w w′
   pub past : Past F w w′
 
--- the same behind a node's opening event, v
+-- a node's opening event, v, and then what `lead` does before what comes next; it takes a token
 pub record Opened (F : File) (v : ℕ) (lead : P Bool → P Bool) (w w′ : World) : Type 0 where
   pub mid : World
   pub wrote : Wrote F v w mid
