@@ -2,14 +2,15 @@
 use mathlib.Core.Bool.{Bool, true, false, cond, not, _&&_, _||_, false≢true}
 use mathlib.Core.List.{List, [], _∷_}
 use mathlib.Core.Path.{_≡_, refl, sym, ap, subst, _∙_}
-use Prim.Native.Nat.{ℕ, suc, _+_, _<_, _≤_}
+use Prim.Native.Nat.{ℕ, suc, _+_, _<_}
 use native.Mathlib.Omega.{arith}
 use lib.ListN.{length}
 use Rattle.lexer.specs.Syntax
 use Rattle.grammar.specs.Words.{Sym, File, from, is, DO, ELSE, END, IF, REPEAT, WHILE}
 use Rattle.grammar.specs.Look.{oneOf, at, eof, current, name-like, regular-trivia, at-prefixed-keyword, at-bare-while, control-flow, starts-instruction, at-terminator, at-stray-else, at-regular-trivia, is-top-level-starter, at-top-level-form-starter-in-block}
-use Rattle.grammar.specs.Run.{P, Block, leaf, pure, peek, inNode, pick, take-token, scan, _>>=_, _>>_, if_then_else_}
+use Rattle.grammar.specs.Run.{Kind, num, P, Block, leaf, pure, peek, inNode, pick, take-token, scan, _>>=_, _>>_, if_then_else_}
 use Rattle.grammar.specs.State.{run}
+use Rattle.grammar.specs.declared.message.Message.{Message}
 use Rattle.grammar.specs.declared.block.BlockOwner.{BlockOwner}
 use Rattle.grammar.specs.declared.block.Terminators.{Terminators}
 use Rattle.grammar.specs.declared.block.BlockParseOutcome.{BlockParseOutcome}
@@ -21,14 +22,15 @@ use Rattle.grammar.specs.Laws.LiveLine.{eats-error-token, eats-instruction}
 use Rattle.grammar.specs.Laws.LiveBlock.{bare-while, repeat-left}
 use Rattle.grammar.specs.Laws.Stops.{stops-block}
 use Rattle.parser.specs.Rep.{World, world, Onward, Past, Wrote, Ran, RanTo}
-use Rattle.parser.proofs.Kit.{Leads, _farther_, answers, like-to, yes-to, no-to, done-to, bind-to, _then-to_}
+use Rattle.parser.proofs.Kit.{Leads, _farther_, answers, like-to, yes-to, no-to, done-to, bind-to, node-to, _then-to_}
+use Rattle.parser.proofs.Expect.{take-expected}
 use Rattle.parser.proofs.Laws.{at-current, at-some}
 use Rattle.blocks.specs.declared.arm.Taken.{Taken}
 use Rattle.blocks.specs.declared.arm.Closing.{Closing}
 use Rattle.blocks.specs.declared.arm.BlockArm.{BlockArm}
 use Rattle.blocks.specs.declared.rounds.Stopped.{Stopped}
 use Rattle.blocks.specs.Arms.{block-arm, inner-arm, by-block-arm, block-by, silent, taking, block-ending}
-use Rattle.blocks.specs.Shapes.{keyword-line, else-line, else-part, Opened, ItemAt, Ended, Finished, Rounded}
+use Rattle.blocks.specs.Shapes.{else-line, else-part, Lined, Opened, ItemAt, Ended, Finished, Rounded, Formed}
 
 -- ---- tests of the token here
 -- a test of its number
@@ -199,6 +201,15 @@ module _ {F : File} {w w′ : World} where
     here = i;
   }
 
+  -- a form: its header, its first block, and what stands behind that up to the form's end
+  pub formed : (k : Kind) {lead : P Bool → P Bool} {block : P BlockParseOutcome} {o p : BlockParseOutcome} {owner : BlockOwner} {m v u : World} {e i : Bool} (rest : BlockParseOutcome → P Bool)
+      → Opened F (num k) lead w m → RanTo F block m v o → (end : Finished F owner p u w′ e i) → RanTo F (rest o) v (end .mid) e → Formed F (inNode k (lead (block >>= rest))) w w′ e i
+  formed k rest head first end h = record {
+    ran = node-to k (head .wrote) (head .on _ _ _ (bind-to rest first h)) (end .wrote);
+    past = record { on = omega (arith, head .past, first .ran .onward, h .ran .onward, end .wrote .pos); within = head .past .within };
+    here = end .here;
+  }
+
 pub closed : {k k′ : Closing} {owner : BlockOwner} {w w′ u : World} {o : BlockParseOutcome} {i : Bool} → k ≡ k′ → ((F : File) → RanTo F (block-ending k′ owner) w u o)
     → ((F : File) → Wrote F 0 u w′) → w′ .c .pos ≡ w .c .pos → (i ≡ true → k′ ≡ Closing.Item) → Ended k owner w w′ o i
 closed {owner} {w} {u} {o} q h p n j = record {
@@ -221,7 +232,23 @@ said-no-item e = record { starts = λ h. absurd (false≢true (sym e ∙ h)) }
 pub gives : {F : File} {w : World} {a b : BlockParseOutcome} → b ≡ a → RanTo F (pure a) w w b
 gives {a} e = answers (done-to a) (sym e)
 
+found-is : (o : BlockParseOutcome) → found-terminator o ≡ true → o ≡ BlockParseOutcome.FoundTerminator
+found-is BlockParseOutcome.FoundTerminator e = refl
+found-is BlockParseOutcome.RecoveredImplicitEnd e = absurd (false≢true e)
+found-is BlockParseOutcome.ReachedEof e = absurd (false≢true e)
+
+-- the body of a `do` that was closed stands before a `while`
+at-while : {F : File} {w w′ : World} {o : BlockParseOutcome} (d : ℕ) → RanTo F (parse-block limit BlockOwner.DoWhileBody Terminators.While d) w w′ o → found-terminator o ≡ true → at (is WHILE) (from F (w′ .c .pos)) ≡ true
+at-while {F} {w} {w′} {o} d h e =
+    bare-while _ (ap (at-terminator Terminators.While) (sym (h .ran .rest)) ∙ stops-block limit BlockOwner.DoWhileBody Terminators.While d .stops _ (h .val ∙ found-is o e))
+
 -- ---- parse_if behind its first block, and parse_do_while behind its body
+-- the line of an `else`, and the block behind it
+behind-else : {F : File} {w l v : World} {block : P BlockParseOutcome} {o : BlockParseOutcome} → at (is ELSE) (from F (w .c .pos)) ≡ true
+    → Lined F ELSE w l → RanTo F block l v o → RanTo F (else-line block) w v o
+unfolding oneOf
+behind-else here l h = take-expected ELSE Message.Unreached refl here (l .key) then-to l .line then-to h
+
 module _ {F : File} {w u : World} (d : ℕ) {x b : Bool} where
   pub no-else : (o : BlockParseOutcome) → x ≡ (not (reached-eof o) && at (is ELSE) (from F (w .c .pos))) → x ≡ false
       → RanTo F (ended BlockOwner.If o) w u b → RanTo F (else-part (parse-block limit) d o) w u b
@@ -230,34 +257,27 @@ module _ {F : File} {w u : World} (d : ℕ) {x b : Bool} where
   no-else BlockParseOutcome.FoundTerminator e k h = bind-to (λ last. ended BlockOwner.If last) (no-to _ _ e k (done-to BlockParseOutcome.FoundTerminator)) h
   no-else BlockParseOutcome.RecoveredImplicitEnd e k h = bind-to (λ last. ended BlockOwner.If last) (no-to _ _ e k (done-to BlockParseOutcome.RecoveredImplicitEnd)) h
 
-  pub with-else : {v : World} {p : BlockParseOutcome} (o : BlockParseOutcome) → x ≡ (not (reached-eof o) && at (is ELSE) (from F (w .c .pos))) → x ≡ true
-      → RanTo F (else-line (parse-block limit BlockOwner.If Terminators.End d)) w v p → RanTo F (ended BlockOwner.If p) v u b → RanTo F (else-part (parse-block limit) d o) w u b
-  with-else BlockParseOutcome.ReachedEof e k g h = absurd (false≢true (sym e ∙ k))
-  with-else BlockParseOutcome.FoundTerminator e k g h = bind-to (λ last. ended BlockOwner.If last) (yes-to _ _ e k g) h
-  with-else BlockParseOutcome.RecoveredImplicitEnd e k g h = bind-to (λ last. ended BlockOwner.If last) (yes-to _ _ e k g) h
+  pub with-else : {l v : World} {p : BlockParseOutcome} (o : BlockParseOutcome) → x ≡ (not (reached-eof o) && at (is ELSE) (from F (w .c .pos))) → x ≡ true
+      → Lined F ELSE w l → RanTo F (parse-block limit BlockOwner.If Terminators.End d) l v p → RanTo F (ended BlockOwner.If p) v u b
+      → RanTo F (else-part (parse-block limit) d o) w u b
+  with-else BlockParseOutcome.ReachedEof e k l g h = absurd (false≢true (sym e ∙ k))
+  with-else BlockParseOutcome.FoundTerminator e k l g h = bind-to (λ last. ended BlockOwner.If last) (yes-to _ _ e k (behind-else (sym e ∙ k) l g)) h
+  with-else BlockParseOutcome.RecoveredImplicitEnd e k l g h = bind-to (λ last. ended BlockOwner.If last) (yes-to _ _ e k (behind-else (sym e ∙ k) l g)) h
 
-  pub no-condition : (o : BlockParseOutcome) → x ≡ found-terminator o → x ≡ false → RanTo F (ended BlockOwner.DoWhile o) w u b → RanTo F (do-condition (parse-block limit) d o) w u b
+  pub no-condition : {v : World} (o : BlockParseOutcome) → RanTo F (parse-block limit BlockOwner.DoWhileBody Terminators.While d) v w o
+      → x ≡ (found-terminator o && at (is WHILE) (from F (w .c .pos))) → x ≡ false → RanTo F (ended BlockOwner.DoWhile o) w u b → RanTo F (do-condition (parse-block limit) d o) w u b
   unfolding ended closing do-condition pure _>>=_
-  no-condition BlockParseOutcome.ReachedEof e k h = h
-  no-condition BlockParseOutcome.FoundTerminator e k h = absurd (false≢true (sym k ∙ e))
-  no-condition BlockParseOutcome.RecoveredImplicitEnd e k h = like-to (nop >> pure false) refl h
+  no-condition BlockParseOutcome.ReachedEof f e k h = h
+  no-condition BlockParseOutcome.FoundTerminator f e k h = absurd (false≢true (sym k ∙ e ∙ at-while d f refl))
+  no-condition BlockParseOutcome.RecoveredImplicitEnd f e k h = like-to (nop >> pure false) refl h
 
-  pub condition : (o : BlockParseOutcome) → x ≡ found-terminator o → x ≡ true
-      → RanTo F (keyword-line WHILE (parse-block limit BlockOwner.DoWhile Terminators.End d >>= λ last. ended BlockOwner.DoWhile last)) w u b → RanTo F (do-condition (parse-block limit) d o) w u b
+  pub condition : {l v : World} {p : BlockParseOutcome} (o : BlockParseOutcome) → x ≡ (found-terminator o && at (is WHILE) (from F (w .c .pos))) → x ≡ true
+      → Lined F WHILE w l → RanTo F (parse-block limit BlockOwner.DoWhile Terminators.End d) l v p → RanTo F (ended BlockOwner.DoWhile p) v u b
+      → RanTo F (do-condition (parse-block limit) d o) w u b
   unfolding do-condition
-  condition BlockParseOutcome.ReachedEof e k h = absurd (false≢true (sym e ∙ k))
-  condition BlockParseOutcome.FoundTerminator e k h = h
-  condition BlockParseOutcome.RecoveredImplicitEnd e k h = absurd (false≢true (sym e ∙ k))
-
-found-is : (o : BlockParseOutcome) → found-terminator o ≡ true → o ≡ BlockParseOutcome.FoundTerminator
-found-is BlockParseOutcome.FoundTerminator e = refl
-found-is BlockParseOutcome.RecoveredImplicitEnd e = absurd (false≢true e)
-found-is BlockParseOutcome.ReachedEof e = absurd (false≢true e)
-
--- the body of a `do` that was closed stands before a `while`
-pub at-while : {F : File} {w w′ : World} {o : BlockParseOutcome} (d : ℕ) → RanTo F (parse-block limit BlockOwner.DoWhileBody Terminators.While d) w w′ o → found-terminator o ≡ true → at (is WHILE) (from F (w′ .c .pos)) ≡ true
-at-while {F} {w} {w′} {o} d h e =
-    bare-while _ (ap (at-terminator Terminators.While) (sym (h .ran .rest)) ∙ stops-block limit BlockOwner.DoWhileBody Terminators.While d .stops _ (h .val ∙ found-is o e))
+  condition BlockParseOutcome.ReachedEof e k l g h = absurd (false≢true (sym e ∙ k))
+  condition BlockParseOutcome.FoundTerminator e k l g h = l .key then-to l .line then-to bind-to (λ last. ended BlockOwner.DoWhile last) g h
+  condition BlockParseOutcome.RecoveredImplicitEnd e k l g h = absurd (false≢true (sym e ∙ k))
 
 -- the last of the four forms
 pub repeat-here : (r : List Sym) → at control-flow r ≡ true → at (is IF) r ≡ false → at (is DO) r ≡ false → at (is WHILE) r ≡ false → at (is REPEAT) r ≡ true

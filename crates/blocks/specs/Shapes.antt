@@ -1,10 +1,9 @@
 -- What the functions around a block do, as parts of a form: an opening, what leads up to a block, an end. Assumes nothing: these are definitions.
 use mathlib.Core.Path.{_≡_}
-use mathlib.Core.Bool.{Bool, true, false, not, _&&_}
-use mathlib.Core.List.{List}
+use mathlib.Core.Bool.{Bool, true, false}
 use Prim.Native.Nat.{ℕ, _<_}
-use Rattle.grammar.specs.Words.{Sym, File, from, is, ELSE, WHILE}
-use Rattle.grammar.specs.Look.{at, at-keyword, current, at-top-level-form-starter-in-block}
+use Rattle.grammar.specs.Words.{Sym, File, from, ELSE}
+use Rattle.grammar.specs.Look.{at-keyword, current, at-top-level-form-starter-in-block}
 use Rattle.grammar.specs.Run.{Kind, num, Error, P, pure, inNode, pick, _>>_, _>>=_, if_then_else_}
 use Rattle.grammar.specs.declared.message.Message.{Message}
 use Rattle.grammar.specs.declared.block.BlockOwner.{BlockOwner}
@@ -13,7 +12,7 @@ use Rattle.grammar.specs.declared.block.BlockRecoveryBoundary.{BlockRecoveryBou
 use Rattle.grammar.specs.declared.block.BlockParseOutcome.{BlockParseOutcome}
 use Rattle.grammar.specs.Bump.{bump, error-here, expect-keyword}
 use Rattle.grammar.specs.Line.{parse-line-tail}
-use Rattle.grammar.specs.Block.{MAX-CONTROL-FLOW-NESTING as limit, Blocks, parse-structured-header-suffixes, found-terminator, reached-eof, ended, block-in, parse-block}
+use Rattle.grammar.specs.Block.{MAX-CONTROL-FLOW-NESTING as limit, Blocks, parse-structured-header-suffixes, reached-eof, ended, block-in, parse-block}
 use Rattle.parser.specs.Rep.{World, Onward, Past, Wrote, Ran, RanTo}
 use Rattle.blocks.specs.declared.arm.Closing.{Closing}
 use Rattle.blocks.specs.declared.arm.BlockArm.{BlockArm}
@@ -35,12 +34,6 @@ else-part block depth outcome =
     pick (reached-eof outcome) (pure true)
     ((if at-keyword ELSE then else-line (block BlockOwner.If Terminators.End depth) else pure outcome) >>= λ last. ended BlockOwner.If last)
 
--- the code goes from w to w′ as `lead` does before what comes next, and takes a token
-pub record Led {A : Type 0} (F : File) (lead : P A → P A) (w w′ : World) : Type 0 where
-  pub on : (next : P A) (v : World) (r : A) → RanTo F next w′ v r → RanTo F (lead next) w v r
-  pub onward : Onward w w′
-  pub past : Past F w w′
-
 -- a keyword, and the rest of its line
 pub record Lined (F : File) (keyword : Sym) (w w′ : World) : Type 0 where
   pub mid : World
@@ -49,7 +42,7 @@ pub record Lined (F : File) (keyword : Sym) (w w′ : World) : Type 0 where
   pub onward : Onward w w′
   pub past : Past F w w′
 
--- the same behind a node's opening event, v
+-- a node's opening event, v, and then what `lead` does before what comes next; it takes a token
 pub record Opened (F : File) (v : ℕ) (lead : P Bool → P Bool) (w w′ : World) : Type 0 where
   pub mid : World
   pub wrote : Wrote F v w mid
@@ -124,31 +117,3 @@ pub record Formed (F : File) (form : P Bool) (w w′ : World) (eof item : Bool) 
   pub ran : RanTo F form w w′ eof
   pub past : Past F w w′
   pub here : ItemAt F (w′ .c .pos) item
-
--- ---- the blocks of a form
--- The last: the block, and the form's end.
-pub record Last (F : File) (owner : BlockOwner) (depth : ℕ) (w w′ : World) (eof item : Bool) : Type 0 where
-  pub mid : World
-  pub outcome : BlockParseOutcome
-  pub block : RanTo F (parse-block limit owner Terminators.End depth) w mid outcome
-  pub done : Finished F owner outcome mid w′ eof item
-  pub onward : Onward w w′
-
--- The first: the block, and the line that leads to the other, where `goes` says so, or the form's end.
-pub record First {A : Type 0} (F : File) (block-owner : BlockOwner) (terminators : Terminators) (goes : BlockParseOutcome → List Sym → Bool)
-    (lead : P A → P A) (owner : BlockOwner) (depth : ℕ) (w w′ : World) (more eof item : Bool) : Type 0 where
-  pub mid : World
-  pub outcome : BlockParseOutcome
-  pub block : RanTo F (parse-block limit block-owner terminators depth) w mid outcome
-  pub test : more ≡ goes outcome (from F (mid .c .pos))
-  pub led : more ≡ true → Led F lead mid w′
-  pub done : more ≡ false → Finished F owner outcome mid w′ eof item
-  pub onward : Onward w w′
-
--- of an `if`, up to the line of its `else`
-abbrev pub Then : File → ℕ → World → World → Bool → Bool → Bool → Type 0
-Then F = First F BlockOwner.If Terminators.ElseEnd (λ outcome r. not (reached-eof outcome) && at (is ELSE) r) else-line BlockOwner.If
-
--- the body of a `do`, up to the line of its `while`
-abbrev pub Body : File → ℕ → World → World → Bool → Bool → Bool → Type 0
-Body F = First F BlockOwner.DoWhileBody Terminators.While (λ outcome r. found-terminator outcome) (keyword-line WHILE) BlockOwner.DoWhile

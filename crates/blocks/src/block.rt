@@ -1,24 +1,24 @@
 // Blocks and the four control forms call each other in a cycle; each call has fewer tokens left, or as many in a later function.
-// The compiler makes one frame of them. To keep it small, a call into the cycle stands in a function of its own: its arguments then
-// share their places.
+// The compiler makes one frame of them. To keep it small, the forms call the cycle by `inner_block` alone, whose arguments then share
+// their places, and a form's second block takes the place of its first.
 use crate::close::BlockEnd;
 use crate::close::Form;
 use crate::close::ended_file;
 use crate::close::finish;
-use crate::close::found_terminator;
 use crate::close::goes_to_else;
+use crate::close::goes_to_while;
 use crate::header::do_header;
-use crate::header::else_line;
 use crate::header::if_header;
+use crate::header::keyword_line;
 use crate::header::repeat_header;
 use crate::header::while_header;
-use crate::header::while_line;
 use crate::rounds::Place;
 use crate::rounds::first_rounds;
 use crate::rounds::next_rounds;
 use grammar::block::BlockOwner;
 use grammar::block::Terminators;
 use grammar::words::DO;
+use grammar::words::ELSE;
 use grammar::words::IF;
 use grammar::words::WHILE;
 use parser::cursor::Cursor;
@@ -31,15 +31,7 @@ ghost use Rattle.grammar.specs.Look.{at, current, control-flow};
 ghost use Rattle.grammar.specs.Block.{MAX-CONTROL-FLOW-NESTING as limit, parse-block, parse-if, parse-while, parse-do-while, parse-repeat};
 ghost use Rattle.grammar.specs.Block.{parse-control-flow};
 ghost use Rattle.parser.specs.Rep.{entry, exit};
-ghost use Rattle.blocks.specs.Shapes.{Blocked, Formed, Then, Body, Last};
-
-// A form's first block: whether another follows, and if not, the form's end.
-struct Half {
-    c: Cursor,
-    more: bool,
-    eof: bool,
-    item: bool,
-}
+ghost use Rattle.blocks.specs.Shapes.{Blocked, Formed};
 
 // Where a block begins, and which it is: the arguments of `block_from`, which a frame then holds in one place.
 struct Start {
@@ -134,7 +126,8 @@ fn parse_control_flow(
     parse_repeat(kinds, ev, dm, ds, c0, depth)
 }
 
-// A block inside a form. All calls of the forms go through here, so that a frame has room for the arguments of one.
+// A block inside a form. All calls of the forms go through here, so that a frame has room for the arguments of one; parse_block has
+// the same body, since a call of this from outside would make the frame larger.
 fn inner_block(
     kinds: &[u16],
     ev: &mut [u16],
@@ -161,109 +154,6 @@ fn inner_block(
     block_from(kinds, ev, dm, ds, start)
 }
 
-// A form's last block, and the form's end.
-fn last_block(
-    kinds: &[u16],
-    ev: &mut [u16],
-    dm: &mut [u16],
-    ds: &mut [u32],
-    c0: Cursor,
-    owner: BlockOwner,
-    depth: usize,
-) -> Form
-    requires { ⌜ depth ≤ limit ⌝ }
-    ensures { λ r. ⌜ Last (now (kinds .entry)) owner depth (entry ev dm ds c0) (exit ev dm ds (r .c)) (r .eof) (r .item) ⌝ }
-{
-    let b = inner_block(kinds, ev, dm, ds, c0, owner, Terminators::End, depth);
-    finish(kinds, ev, dm, ds, b, owner)
-}
-
-// The first block of an `if`, and then the line of its `else` or the form's end.
-fn then_block(
-    kinds: &[u16],
-    ev: &mut [u16],
-    dm: &mut [u16],
-    ds: &mut [u32],
-    c0: Cursor,
-    depth: usize,
-) -> Half
-    requires { ⌜ depth ≤ limit ⌝ }
-    ensures { λ r. ⌜ Then (now (kinds .entry)) depth (entry ev dm ds c0) (exit ev dm ds (r .c)) (r .more) (r .eof) (r .item) ⌝ }
-{
-    let b = inner_block(
-        kinds,
-        ev,
-        dm,
-        ds,
-        c0,
-        BlockOwner::If,
-        Terminators::ElseEnd,
-        depth,
-    );
-    let c = b.c;
-    let outcome = b.outcome;
-    if goes_to_else(kinds, c.pos, outcome) {
-        let e = else_line(kinds, ev, dm, ds, c);
-        return Half {
-            c: e,
-            more: true,
-            eof: false,
-            item: false,
-        };
-    }
-    let f = finish(kinds, ev, dm, ds, b, BlockOwner::If);
-    let fc = f.c;
-    Half {
-        c: fc,
-        more: false,
-        eof: f.eof,
-        item: f.item,
-    }
-}
-
-// The body of a `do`, and then the line of its `while` or the form's end.
-fn body_block(
-    kinds: &[u16],
-    ev: &mut [u16],
-    dm: &mut [u16],
-    ds: &mut [u32],
-    c0: Cursor,
-    depth: usize,
-) -> Half
-    requires { ⌜ depth ≤ limit ⌝ }
-    ensures { λ r. ⌜ Body (now (kinds .entry)) depth (entry ev dm ds c0) (exit ev dm ds (r .c)) (r .more) (r .eof) (r .item) ⌝ }
-{
-    let b = inner_block(
-        kinds,
-        ev,
-        dm,
-        ds,
-        c0,
-        BlockOwner::DoWhileBody,
-        Terminators::While,
-        depth,
-    );
-    let c = b.c;
-    let outcome = b.outcome;
-    if found_terminator(outcome) {
-        let e = while_line(kinds, ev, dm, ds, c);
-        return Half {
-            c: e,
-            more: true,
-            eof: false,
-            item: false,
-        };
-    }
-    let f = finish(kinds, ev, dm, ds, b, BlockOwner::DoWhile);
-    let fc = f.c;
-    Half {
-        c: fc,
-        more: false,
-        eof: f.eof,
-        item: f.item,
-    }
-}
-
 fn parse_if(
     kinds: &[u16],
     ev: &mut [u16],
@@ -277,16 +167,33 @@ fn parse_if(
         (entry ev dm ds c0) (exit ev dm ds (r .c)) (r .eof) (r .item) ⌝ }
 {
     let h = if_header(kinds, ev, dm, ds, c0);
-    let b = then_block(kinds, ev, dm, ds, h, depth);
+    let mut b = inner_block(
+        kinds,
+        ev,
+        dm,
+        ds,
+        h,
+        BlockOwner::If,
+        Terminators::ElseEnd,
+        depth,
+    );
     let c = b.c;
-    if !b.more {
-        return Form {
-            c: c,
-            eof: b.eof,
-            item: b.item,
-        };
+    let outcome = b.outcome;
+    if !goes_to_else(kinds, c.pos, outcome) {
+        return finish(kinds, ev, dm, ds, b, BlockOwner::If);
     }
-    last_block(kinds, ev, dm, ds, c, BlockOwner::If, depth)
+    let line = keyword_line(kinds, ev, dm, ds, c, ELSE);
+    b = inner_block(
+        kinds,
+        ev,
+        dm,
+        ds,
+        line,
+        BlockOwner::If,
+        Terminators::End,
+        depth,
+    );
+    finish(kinds, ev, dm, ds, b, BlockOwner::If)
 }
 
 fn parse_while(
@@ -302,7 +209,17 @@ fn parse_while(
         (entry ev dm ds c0) (exit ev dm ds (r .c)) (r .eof) (r .item) ⌝ }
 {
     let h = while_header(kinds, ev, dm, ds, c0);
-    last_block(kinds, ev, dm, ds, h, BlockOwner::While, depth)
+    let b = inner_block(
+        kinds,
+        ev,
+        dm,
+        ds,
+        h,
+        BlockOwner::While,
+        Terminators::End,
+        depth,
+    );
+    finish(kinds, ev, dm, ds, b, BlockOwner::While)
 }
 
 fn parse_do_while(
@@ -318,16 +235,33 @@ fn parse_do_while(
         (entry ev dm ds c0) (exit ev dm ds (r .c)) (r .eof) (r .item) ⌝ }
 {
     let h = do_header(kinds, ev, dm, ds, c0);
-    let b = body_block(kinds, ev, dm, ds, h, depth);
+    let mut b = inner_block(
+        kinds,
+        ev,
+        dm,
+        ds,
+        h,
+        BlockOwner::DoWhileBody,
+        Terminators::While,
+        depth,
+    );
     let c = b.c;
-    if !b.more {
-        return Form {
-            c: c,
-            eof: b.eof,
-            item: b.item,
-        };
+    let outcome = b.outcome;
+    if !goes_to_while(kinds, c.pos, outcome) {
+        return finish(kinds, ev, dm, ds, b, BlockOwner::DoWhile);
     }
-    last_block(kinds, ev, dm, ds, c, BlockOwner::DoWhile, depth)
+    let line = keyword_line(kinds, ev, dm, ds, c, WHILE);
+    b = inner_block(
+        kinds,
+        ev,
+        dm,
+        ds,
+        line,
+        BlockOwner::DoWhile,
+        Terminators::End,
+        depth,
+    );
+    finish(kinds, ev, dm, ds, b, BlockOwner::DoWhile)
 }
 
 fn parse_repeat(
@@ -343,5 +277,15 @@ fn parse_repeat(
         (entry ev dm ds c0) (exit ev dm ds (r .c)) (r .eof) (r .item) ⌝ }
 {
     let h = repeat_header(kinds, ev, dm, ds, c0);
-    last_block(kinds, ev, dm, ds, h, BlockOwner::Repeat, depth)
+    let b = inner_block(
+        kinds,
+        ev,
+        dm,
+        ds,
+        h,
+        BlockOwner::Repeat,
+        Terminators::End,
+        depth,
+    );
+    finish(kinds, ev, dm, ds, b, BlockOwner::Repeat)
 }

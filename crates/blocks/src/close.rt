@@ -8,6 +8,7 @@ use grammar::event::CLOSE;
 use grammar::message::Message;
 use grammar::words::ELSE;
 use grammar::words::END;
+use grammar::words::WHILE;
 use lexer::syntax::ERROR;
 use parser::cursor::Cursor;
 use parser::cursor::error_here;
@@ -16,7 +17,7 @@ use parser::look::at_kind;
 ghost use mathlib.Core.Path.{_≡_};
 ghost use mathlib.Core.Bool.{false, not, _&&_};
 ghost use lib.ListN.{drop};
-ghost use Rattle.grammar.specs.Words.{is, ELSE as elseWord};
+ghost use Rattle.grammar.specs.Words.{is, ELSE as elseWord, WHILE as whileWord};
 ghost use Rattle.grammar.specs.Look.{at};
 ghost use Rattle.grammar.specs.Block.{found-terminator, reached-eof};
 ghost use Rattle.grammar.specs.declared.block.BlockParseOutcome.the-variants.{ReachedEof};
@@ -185,4 +186,12 @@ pub fn goes_to_else(kinds: &[u16], p: usize, outcome: BlockParseOutcome) -> bool
     ensures { λ r. ⌜ r ≡ (not (reached-eof outcome) && at (is elseWord) (drop p (now (kinds .entry)))) ⌝ }
 {
     !reached_eof(outcome) && at_kind(kinds, p, ELSE)
+}
+
+// Whether the `while` follows the body of a `do`. The outcome alone tells; with the token looked at too, as for an `else`, the cycle's
+// frame is 16 bytes smaller.
+pub fn goes_to_while(kinds: &[u16], p: usize, outcome: BlockParseOutcome) -> bool
+    ensures { λ r. ⌜ r ≡ (found-terminator outcome && at (is whileWord) (drop p (now (kinds .entry)))) ⌝ }
+{
+    found_terminator(outcome) && at_kind(kinds, p, WHILE)
 }

@@ -4,7 +4,6 @@ use crate::suffix::parse_structured_header_suffixes;
 use forms::line::parse_line_tail;
 use grammar::message::Message;
 use grammar::words::DO;
-use grammar::words::ELSE;
 use grammar::words::IF;
 use grammar::words::REPEAT;
 use grammar::words::WHILE;
@@ -18,10 +17,10 @@ ghost use mathlib.Core.Path.{_≡_};
 ghost use mathlib.Core.Bool.{true, false};
 ghost use lib.ListN.{drop};
 ghost use Rattle.lexer.specs.Syntax.{IfOp, WhileOp, DoWhileOp, RepeatOp};
-ghost use Rattle.grammar.specs.Words.{is, DO as doWord, ELSE as elseWord, IF as ifWord, REPEAT as repeatWord, WHILE as whileWord};
+ghost use Rattle.grammar.specs.Words.{is, DO as doWord, IF as ifWord, REPEAT as repeatWord, WHILE as whileWord};
 ghost use Rattle.grammar.specs.Look.{at, regular-trivia};
 ghost use Rattle.parser.specs.Rep.{entry, exit};
-ghost use Rattle.blocks.specs.Shapes.{header as headerOf, keyword-line, else-line, Opened, Led, Lined};
+ghost use Rattle.blocks.specs.Shapes.{header as headerOf, keyword-line, Opened, Lined};
 
 // The node's opening event, its keyword, suffixes and the rest of the line: `if`, `while` and `repeat`.
 fn header(
@@ -44,7 +43,7 @@ fn header(
 }
 
 // A keyword and the rest of the line: `do`, `else`, and the `while` behind the body of a `do`.
-fn keyword_line(
+pub fn keyword_line(
     kinds: &[u16],
     ev: &mut [u16],
     dm: &mut [u16],
@@ -73,34 +72,6 @@ pub fn do_header(
 {
     let a = put(ev, c0, DO_WHILE_OP);
     keyword_line(kinds, ev, dm, ds, a, DO)
-}
-
-// `else` and the rest of the line.
-pub fn else_line(
-    kinds: &[u16],
-    ev: &mut [u16],
-    dm: &mut [u16],
-    ds: &mut [u32],
-    c0: Cursor,
-) -> Cursor
-    requires { ⌜ at (is elseWord) (drop (c0 .pos) (now kinds)) ≡ true ⌝ }
-    ensures { λ r. ⌜ Led (now (kinds .entry)) else-line (entry ev dm ds c0) (exit ev dm ds r) ⌝ }
-{
-    keyword_line(kinds, ev, dm, ds, c0, ELSE)
-}
-
-// The `while` behind the body of a `do`, and the rest of the line.
-pub fn while_line(
-    kinds: &[u16],
-    ev: &mut [u16],
-    dm: &mut [u16],
-    ds: &mut [u32],
-    c0: Cursor,
-) -> Cursor
-    requires { ⌜ at (is whileWord) (drop (c0 .pos) (now kinds)) ≡ true ⌝ }
-    ensures { λ r. ⌜ Led (now (kinds .entry)) (keyword-line whileWord) (entry ev dm ds c0) (exit ev dm ds r) ⌝ }
-{
-    keyword_line(kinds, ev, dm, ds, c0, WHILE)
 }
 
 // The opening event of an `if`, and its first line.

@@ -6,76 +6,57 @@ use borrow.Fn.PlainCycle.{Measures, is, falls, and}
 use Rattle.blocks.proofs.Laws.{Going}
 use Rattle.blocks.proofs.block.block_from.Reads as block-from
 use Rattle.blocks.proofs.block.block_from.Kinds as block-from-kinds
-use Rattle.blocks.proofs.block.+block_from+body_block+inner_block+last_block+parse_control_flow+parse_do_while+parse_if+parse_repeat+parse_while+then_block.Lts-block_from as block-from-lts
-use Rattle.blocks.proofs.block.body_block.Reads as body-block
-use Rattle.blocks.proofs.block.body_block.Kinds as body-block-kinds
-use Rattle.blocks.proofs.block.+block_from+body_block+inner_block+last_block+parse_control_flow+parse_do_while+parse_if+parse_repeat+parse_while+then_block.Lts-body_block as body-block-lts
+use Rattle.blocks.proofs.block.+block_from+inner_block+parse_control_flow+parse_do_while+parse_if+parse_repeat+parse_while.Lts-block_from as block-from-lts
 use Rattle.blocks.proofs.block.inner_block.Reads as inner-block
 use Rattle.blocks.proofs.block.inner_block.Kinds as inner-block-kinds
-use Rattle.blocks.proofs.block.+block_from+body_block+inner_block+last_block+parse_control_flow+parse_do_while+parse_if+parse_repeat+parse_while+then_block.Lts-inner_block as inner-block-lts
-use Rattle.blocks.proofs.block.last_block.Reads as last-block
-use Rattle.blocks.proofs.block.last_block.Kinds as last-block-kinds
-use Rattle.blocks.proofs.block.+block_from+body_block+inner_block+last_block+parse_control_flow+parse_do_while+parse_if+parse_repeat+parse_while+then_block.Lts-last_block as last-block-lts
+use Rattle.blocks.proofs.block.+block_from+inner_block+parse_control_flow+parse_do_while+parse_if+parse_repeat+parse_while.Lts-inner_block as inner-block-lts
 use Rattle.blocks.proofs.block.parse_control_flow.Reads as parse-control-flow
 use Rattle.blocks.proofs.block.parse_control_flow.Kinds as parse-control-flow-kinds
-use Rattle.blocks.proofs.block.+block_from+body_block+inner_block+last_block+parse_control_flow+parse_do_while+parse_if+parse_repeat+parse_while+then_block.Lts-parse_control_flow as parse-control-flow-lts
+use Rattle.blocks.proofs.block.+block_from+inner_block+parse_control_flow+parse_do_while+parse_if+parse_repeat+parse_while.Lts-parse_control_flow as parse-control-flow-lts
 use Rattle.blocks.proofs.block.parse_do_while.Reads as parse-do-while
 use Rattle.blocks.proofs.block.parse_do_while.Kinds as parse-do-while-kinds
-use Rattle.blocks.proofs.block.+block_from+body_block+inner_block+last_block+parse_control_flow+parse_do_while+parse_if+parse_repeat+parse_while+then_block.Lts-parse_do_while as parse-do-while-lts
+use Rattle.blocks.proofs.block.+block_from+inner_block+parse_control_flow+parse_do_while+parse_if+parse_repeat+parse_while.Lts-parse_do_while as parse-do-while-lts
 use Rattle.blocks.proofs.block.parse_if.Reads as parse-if
 use Rattle.blocks.proofs.block.parse_if.Kinds as parse-if-kinds
-use Rattle.blocks.proofs.block.+block_from+body_block+inner_block+last_block+parse_control_flow+parse_do_while+parse_if+parse_repeat+parse_while+then_block.Lts-parse_if as parse-if-lts
+use Rattle.blocks.proofs.block.+block_from+inner_block+parse_control_flow+parse_do_while+parse_if+parse_repeat+parse_while.Lts-parse_if as parse-if-lts
 use Rattle.blocks.proofs.block.parse_repeat.Reads as parse-repeat
 use Rattle.blocks.proofs.block.parse_repeat.Kinds as parse-repeat-kinds
-use Rattle.blocks.proofs.block.+block_from+body_block+inner_block+last_block+parse_control_flow+parse_do_while+parse_if+parse_repeat+parse_while+then_block.Lts-parse_repeat as parse-repeat-lts
+use Rattle.blocks.proofs.block.+block_from+inner_block+parse_control_flow+parse_do_while+parse_if+parse_repeat+parse_while.Lts-parse_repeat as parse-repeat-lts
 use Rattle.blocks.proofs.block.parse_while.Reads as parse-while
 use Rattle.blocks.proofs.block.parse_while.Kinds as parse-while-kinds
-use Rattle.blocks.proofs.block.+block_from+body_block+inner_block+last_block+parse_control_flow+parse_do_while+parse_if+parse_repeat+parse_while+then_block.Lts-parse_while as parse-while-lts
-use Rattle.blocks.proofs.block.then_block.Reads as then-block
-use Rattle.blocks.proofs.block.then_block.Kinds as then-block-kinds
-use Rattle.blocks.proofs.block.+block_from+body_block+inner_block+last_block+parse_control_flow+parse_do_while+parse_if+parse_repeat+parse_while+then_block.Lts-then_block as then-block-lts
+use Rattle.blocks.proofs.block.+block_from+inner_block+parse_control_flow+parse_do_while+parse_if+parse_repeat+parse_while.Lts-parse_while as parse-while-lts
 use Rattle.blocks.proofs.close.ended_file.Reads as ended-file-reads
 use Rattle.blocks.proofs.close.finish.Reads as finish-reads
-use Rattle.blocks.proofs.close.found_terminator.Reads as found-terminator-reads
 use Rattle.blocks.proofs.close.goes_to_else.Reads as goes-to-else-reads
+use Rattle.blocks.proofs.close.goes_to_while.Reads as goes-to-while-reads
 use Rattle.blocks.proofs.header.do_header.Reads as do-header-reads
-use Rattle.blocks.proofs.header.else_line.Reads as else-line-reads
 use Rattle.blocks.proofs.header.if_header.Reads as if-header-reads
+use Rattle.blocks.proofs.header.keyword_line.Reads as keyword-line-reads
 use Rattle.blocks.proofs.header.repeat_header.Reads as repeat-header-reads
 use Rattle.blocks.proofs.header.while_header.Reads as while-header-reads
-use Rattle.blocks.proofs.header.while_line.Reads as while-line-reads
 use Rattle.blocks.proofs.rounds.first_rounds.Reads as first-rounds-reads
 use Rattle.blocks.proofs.rounds.next_rounds.Reads as next-rounds-reads
 
 abbrev pub μ-block-from : Measures 4 block-from-kinds.ps ℕ
-μ-block-from κs a = 5 * (length (a .0 .now) - a .1 .1 .1 .1 .0 .c .pos) + 2
-
-abbrev pub μ-body-block : Measures 4 body-block-kinds.ps ℕ
-μ-body-block κs a = 5 * (length (a .0 .now) - a .1 .1 .1 .1 .0 .pos) + 4
+μ-block-from κs a = 4 * (length (a .0 .now) - a .1 .1 .1 .1 .0 .c .pos) + 2
 
 abbrev pub μ-inner-block : Measures 4 inner-block-kinds.ps ℕ
-μ-inner-block κs a = 5 * (length (a .0 .now) - a .1 .1 .1 .1 .0 .pos) + 3
-
-abbrev pub μ-last-block : Measures 4 last-block-kinds.ps ℕ
-μ-last-block κs a = 5 * (length (a .0 .now) - a .1 .1 .1 .1 .0 .pos) + 4
+μ-inner-block κs a = 4 * (length (a .0 .now) - a .1 .1 .1 .1 .0 .pos) + 3
 
 abbrev pub μ-parse-control-flow : Measures 4 parse-control-flow-kinds.ps ℕ
-μ-parse-control-flow κs a = 5 * (length (a .0 .now) - a .1 .1 .1 .1 .0 .pos) + 1
+μ-parse-control-flow κs a = 4 * (length (a .0 .now) - a .1 .1 .1 .1 .0 .pos) + 1
 
 abbrev pub μ-parse-do-while : Measures 4 parse-do-while-kinds.ps ℕ
-μ-parse-do-while κs a = 5 * (length (a .0 .now) - a .1 .1 .1 .1 .0 .pos)
+μ-parse-do-while κs a = 4 * (length (a .0 .now) - a .1 .1 .1 .1 .0 .pos)
 
 abbrev pub μ-parse-if : Measures 4 parse-if-kinds.ps ℕ
-μ-parse-if κs a = 5 * (length (a .0 .now) - a .1 .1 .1 .1 .0 .pos)
+μ-parse-if κs a = 4 * (length (a .0 .now) - a .1 .1 .1 .1 .0 .pos)
 
 abbrev pub μ-parse-repeat : Measures 4 parse-repeat-kinds.ps ℕ
-μ-parse-repeat κs a = 5 * (length (a .0 .now) - a .1 .1 .1 .1 .0 .pos)
+μ-parse-repeat κs a = 4 * (length (a .0 .now) - a .1 .1 .1 .1 .0 .pos)
 
 abbrev pub μ-parse-while : Measures 4 parse-while-kinds.ps ℕ
-μ-parse-while κs a = 5 * (length (a .0 .now) - a .1 .1 .1 .1 .0 .pos)
-
-abbrev pub μ-then-block : Measures 4 then-block-kinds.ps ℕ
-μ-then-block κs a = 5 * (length (a .0 .now) - a .1 .1 .1 .1 .0 .pos) + 4
+μ-parse-while κs a = 4 * (length (a .0 .now) - a .1 .1 .1 .1 .0 .pos)
 
 abbrev pub block-from-at : ℕ → In 4 block-from-kinds.ps
 block-from-at t = and 4 block-from-kinds.ps (is 4 block-from-kinds.ps μ-block-from t) block-from.Pre
@@ -83,23 +64,11 @@ block-from-at t = and 4 block-from-kinds.ps (is 4 block-from-kinds.ps μ-block-f
 abbrev pub block-from-below : ℕ → In 4 block-from-kinds.ps
 block-from-below t = and 4 block-from-kinds.ps (falls 4 block-from-kinds.ps _<_ μ-block-from t) block-from.Pre
 
-abbrev pub body-block-at : ℕ → In 4 body-block-kinds.ps
-body-block-at t = and 4 body-block-kinds.ps (is 4 body-block-kinds.ps μ-body-block t) body-block.Pre
-
-abbrev pub body-block-below : ℕ → In 4 body-block-kinds.ps
-body-block-below t = and 4 body-block-kinds.ps (falls 4 body-block-kinds.ps _<_ μ-body-block t) body-block.Pre
-
 abbrev pub inner-block-at : ℕ → In 4 inner-block-kinds.ps
 inner-block-at t = and 4 inner-block-kinds.ps (is 4 inner-block-kinds.ps μ-inner-block t) inner-block.Pre
 
 abbrev pub inner-block-below : ℕ → In 4 inner-block-kinds.ps
 inner-block-below t = and 4 inner-block-kinds.ps (falls 4 inner-block-kinds.ps _<_ μ-inner-block t) inner-block.Pre
-
-abbrev pub last-block-at : ℕ → In 4 last-block-kinds.ps
-last-block-at t = and 4 last-block-kinds.ps (is 4 last-block-kinds.ps μ-last-block t) last-block.Pre
-
-abbrev pub last-block-below : ℕ → In 4 last-block-kinds.ps
-last-block-below t = and 4 last-block-kinds.ps (falls 4 last-block-kinds.ps _<_ μ-last-block t) last-block.Pre
 
 abbrev pub parse-control-flow-at : ℕ → In 4 parse-control-flow-kinds.ps
 parse-control-flow-at t = and 4 parse-control-flow-kinds.ps (is 4 parse-control-flow-kinds.ps μ-parse-control-flow t) parse-control-flow.Pre
@@ -131,12 +100,6 @@ parse-while-at t = and 4 parse-while-kinds.ps (is 4 parse-while-kinds.ps μ-pars
 abbrev pub parse-while-below : ℕ → In 4 parse-while-kinds.ps
 parse-while-below t = and 4 parse-while-kinds.ps (falls 4 parse-while-kinds.ps _<_ μ-parse-while t) parse-while.Pre
 
-abbrev pub then-block-at : ℕ → In 4 then-block-kinds.ps
-then-block-at t = and 4 then-block-kinds.ps (is 4 then-block-kinds.ps μ-then-block t) then-block.Pre
-
-abbrev pub then-block-below : ℕ → In 4 then-block-kinds.ps
-then-block-below t = and 4 then-block-kinds.ps (falls 4 then-block-kinds.ps _<_ μ-then-block t) then-block.Pre
-
 -- what is asked and learnt at the calls of `block_from`
 abbrev pub block-from-calls : ℕ → block-from-lts.Claims
 block-from-calls t = (
@@ -150,33 +113,11 @@ block-from-calls t = (
   next-rounds-reads.Learnt,
 )
 
--- what is asked and learnt at the calls of `body_block`
-abbrev pub body-block-calls : ℕ → body-block-lts.Claims
-body-block-calls t = (
-  inner-block-below t,
-  inner-block.Post,
-  found-terminator-reads.Asked,
-  found-terminator-reads.Learnt,
-  while-line-reads.Asked,
-  while-line-reads.Learnt,
-  finish-reads.Asked,
-  finish-reads.Learnt,
-)
-
 -- what is asked and learnt at the calls of `inner_block`
 abbrev pub inner-block-calls : ℕ → inner-block-lts.Claims
 inner-block-calls t = (
   block-from-below t,
   block-from.Post,
-)
-
--- what is asked and learnt at the calls of `last_block`
-abbrev pub last-block-calls : ℕ → last-block-lts.Claims
-last-block-calls t = (
-  inner-block-below t,
-  inner-block.Post,
-  finish-reads.Asked,
-  finish-reads.Learnt,
 )
 
 -- what is asked and learnt at the calls of `parse_control_flow`
@@ -197,10 +138,14 @@ abbrev pub parse-do-while-calls : ℕ → parse-do-while-lts.Claims
 parse-do-while-calls t = (
   do-header-reads.Asked,
   do-header-reads.Learnt,
-  body-block-below t,
-  body-block.Post,
-  last-block-below t,
-  last-block.Post,
+  inner-block-below t,
+  inner-block.Post,
+  goes-to-while-reads.Asked,
+  goes-to-while-reads.Learnt,
+  finish-reads.Asked,
+  finish-reads.Learnt,
+  keyword-line-reads.Asked,
+  keyword-line-reads.Learnt,
 )
 
 -- what is asked and learnt at the calls of `parse_if`
@@ -208,10 +153,14 @@ abbrev pub parse-if-calls : ℕ → parse-if-lts.Claims
 parse-if-calls t = (
   if-header-reads.Asked,
   if-header-reads.Learnt,
-  then-block-below t,
-  then-block.Post,
-  last-block-below t,
-  last-block.Post,
+  inner-block-below t,
+  inner-block.Post,
+  goes-to-else-reads.Asked,
+  goes-to-else-reads.Learnt,
+  finish-reads.Asked,
+  finish-reads.Learnt,
+  keyword-line-reads.Asked,
+  keyword-line-reads.Learnt,
 )
 
 -- what is asked and learnt at the calls of `parse_repeat`
@@ -219,8 +168,10 @@ abbrev pub parse-repeat-calls : ℕ → parse-repeat-lts.Claims
 parse-repeat-calls t = (
   repeat-header-reads.Asked,
   repeat-header-reads.Learnt,
-  last-block-below t,
-  last-block.Post,
+  inner-block-below t,
+  inner-block.Post,
+  finish-reads.Asked,
+  finish-reads.Learnt,
 )
 
 -- what is asked and learnt at the calls of `parse_while`
@@ -228,19 +179,8 @@ abbrev pub parse-while-calls : ℕ → parse-while-lts.Claims
 parse-while-calls t = (
   while-header-reads.Asked,
   while-header-reads.Learnt,
-  last-block-below t,
-  last-block.Post,
-)
-
--- what is asked and learnt at the calls of `then_block`
-abbrev pub then-block-calls : ℕ → then-block-lts.Claims
-then-block-calls t = (
   inner-block-below t,
   inner-block.Post,
-  goes-to-else-reads.Asked,
-  goes-to-else-reads.Learnt,
-  else-line-reads.Asked,
-  else-line-reads.Learnt,
   finish-reads.Asked,
   finish-reads.Learnt,
 )
@@ -255,14 +195,8 @@ block-from-μ-loop kinds ev₀ dm₀ ds₀ place depth s₀ ev dm ds s = length 
 abbrev pub block-from-place : (block-from-lts.Claims → In 4 block-from-kinds.ps → Out 4 block-from-kinds.ps block-from-kinds.r → block-from-lts.InvT-loop → block-from-lts.MeasureT-loop → Type 0) → ℕ → Type 0
 block-from-place P t = P (block-from-calls t) (block-from-at t) block-from.Post block-from-Inv-loop block-from-μ-loop
 
-abbrev pub body-block-place : (body-block-lts.Claims → In 4 body-block-kinds.ps → Out 4 body-block-kinds.ps body-block-kinds.r → Type 0) → ℕ → Type 0
-body-block-place P t = P (body-block-calls t) (body-block-at t) body-block.Post
-
 abbrev pub inner-block-place : (inner-block-lts.Claims → In 4 inner-block-kinds.ps → Out 4 inner-block-kinds.ps inner-block-kinds.r → Type 0) → ℕ → Type 0
 inner-block-place P t = P (inner-block-calls t) (inner-block-at t) inner-block.Post
-
-abbrev pub last-block-place : (last-block-lts.Claims → In 4 last-block-kinds.ps → Out 4 last-block-kinds.ps last-block-kinds.r → Type 0) → ℕ → Type 0
-last-block-place P t = P (last-block-calls t) (last-block-at t) last-block.Post
 
 abbrev pub parse-control-flow-place : (parse-control-flow-lts.Claims → In 4 parse-control-flow-kinds.ps → Out 4 parse-control-flow-kinds.ps parse-control-flow-kinds.r → Type 0) → ℕ → Type 0
 parse-control-flow-place P t = P (parse-control-flow-calls t) (parse-control-flow-at t) parse-control-flow.Post
@@ -278,6 +212,3 @@ parse-repeat-place P t = P (parse-repeat-calls t) (parse-repeat-at t) parse-repe
 
 abbrev pub parse-while-place : (parse-while-lts.Claims → In 4 parse-while-kinds.ps → Out 4 parse-while-kinds.ps parse-while-kinds.r → Type 0) → ℕ → Type 0
 parse-while-place P t = P (parse-while-calls t) (parse-while-at t) parse-while.Post
-
-abbrev pub then-block-place : (then-block-lts.Claims → In 4 then-block-kinds.ps → Out 4 then-block-kinds.ps then-block-kinds.r → Type 0) → ℕ → Type 0
-then-block-place P t = P (then-block-calls t) (then-block-at t) then-block.Post

@@ -1,8 +1,8 @@
 -- `blocks::block::inner_block`: what block_from says. Assumes nothing.
 use Prim.Native.Nat.{ℕ}
 use native.Mathlib.Omega.{arith}
-use Rattle.blocks.proofs.block.+block_from+body_block+inner_block+last_block+parse_control_flow+parse_do_while+parse_if+parse_repeat+parse_while+then_block.Lts-inner_block as lts
-use Rattle.blocks.proofs.block.+block_from+body_block+inner_block+last_block+parse_control_flow+parse_do_while+parse_if+parse_repeat+parse_while+then_block.Proof.Common.{inner-block-place}
+use Rattle.blocks.proofs.block.+block_from+inner_block+parse_control_flow+parse_do_while+parse_if+parse_repeat+parse_while.Lts-inner_block as lts
+use Rattle.blocks.proofs.block.+block_from+inner_block+parse_control_flow+parse_do_while+parse_if+parse_repeat+parse_while.Proof.Common.{inner-block-place}
 
 -- places
 abbrev after-block-from : (t : ℕ) → inner-block-place lts.After-slice-known6 t → inner-block-place lts.After-block-from t

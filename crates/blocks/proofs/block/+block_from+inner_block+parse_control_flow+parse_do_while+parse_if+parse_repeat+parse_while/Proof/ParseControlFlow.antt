@@ -7,8 +7,8 @@ use Rattle.blocks.proofs.Laws.{repeat-here}
 use Rattle.parser.proofs.Kit.{yes-to, no-to}
 use Rattle.grammar.specs.Block.{parse-control-flow}
 use Rattle.parser.proofs.Ahead.{at-here, at-not}
-use Rattle.blocks.proofs.block.+block_from+body_block+inner_block+last_block+parse_control_flow+parse_do_while+parse_if+parse_repeat+parse_while+then_block.Lts-parse_control_flow as lts
-use Rattle.blocks.proofs.block.+block_from+body_block+inner_block+last_block+parse_control_flow+parse_do_while+parse_if+parse_repeat+parse_while+then_block.Proof.Common.{parse-control-flow-place}
+use Rattle.blocks.proofs.block.+block_from+inner_block+parse_control_flow+parse_do_while+parse_if+parse_repeat+parse_while.Lts-parse_control_flow as lts
+use Rattle.blocks.proofs.block.+block_from+inner_block+parse_control_flow+parse_do_while+parse_if+parse_repeat+parse_while.Proof.Common.{parse-control-flow-place}
 
 -- places
 abbrev after-parse-repeat : (t : ℕ) → parse-control-flow-place lts.After-slice-known15 t → parse-control-flow-place lts.After-parse-repeat t

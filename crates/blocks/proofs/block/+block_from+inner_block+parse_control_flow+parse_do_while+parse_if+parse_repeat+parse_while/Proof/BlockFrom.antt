@@ -8,8 +8,8 @@ use Rattle.blocks.specs.Arms.{by-block-arm}
 use Rattle.blocks.proofs.Laws.{meant, deeper, round, said-no-item, gives, from-form}
 use Rattle.parser.proofs.Kit.{on-to, off-to, node-to, bind-to}
 use Rattle.grammar.specs.Block.{MAX-CONTROL-FLOW-NESTING as limit, parse-block}
-use Rattle.blocks.proofs.block.+block_from+body_block+inner_block+last_block+parse_control_flow+parse_do_while+parse_if+parse_repeat+parse_while+then_block.Lts-block_from as lts
-use Rattle.blocks.proofs.block.+block_from+body_block+inner_block+last_block+parse_control_flow+parse_do_while+parse_if+parse_repeat+parse_while+then_block.Proof.Common.{block-from-place}
+use Rattle.blocks.proofs.block.+block_from+inner_block+parse_control_flow+parse_do_while+parse_if+parse_repeat+parse_while.Lts-block_from as lts
+use Rattle.blocks.proofs.block.+block_from+inner_block+parse_control_flow+parse_do_while+parse_if+parse_repeat+parse_while.Proof.Common.{block-from-place}
 
 -- places
 abbrev after-next-rounds : (t : ℕ) → block-from-place lts.After-slice-known13 t → block-from-place lts.After-next-rounds t
