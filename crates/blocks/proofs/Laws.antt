@@ -30,7 +30,7 @@ use Rattle.blocks.specs.declared.arm.Closing.{Closing}
 use Rattle.blocks.specs.declared.arm.BlockArm.{BlockArm}
 use Rattle.blocks.specs.declared.rounds.Stopped.{Stopped}
 use Rattle.blocks.specs.Arms.{block-arm, inner-arm, by-block-arm, block-by, silent, taking, block-ending}
-use Rattle.blocks.specs.Shapes.{else-line, else-part, Lined, Opened, ItemAt, Ended, Finished, Rounded, Formed}
+use Rattle.blocks.specs.Shapes.{else-line, else-part, KeywordLine, FormHeader, ItemAt, Close, Finish, BlockRounds, ParseForm}
 
 -- ---- tests of the token here
 -- a test of its number
@@ -182,7 +182,7 @@ module _ {F : File} {w w′ : World} where
 
   -- ---- the parts of a form
   pub opened : {v : ℕ} {lead : P Bool → P Bool} {u : World} → Wrote F v w u → ((next : P Bool) (z : World) (r : Bool) → RanTo F next w′ z r → RanTo F (lead next) u z r)
-      → Onward u w′ → Past F u w′ → Opened F v lead w w′
+      → Onward u w′ → Past F u w′ → FormHeader F v lead w w′
   opened {u} p h n q = record {
     mid = u;
     wrote = p;
@@ -192,7 +192,7 @@ module _ {F : File} {w w′ : World} where
   }
 
   pub finished : {owner : BlockOwner} {o o′ : BlockParseOutcome} {u : World} {e i : Bool} → o ≡ o′ → RanTo F (ended owner o′) w u e → Wrote F 0 u w′
-      → ItemAt F (w′ .c .pos) i → Finished F owner o w w′ e i
+      → ItemAt F (w′ .c .pos) i → Finish F owner o w w′ e i
   finished {owner} {u} {e} q h p i = record {
     mid = u;
     ran = subst (λ o. RanTo F (ended owner o) w u e) (sym q) h;
@@ -203,7 +203,7 @@ module _ {F : File} {w w′ : World} where
 
   -- a form: its header, its first block, and what stands behind that up to the form's end
   pub formed : (k : Kind) {lead : P Bool → P Bool} {block : P BlockParseOutcome} {o p : BlockParseOutcome} {owner : BlockOwner} {m v u : World} {e i : Bool} (rest : BlockParseOutcome → P Bool)
-      → Opened F (num k) lead w m → RanTo F block m v o → (end : Finished F owner p u w′ e i) → RanTo F (rest o) v (end .mid) e → Formed F (inNode k (lead (block >>= rest))) w w′ e i
+      → FormHeader F (num k) lead w m → RanTo F block m v o → (end : Finish F owner p u w′ e i) → RanTo F (rest o) v (end .mid) e → ParseForm F (inNode k (lead (block >>= rest))) w w′ e i
   formed k rest head first end h = record {
     ran = node-to k (head .wrote) (head .on _ _ _ (bind-to rest first h)) (end .wrote);
     past = record { on = omega (arith, head .past, first .ran .onward, h .ran .onward, end .wrote .pos); within = head .past .within };
@@ -211,7 +211,7 @@ module _ {F : File} {w w′ : World} where
   }
 
 pub closed : {k k′ : Closing} {owner : BlockOwner} {w w′ u : World} {o : BlockParseOutcome} {i : Bool} → k ≡ k′ → ((F : File) → RanTo F (block-ending k′ owner) w u o)
-    → ((F : File) → Wrote F 0 u w′) → w′ .c .pos ≡ w .c .pos → (i ≡ true → k′ ≡ Closing.Item) → Ended k owner w w′ o i
+    → ((F : File) → Wrote F 0 u w′) → w′ .c .pos ≡ w .c .pos → (i ≡ true → k′ ≡ Closing.Item) → Close k owner w w′ o i
 closed {owner} {w} {u} {o} q h p n j = record {
   mid = u;
   ran = λ F. subst (λ k. RanTo F (block-ending k owner) w u o) (sym q) (h F);
@@ -245,7 +245,7 @@ at-while {F} {w} {w′} {o} d h e =
 -- ---- parse_if behind its first block, and parse_do_while behind its body
 -- the line of an `else`, and the block behind it
 behind-else : {F : File} {w l v : World} {block : P BlockParseOutcome} {o : BlockParseOutcome} → at (is ELSE) (from F (w .c .pos)) ≡ true
-    → Lined F ELSE w l → RanTo F block l v o → RanTo F (else-line block) w v o
+    → KeywordLine F ELSE w l → RanTo F block l v o → RanTo F (else-line block) w v o
 unfolding oneOf
 behind-else here l h = take-expected ELSE Message.Unreached refl here (l .key) then-to l .line then-to h
 
@@ -258,7 +258,7 @@ module _ {F : File} {w u : World} (d : ℕ) {x b : Bool} where
   no-else BlockParseOutcome.RecoveredImplicitEnd e k h = bind-to (λ last. ended BlockOwner.If last) (no-to _ _ e k (done-to BlockParseOutcome.RecoveredImplicitEnd)) h
 
   pub with-else : {l v : World} {p : BlockParseOutcome} (o : BlockParseOutcome) → x ≡ (not (reached-eof o) && at (is ELSE) (from F (w .c .pos))) → x ≡ true
-      → Lined F ELSE w l → RanTo F (parse-block limit BlockOwner.If Terminators.End d) l v p → RanTo F (ended BlockOwner.If p) v u b
+      → KeywordLine F ELSE w l → RanTo F (parse-block limit BlockOwner.If Terminators.End d) l v p → RanTo F (ended BlockOwner.If p) v u b
       → RanTo F (else-part (parse-block limit) d o) w u b
   with-else BlockParseOutcome.ReachedEof e k l g h = absurd (false≢true (sym e ∙ k))
   with-else BlockParseOutcome.FoundTerminator e k l g h = bind-to (λ last. ended BlockOwner.If last) (yes-to _ _ e k (behind-else (sym e ∙ k) l g)) h
@@ -272,7 +272,7 @@ module _ {F : File} {w u : World} (d : ℕ) {x b : Bool} where
   no-condition BlockParseOutcome.RecoveredImplicitEnd f e k h = like-to (nop >> pure false) refl h
 
   pub condition : {l v : World} {p : BlockParseOutcome} (o : BlockParseOutcome) → x ≡ (found-terminator o && at (is WHILE) (from F (w .c .pos))) → x ≡ true
-      → Lined F WHILE w l → RanTo F (parse-block limit BlockOwner.DoWhile Terminators.End d) l v p → RanTo F (ended BlockOwner.DoWhile p) v u b
+      → KeywordLine F WHILE w l → RanTo F (parse-block limit BlockOwner.DoWhile Terminators.End d) l v p → RanTo F (ended BlockOwner.DoWhile p) v u b
       → RanTo F (do-condition (parse-block limit) d o) w u b
   unfolding do-condition
   condition BlockParseOutcome.ReachedEof e k l g h = absurd (false≢true (sym e ∙ k))
@@ -286,9 +286,9 @@ repeat-here r a b c d = repeat-left r (rw (a, b, c, d))
 -- ---- the rounds of a block
 module _ {F : File} {owner : BlockOwner} {terminators : Terminators} {depth : ℕ} {m w v w′ : World} {word word′ : Sym} {outcome₀ outcome : BlockParseOutcome} {item₀ control₀ item control : Bool} where
   -- the rounds behind a form, which goes from w to v, are rounds from before it on
-  pub from-form : control₀ ≡ true → Rounded F owner terminators depth m w outcome₀ item₀ control₀ word
+  pub from-form : control₀ ≡ true → BlockRounds F owner terminators depth m w outcome₀ item₀ control₀ word
       → ((u : World) (r : BlockParseOutcome) → RanTo F (block-in limit owner terminators depth) v u r → RanTo F (block-in limit owner terminators depth) w u r)
-      → Onward w v → Rounded F owner terminators depth v w′ outcome item control word′ → Rounded F owner terminators depth m w′ outcome item control word′
+      → Onward w v → BlockRounds F owner terminators depth v w′ outcome item control word′ → BlockRounds F owner terminators depth m w′ outcome item control word′
   from-form e₀ r₀ f o r =
       let a = r₀ .form e₀ in
       record {
@@ -300,7 +300,7 @@ module _ {F : File} {owner : BlockOwner} {terminators : Terminators} {depth : �
 -- the same behind rounds that took tokens
 pub from-here : {F : File} {owner : BlockOwner} {terminators : Terminators} {depth : ℕ} {m w w′ : World} {word : Sym} {outcome : BlockParseOutcome} {item control : Bool}
     → Leads F (block-in limit owner terminators depth) m (block-in limit owner terminators depth) w → Onward m w
-    → Rounded F owner terminators depth w w′ outcome item control word → Rounded F owner terminators depth m w′ outcome item control word
+    → BlockRounds F owner terminators depth w w′ outcome item control word → BlockRounds F owner terminators depth m w′ outcome item control word
 from-here l o r = record {
   onward = o farther r .onward;
   form = λ e. let b = r .form e in record { on = λ u x h. l .on u x (b .on u x h); arm = b .arm; first = b .first; below = b .below };
@@ -309,5 +309,5 @@ from-here l o r = record {
 
 -- what block_from's loop holds: rounds up to where it began are rounds up to where it is
 pub record Going (F : File) (owner : BlockOwner) (terminators : Terminators) (depth : ℕ) (e₀ m₀ p₀ : List ℕ) (s₀ : Stopped) (e m p : List ℕ) (s : Stopped) : Type 0 where
-  pub on : (w : World) → Rounded F owner terminators depth w (world e₀ m₀ p₀ (s₀ .c)) (s₀ .outcome) (s₀ .item) (s₀ .control) (s₀ .word)
-      → Rounded F owner terminators depth w (world e m p (s .c)) (s .outcome) (s .item) (s .control) (s .word)
+  pub on : (w : World) → BlockRounds F owner terminators depth w (world e₀ m₀ p₀ (s₀ .c)) (s₀ .outcome) (s₀ .item) (s₀ .control) (s₀ .word)
+      → BlockRounds F owner terminators depth w (world e m p (s .c)) (s .outcome) (s .item) (s .control) (s .word)

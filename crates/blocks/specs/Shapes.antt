@@ -35,7 +35,7 @@ else-part block depth outcome =
     ((if at-keyword ELSE then else-line (block BlockOwner.If Terminators.End depth) else pure outcome) >>= λ last. ended BlockOwner.If last)
 
 -- a keyword, and the rest of its line
-pub record Lined (F : File) (keyword : Sym) (w w′ : World) : Type 0 where
+pub record KeywordLine (F : File) (keyword : Sym) (w w′ : World) : Type 0 where
   pub mid : World
   pub key : Ran F (expect-keyword keyword Message.Unreached) w mid
   pub line : Ran F parse-line-tail mid w′
@@ -43,7 +43,7 @@ pub record Lined (F : File) (keyword : Sym) (w w′ : World) : Type 0 where
   pub past : Past F w w′
 
 -- a node's opening event, v, and then what `lead` does before what comes next; it takes a token
-pub record Opened (F : File) (v : ℕ) (lead : P Bool → P Bool) (w w′ : World) : Type 0 where
+pub record FormHeader (F : File) (v : ℕ) (lead : P Bool → P Bool) (w w′ : World) : Type 0 where
   pub mid : World
   pub wrote : Wrote F v w mid
   pub on : (next : P Bool) (u : World) (r : Bool) → RanTo F next w′ u r → RanTo F (lead next) mid u r
@@ -55,12 +55,12 @@ pub record ItemAt (F : File) (p : ℕ) (item : Bool) : Type 0 where
   pub starts : item ≡ true → at-top-level-form-starter-in-block (from F p) ≡ true
 
 -- the empty Error node of a recovery
-pub record Recovered (owner : BlockOwner) (boundary : BlockRecoveryBoundary) (w w′ : World) : Type 0 where
+pub record Recover (owner : BlockOwner) (boundary : BlockRecoveryBoundary) (w w′ : World) : Type 0 where
   pub ran : (F : File) → Ran F (inNode Error (error-here (Message.Recovery owner boundary))) w w′
   pub pos : w′ .c .pos ≡ w .c .pos
 
 -- a block's end, and its closing event
-pub record Ended (k : Closing) (owner : BlockOwner) (w w′ : World) (outcome : BlockParseOutcome) (item : Bool) : Type 0 where
+pub record Close (k : Closing) (owner : BlockOwner) (w w′ : World) (outcome : BlockParseOutcome) (item : Bool) : Type 0 where
   pub mid : World
   pub ran : (F : File) → RanTo F (block-ending k owner) w mid outcome
   pub wrote : (F : File) → Wrote F 0 mid w′
@@ -69,7 +69,7 @@ pub record Ended (k : Closing) (owner : BlockOwner) (w w′ : World) (outcome : 
   pub at-item : item ≡ true → k ≡ Closing.Item
 
 -- a form's end, and its closing event
-pub record Finished (F : File) (owner : BlockOwner) (outcome : BlockParseOutcome) (w w′ : World) (eof item : Bool) : Type 0 where
+pub record Finish (F : File) (owner : BlockOwner) (outcome : BlockParseOutcome) (w w′ : World) (eof item : Bool) : Type 0 where
   pub mid : World
   pub ran : RanTo F (ended owner outcome) w mid eof
   pub wrote : Wrote F 0 mid w′
@@ -91,7 +91,7 @@ pub record Over (F : File) (owner : BlockOwner) (terminators : Terminators) (dep
   pub wrote : Wrote F 0 mid w′
   pub here : ItemAt F (w′ .c .pos) item
 
-pub record Rounded (F : File) (owner : BlockOwner) (terminators : Terminators) (depth : ℕ) (w w′ : World) (outcome : BlockParseOutcome) (item control : Bool) (word : Sym) : Type 0 where
+pub record BlockRounds (F : File) (owner : BlockOwner) (terminators : Terminators) (depth : ℕ) (w w′ : World) (outcome : BlockParseOutcome) (item control : Bool) (word : Sym) : Type 0 where
   pub onward : Onward w w′
   pub form : control ≡ true → AtForm F owner terminators depth w w′ word
   pub over : control ≡ false → Over F owner terminators depth w w′ outcome item
@@ -99,21 +99,21 @@ pub record Rounded (F : File) (owner : BlockOwner) (terminators : Terminators) (
 -- at a form, in whatever block
 pub record FormHere (F : File) (depth : ℕ) (w w′ : World) (outcome : BlockParseOutcome) (item control : Bool) (word : Sym) : Type 0 where
   pub onward : Onward w w′
-  pub of : (owner : BlockOwner) (terminators : Terminators) → block-arm terminators (from F (w .c .pos)) ≡ BlockArm.Control → Rounded F owner terminators depth w w′ outcome item control word
+  pub of : (owner : BlockOwner) (terminators : Terminators) → block-arm terminators (from F (w .c .pos)) ≡ BlockArm.Control → BlockRounds F owner terminators depth w w′ outcome item control word
 
 -- the same behind the block's opening event
-pub record Begun (F : File) (owner : BlockOwner) (terminators : Terminators) (depth : ℕ) (w w′ : World) (outcome : BlockParseOutcome) (item control : Bool) (word : Sym) : Type 0 where
+pub record FirstRounds (F : File) (owner : BlockOwner) (terminators : Terminators) (depth : ℕ) (w w′ : World) (outcome : BlockParseOutcome) (item control : Bool) (word : Sym) : Type 0 where
   pub mid : World
   pub wrote : Wrote F (num Kind.Block) w mid
   pub onward : Onward w w′
-  pub rounds : Rounded F owner terminators depth mid w′ outcome item control word
+  pub rounds : BlockRounds F owner terminators depth mid w′ outcome item control word
 
 -- ---- a block, and a form
-pub record Blocked (F : File) (owner : BlockOwner) (terminators : Terminators) (depth : ℕ) (w w′ : World) (outcome : BlockParseOutcome) (item : Bool) : Type 0 where
+pub record ParseBlock (F : File) (owner : BlockOwner) (terminators : Terminators) (depth : ℕ) (w w′ : World) (outcome : BlockParseOutcome) (item : Bool) : Type 0 where
   pub ran : RanTo F (parse-block limit owner terminators depth) w w′ outcome
   pub here : ItemAt F (w′ .c .pos) item
 
-pub record Formed (F : File) (form : P Bool) (w w′ : World) (eof item : Bool) : Type 0 where
+pub record ParseForm (F : File) (form : P Bool) (w w′ : World) (eof item : Bool) : Type 0 where
   pub ran : RanTo F form w w′ eof
   pub past : Past F w w′
   pub here : ItemAt F (w′ .c .pos) item

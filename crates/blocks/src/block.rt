@@ -31,7 +31,7 @@ ghost use Rattle.grammar.specs.Look.{at, current, control-flow};
 ghost use Rattle.grammar.specs.Block.{MAX-CONTROL-FLOW-NESTING as limit, parse-block, parse-if, parse-while, parse-do-while, parse-repeat};
 ghost use Rattle.grammar.specs.Block.{parse-control-flow};
 ghost use Rattle.parser.specs.Rep.{entry, exit};
-ghost use Rattle.blocks.specs.Shapes.{Blocked, Formed};
+ghost use Rattle.blocks.specs.Shapes.{ParseBlock, ParseForm};
 
 // Where a block begins, and which it is: the arguments of `block_from`, which a frame then holds in one place.
 struct Start {
@@ -50,7 +50,7 @@ pub fn parse_block(
     depth: usize,
 ) -> BlockEnd
     requires { ⌜ depth ≤ limit ⌝ }
-    ensures { λ r. ⌜ Blocked (now (kinds .entry)) owner terminators depth
+    ensures { λ r. ⌜ ParseBlock (now (kinds .entry)) owner terminators depth
         (entry ev dm ds c0) (exit ev dm ds (r .c)) (r .outcome) (r .item) ⌝ }
 {
     let place = Place {
@@ -74,7 +74,7 @@ fn block_from(
     start: Start,
 ) -> BlockEnd
     requires { ⌜ start .place .depth ≤ limit ⌝ }
-    ensures { λ r. ⌜ Blocked (now (kinds .entry)) (start .place .owner) (start .place .terminators) (start .place .depth)
+    ensures { λ r. ⌜ ParseBlock (now (kinds .entry)) (start .place .owner) (start .place .terminators) (start .place .depth)
         (entry ev dm ds (start .c)) (exit ev dm ds (r .c)) (r .outcome) (r .item) ⌝ }
 {
     let c0 = start.c;
@@ -111,7 +111,7 @@ fn parse_control_flow(
 ) -> Form
     requires { ⌜ (k ≡ current (drop (c0 .pos) (now kinds))) × (at control-flow (drop (c0 .pos) (now kinds)) ≡ true)
         × (depth ≤ limit) ⌝ }
-    ensures { λ r. ⌜ Formed (now (kinds .entry)) (parse-control-flow (parse-block limit) depth)
+    ensures { λ r. ⌜ ParseForm (now (kinds .entry)) (parse-control-flow (parse-block limit) depth)
         (entry ev dm ds c0) (exit ev dm ds (r .c)) (r .eof) (r .item) ⌝ }
 {
     if k == IF {
@@ -139,7 +139,7 @@ fn inner_block(
     depth: usize,
 ) -> BlockEnd
     requires { ⌜ depth ≤ limit ⌝ }
-    ensures { λ r. ⌜ Blocked (now (kinds .entry)) owner terminators depth
+    ensures { λ r. ⌜ ParseBlock (now (kinds .entry)) owner terminators depth
         (entry ev dm ds c0) (exit ev dm ds (r .c)) (r .outcome) (r .item) ⌝ }
 {
     let place = Place {
@@ -163,7 +163,7 @@ fn parse_if(
     depth: usize,
 ) -> Form
     requires { ⌜ (at (is ifWord) (drop (c0 .pos) (now kinds)) ≡ true) × (depth ≤ limit) ⌝ }
-    ensures { λ r. ⌜ Formed (now (kinds .entry)) (parse-if (parse-block limit) depth)
+    ensures { λ r. ⌜ ParseForm (now (kinds .entry)) (parse-if (parse-block limit) depth)
         (entry ev dm ds c0) (exit ev dm ds (r .c)) (r .eof) (r .item) ⌝ }
 {
     let h = if_header(kinds, ev, dm, ds, c0);
@@ -205,7 +205,7 @@ fn parse_while(
     depth: usize,
 ) -> Form
     requires { ⌜ (at (is whileWord) (drop (c0 .pos) (now kinds)) ≡ true) × (depth ≤ limit) ⌝ }
-    ensures { λ r. ⌜ Formed (now (kinds .entry)) (parse-while (parse-block limit) depth)
+    ensures { λ r. ⌜ ParseForm (now (kinds .entry)) (parse-while (parse-block limit) depth)
         (entry ev dm ds c0) (exit ev dm ds (r .c)) (r .eof) (r .item) ⌝ }
 {
     let h = while_header(kinds, ev, dm, ds, c0);
@@ -231,7 +231,7 @@ fn parse_do_while(
     depth: usize,
 ) -> Form
     requires { ⌜ (at (is doWord) (drop (c0 .pos) (now kinds)) ≡ true) × (depth ≤ limit) ⌝ }
-    ensures { λ r. ⌜ Formed (now (kinds .entry)) (parse-do-while (parse-block limit) depth)
+    ensures { λ r. ⌜ ParseForm (now (kinds .entry)) (parse-do-while (parse-block limit) depth)
         (entry ev dm ds c0) (exit ev dm ds (r .c)) (r .eof) (r .item) ⌝ }
 {
     let h = do_header(kinds, ev, dm, ds, c0);
@@ -273,7 +273,7 @@ fn parse_repeat(
     depth: usize,
 ) -> Form
     requires { ⌜ (at (is repeatWord) (drop (c0 .pos) (now kinds)) ≡ true) × (depth ≤ limit) ⌝ }
-    ensures { λ r. ⌜ Formed (now (kinds .entry)) (parse-repeat (parse-block limit) depth)
+    ensures { λ r. ⌜ ParseForm (now (kinds .entry)) (parse-repeat (parse-block limit) depth)
         (entry ev dm ds c0) (exit ev dm ds (r .c)) (r .eof) (r .item) ⌝ }
 {
     let h = repeat_header(kinds, ev, dm, ds, c0);

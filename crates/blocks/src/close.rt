@@ -22,7 +22,7 @@ ghost use Rattle.grammar.specs.Look.{at};
 ghost use Rattle.grammar.specs.Block.{found-terminator, reached-eof};
 ghost use Rattle.grammar.specs.declared.block.BlockParseOutcome.the-variants.{ReachedEof};
 ghost use Rattle.parser.specs.Rep.{entry, exit, Put};
-ghost use Rattle.blocks.specs.Shapes.{Recovered, Ended, Finished, ItemAt};
+ghost use Rattle.blocks.specs.Shapes.{Recover, Close, Finish, ItemAt};
 
 // A block's end; `item` says that an item is known to start here.
 pub struct BlockEnd {
@@ -47,7 +47,7 @@ fn recover(
     owner: BlockOwner,
     boundary: BlockRecoveryBoundary,
 ) -> Cursor
-    ensures { λ r. ⌜ Recovered owner boundary (entry ev dm ds c0) (exit ev dm ds r) ⌝ }
+    ensures { λ r. ⌜ Recover owner boundary (entry ev dm ds c0) (exit ev dm ds r) ⌝ }
 {
     let a = put(ev, c0, ERROR);
     let b = error_here(dm, ds, a, Message::Recovery(owner, boundary));
@@ -63,7 +63,7 @@ pub fn close(
     owner: BlockOwner,
     k: Closing,
 ) -> BlockEnd
-    ensures { λ r. ⌜ Ended k owner (entry ev dm ds c0) (exit ev dm ds (r .c)) (r .outcome) (r .item) ⌝ }
+    ensures { λ r. ⌜ Close k owner (entry ev dm ds c0) (exit ev dm ds (r .c)) (r .outcome) (r .item) ⌝ }
 {
     match k {
         Closing::Eof => {
@@ -126,7 +126,7 @@ pub fn finish(
     owner: BlockOwner,
 ) -> Form
     requires { ⌜ ItemAt (now kinds) (b .c .pos) (b .item) ⌝ }
-    ensures { λ r. ⌜ Finished (now (kinds .entry)) owner (b .outcome)
+    ensures { λ r. ⌜ Finish (now (kinds .entry)) owner (b .outcome)
         (entry ev dm ds (b .c)) (exit ev dm ds (r .c)) (r .eof) (r .item) ⌝ }
 {
     let c = b.c;

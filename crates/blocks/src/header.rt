@@ -20,7 +20,7 @@ ghost use Rattle.lexer.specs.Syntax.{IfOp, WhileOp, DoWhileOp, RepeatOp};
 ghost use Rattle.grammar.specs.Words.{is, DO as doWord, IF as ifWord, REPEAT as repeatWord, WHILE as whileWord};
 ghost use Rattle.grammar.specs.Look.{at, regular-trivia};
 ghost use Rattle.parser.specs.Rep.{entry, exit};
-ghost use Rattle.blocks.specs.Shapes.{header as headerOf, keyword-line, Opened, Lined};
+ghost use Rattle.blocks.specs.Shapes.{header as headerOf, keyword-line, FormHeader, KeywordLine};
 
 // The node's opening event, its keyword, suffixes and the rest of the line: `if`, `while` and `repeat`.
 fn header(
@@ -33,7 +33,7 @@ fn header(
     keyword: u16,
 ) -> Cursor
     requires { ⌜ (at (is keyword) (drop (c0 .pos) (now kinds)) ≡ true) × (regular-trivia keyword ≡ false) ⌝ }
-    ensures { λ r. ⌜ Opened (now (kinds .entry)) node (headerOf keyword) (entry ev dm ds c0) (exit ev dm ds r) ⌝ }
+    ensures { λ r. ⌜ FormHeader (now (kinds .entry)) node (headerOf keyword) (entry ev dm ds c0) (exit ev dm ds r) ⌝ }
 {
     let a = put(ev, c0, node);
     let b = expect(kinds, ev, dm, ds, a, keyword, Message::Unreached);
@@ -52,7 +52,7 @@ pub fn keyword_line(
     keyword: u16,
 ) -> Cursor
     requires { ⌜ (at (is keyword) (drop (c0 .pos) (now kinds)) ≡ true) × (regular-trivia keyword ≡ false) ⌝ }
-    ensures { λ r. ⌜ Lined (now (kinds .entry)) keyword (entry ev dm ds c0) (exit ev dm ds r) ⌝ }
+    ensures { λ r. ⌜ KeywordLine (now (kinds .entry)) keyword (entry ev dm ds c0) (exit ev dm ds r) ⌝ }
 {
     let b = expect(kinds, ev, dm, ds, c0, keyword, Message::Unreached);
     let bc = b.c;
@@ -68,7 +68,7 @@ pub fn do_header(
     c0: Cursor,
 ) -> Cursor
     requires { ⌜ at (is doWord) (drop (c0 .pos) (now kinds)) ≡ true ⌝ }
-    ensures { λ r. ⌜ Opened (now (kinds .entry)) DoWhileOp (keyword-line doWord) (entry ev dm ds c0) (exit ev dm ds r) ⌝ }
+    ensures { λ r. ⌜ FormHeader (now (kinds .entry)) DoWhileOp (keyword-line doWord) (entry ev dm ds c0) (exit ev dm ds r) ⌝ }
 {
     let a = put(ev, c0, DO_WHILE_OP);
     keyword_line(kinds, ev, dm, ds, a, DO)
@@ -83,7 +83,7 @@ pub fn if_header(
     c0: Cursor,
 ) -> Cursor
     requires { ⌜ at (is ifWord) (drop (c0 .pos) (now kinds)) ≡ true ⌝ }
-    ensures { λ r. ⌜ Opened (now (kinds .entry)) IfOp (headerOf ifWord) (entry ev dm ds c0) (exit ev dm ds r) ⌝ }
+    ensures { λ r. ⌜ FormHeader (now (kinds .entry)) IfOp (headerOf ifWord) (entry ev dm ds c0) (exit ev dm ds r) ⌝ }
 {
     header(kinds, ev, dm, ds, c0, IF_OP, IF)
 }
@@ -97,7 +97,7 @@ pub fn while_header(
     c0: Cursor,
 ) -> Cursor
     requires { ⌜ at (is whileWord) (drop (c0 .pos) (now kinds)) ≡ true ⌝ }
-    ensures { λ r. ⌜ Opened (now (kinds .entry)) WhileOp (headerOf whileWord) (entry ev dm ds c0) (exit ev dm ds r) ⌝ }
+    ensures { λ r. ⌜ FormHeader (now (kinds .entry)) WhileOp (headerOf whileWord) (entry ev dm ds c0) (exit ev dm ds r) ⌝ }
 {
     header(kinds, ev, dm, ds, c0, WHILE_OP, WHILE)
 }
@@ -111,7 +111,7 @@ pub fn repeat_header(
     c0: Cursor,
 ) -> Cursor
     requires { ⌜ at (is repeatWord) (drop (c0 .pos) (now kinds)) ≡ true ⌝ }
-    ensures { λ r. ⌜ Opened (now (kinds .entry)) RepeatOp (headerOf repeatWord) (entry ev dm ds c0) (exit ev dm ds r) ⌝ }
+    ensures { λ r. ⌜ FormHeader (now (kinds .entry)) RepeatOp (headerOf repeatWord) (entry ev dm ds c0) (exit ev dm ds r) ⌝ }
 {
     header(kinds, ev, dm, ds, c0, REPEAT_OP, REPEAT)
 }

@@ -15,7 +15,7 @@ use parser::cursor::put;
 use parser::look::Remembered;
 use parser::look::current;
 ghost use Rattle.parser.specs.Rep.{entry, exit};
-ghost use Rattle.blocks.specs.Shapes.{ItemAt, FormHere, Rounded, Begun};
+ghost use Rattle.blocks.specs.Shapes.{ItemAt, FormHere, BlockRounds, FirstRounds};
 
 // Control-flow nodes in one another.
 const MAX_CONTROL_FLOW_NESTING: usize = 256;
@@ -82,7 +82,7 @@ fn rounds(
     item0: bool,
 ) -> Stopped
     requires { ⌜ ItemAt (now kinds) (c0 .pos) item0 ⌝ }
-    ensures { λ r. ⌜ Rounded (now (kinds .entry)) (place .owner) (place .terminators) (place .depth)
+    ensures { λ r. ⌜ BlockRounds (now (kinds .entry)) (place .owner) (place .terminators) (place .depth)
         (entry ev dm ds c0) (exit ev dm ds (r .c)) (r .outcome) (r .item) (r .control) (r .word) ⌝ }
 {
     let owner = place.owner;
@@ -133,7 +133,7 @@ pub fn first_rounds(
     c0: Cursor,
     place: Place,
 ) -> Stopped
-    ensures { λ r. ⌜ Begun (now (kinds .entry)) (place .owner) (place .terminators) (place .depth)
+    ensures { λ r. ⌜ FirstRounds (now (kinds .entry)) (place .owner) (place .terminators) (place .depth)
         (entry ev dm ds c0) (exit ev dm ds (r .c)) (r .outcome) (r .item) (r .control) (r .word) ⌝ }
 {
     let c = put(ev, c0, BLOCK);
@@ -151,7 +151,7 @@ pub fn next_rounds(
     item0: bool,
 ) -> Stopped
     requires { ⌜ ItemAt (now kinds) (c0 .pos) item0 ⌝ }
-    ensures { λ r. ⌜ Rounded (now (kinds .entry)) (place .owner) (place .terminators) (place .depth)
+    ensures { λ r. ⌜ BlockRounds (now (kinds .entry)) (place .owner) (place .terminators) (place .depth)
         (entry ev dm ds c0) (exit ev dm ds (r .c)) (r .outcome) (r .item) (r .control) (r .word) ⌝ }
 {
     rounds(kinds, ev, dm, ds, c0, place, item0)

@@ -19,7 +19,7 @@ use Rattle.grammar.specs.Out.{Diag, diags}
 use Rattle.grammar.specs.Source.{symbols}
 use Rattle.parser.specs.Rep.{World}
 use Rattle.grammar.specs.Block.{MAX-CONTROL-FLOW-NESTING as limit}
-use Rattle.items.specs.Entry.{Parsed}
+use Rattle.items.specs.Entry.{Parse}
 use Rattle.marks.specs.declared.Refusal.{Refusal}
 use Rattle.marks.specs.declared.Refusal.the-variants.{Nothing, At}
 use Rattle.marks.specs.Marks.{first-refused}
@@ -112,10 +112,10 @@ module _ (source ends ev dm ds de k k′ : List ℕ) where
 module _
     (s F ends : List ℕ) (anchor : ℕ) (b w : World) (de ds′ de′ : List ℕ)
     (symbols-are : F ≡ symbols s) (ends-are : ends ≡ token-ends s) (anchor-is : anchor ≡ last-char s)
-    (same-de : length (b .ds) ≡ length de) (parsed : Parsed F b w)
+    (same-de : length (b .ds) ≡ length de) (parsed : Parse F b w)
     (placed : Places ends anchor (w .c .diags) (w .ds) de ds′ de′)
   where
-    p : Parsed (symbols s) b w
+    p : Parse (symbols s) b w
     p = rw symbols-are at parsed
 
     abbrev said : List Diag

@@ -18,7 +18,7 @@ use Rattle.grammar.specs.Theorems.FewEvents.{few-events}
 use Rattle.grammar.specs.Theorems.FewDiagnostics.{few-diagnostics}
 use Rattle.grammar.specs.Block.{MAX-CONTROL-FLOW-NESTING as limit}
 use Rattle.parser.specs.Rep.{World, world, Rep, Small, Ran}
-use Rattle.items.specs.Entry.{start, Parsed}
+use Rattle.items.specs.Entry.{start, Parse}
 
 -- before the first token
 abbrev begun : File → State
@@ -54,7 +54,7 @@ small F h = record {
   diags = omega (arith, ap length (root-diags F), few-diagnostics limit F);
 }
 
-pub whole : (F : File) (b : World) {w : World} → length F ≤ MAX-SOURCE → Ran F root (at-start b) w → Parsed F b w
+pub whole : (F : File) (b : World) {w : World} → length F ≤ MAX-SOURCE → Ran F root (at-start b) w → Parse F b w
 unfolding run
 whole F b {w} l h =
     let r = h .sim b (begun F) (starts F b) (small F l) in
@@ -68,5 +68,5 @@ whole F b {w} l h =
     }
 
 -- the slices keep their lengths
-pub kept : {F : File} {b w : World} → Parsed F b w → (length (w .ev) ≡ length (b .ev)) × (length (w .dm) ≡ length (b .dm)) × (length (w .ds) ≡ length (b .ds))
+pub kept : {F : File} {b w : World} → Parse F b w → (length (w .ev) ≡ length (b .ev)) × (length (w .dm) ≡ length (b .dm)) × (length (w .ds) ≡ length (b .ds))
 kept p = (ap length (p .ev) ∙ simp length-over, ap length (p .dm) ∙ simp length-over, ap length (p .ds) ∙ simp length-over)

@@ -15,7 +15,7 @@ abbrev pub start : Cursor
 start = record { pos = 0; events = 0; diags = 0 }
 
 -- w is what is left after the file F, where the slices were b's
-pub record Parsed (F : File) (b w : World) : Type 0 where
+pub record Parse (F : File) (b w : World) : Type 0 where
   pub pos : w .c .pos ≡ length F
   pub events : w .c .events ≡ length (eventsOf limit F)
   pub diags : w .c .diags ≡ length (diagsOf limit F)

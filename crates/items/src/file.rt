@@ -12,7 +12,7 @@ ghost use Rattle.lexer.specs.Tokens.{MAX-SOURCE};
 ghost use Rattle.grammar.specs.Block.{MAX-CONTROL-FLOW-NESTING as limit};
 ghost use Rattle.grammar.specs.Item.{items-in};
 ghost use Rattle.parser.specs.Rep.{entry, exit, Ran};
-ghost use Rattle.items.specs.Entry.{start, Parsed};
+ghost use Rattle.items.specs.Entry.{start, Parse};
 
 // parse's loop; trivia behind an item is taken at once.
 fn source_items(kinds: &[u16], ev: &mut [u16], dm: &mut [u16], ds: &mut [u32], c0: Cursor) -> Cursor
@@ -29,7 +29,7 @@ fn source_items(kinds: &[u16], ev: &mut [u16], dm: &mut [u16], ds: &mut [u32], c
 // The whole file, in its root node.
 pub fn parse(kinds: &[u16], ev: &mut [u16], dm: &mut [u16], ds: &mut [u32]) -> Cursor
     requires { ⌜ length (now kinds) ≤ MAX-SOURCE ⌝ }
-    ensures { λ r. ⌜ Parsed (now (kinds .entry)) (entry ev dm ds start) (exit ev dm ds r) ⌝ }
+    ensures { λ r. ⌜ Parse (now (kinds .entry)) (entry ev dm ds start) (exit ev dm ds r) ⌝ }
 {
     let start = Cursor {
         pos: 0,

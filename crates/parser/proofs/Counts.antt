@@ -17,8 +17,8 @@ use Rattle.grammar.specs.declared.nesting.Nesting.{Nesting}
 use Rattle.grammar.specs.declared.nesting.Bumped.{Bumped}
 use Rattle.grammar.specs.Nesting.{default, counted, bump-nesting, bump-by, NestingBelow, open-paren, open-bracket, open-brace, close-paren, close-bracket, close-brace}
 use Rattle.parser.specs.declared.cursor.Cursor.{Cursor}
-use Rattle.parser.specs.Rep.{World, world, Ran, RanTo, Said}
-use Rattle.parser.specs.Counts.{reported, counts, Counted}
+use Rattle.parser.specs.Rep.{World, world, Ran, RanTo, ErrorHere}
+use Rattle.parser.specs.Counts.{reported, counts, BumpNesting}
 use Rattle.parser.proofs.Kit.{scan-go-eq, scan-warn-eq, like-to, done, _then-to_}
 
 -- ---- a token adds at most 1 to a count
@@ -72,7 +72,7 @@ module _ {L : Type 0} (step : L → List Sym → Round L) where
   module _ {F : File} {ev dm ds dm′ ds′ : List ℕ} {c c′ : Cursor} {n n′ : Nesting} {k : Sym} where
     -- `locals` makes the loop's locals of the counts
     pub scan-counted : (locals : Nesting → L) (l : L) {l′ : L} {v w′ : World} {a : L} → k ≡ Look.current (from F (c .pos)) → Look.eof (from F (c .pos)) ≡ false
-        → step l (from F (c .pos)) ≡ bump-nesting n (Look.current (from F (c .pos))) locals → Counted n k dm ds c dm′ ds′ c′ n′ → Ran F take-token (world ev dm′ ds′ c′) v
+        → step l (from F (c .pos)) ≡ bump-nesting n (Look.current (from F (c .pos))) locals → BumpNesting n k dm ds c dm′ ds′ c′ n′ → Ran F take-token (world ev dm′ ds′ c′) v
         → locals n′ ≡ l′ → RanTo F (scan step l′) v w′ a → RanTo F (scan step l) (world ev dm ds c) w′ a
     unfolding bump-nesting
     scan-counted locals l {v} {w′} {a} q z e m t i h =
@@ -82,7 +82,7 @@ module _ {L : Type 0} (step : L → List Sym → Round L) where
 
 -- ---- bump_nesting
 module _ {n : Nesting} {k : Sym} {dm ds : List ℕ} {c : Cursor} (x : Bumped) (b : x ≡ bump-by n k) where
-  pub counted-go : {m : Nesting} → x ≡ Bumped.Counts m → Counted n k dm ds c dm ds c m
+  pub counted-go : {m : Nesting} → x ≡ Bumped.Counts m → BumpNesting n k dm ds c dm ds c m
   unfolding reported counts
   counted-go {m} e =
       let q = sym b ∙ e in
@@ -93,8 +93,8 @@ module _ {n : Nesting} {k : Sym} {dm ds : List ℕ} {c : Cursor} (x : Bumped) (b
         pos = refl;
       }
 
-  pub counted-refused : {y : Closer} {dm′ ds′ : List ℕ} {c′ : Cursor} → x ≡ Bumped.Refused y → Said (number (Message.UnexpectedCloser y)) dm ds c dm′ ds′ c′
-      → Counted n k dm ds c dm′ ds′ c′ n
+  pub counted-refused : {y : Closer} {dm′ ds′ : List ℕ} {c′ : Cursor} → x ≡ Bumped.Refused y → ErrorHere (number (Message.UnexpectedCloser y)) dm ds c dm′ ds′ c′
+      → BumpNesting n k dm ds c dm′ ds′ c′ n
   unfolding reported counts
   counted-refused {dm′} {ds′} {c′} e s =
       let q = sym b ∙ e in

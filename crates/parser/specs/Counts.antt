@@ -22,7 +22,7 @@ counts n (Bumped.Counts n′) = n′
 counts n (Bumped.Refused c) = n
 
 -- the contract: a token of kind k makes of n the counts n′
-pub record Counted (n : Nesting) (k : Sym) (dm ds : List ℕ) (c : Cursor) (dm′ ds′ : List ℕ) (c′ : Cursor) (n′ : Nesting) : Type 0 where
+pub record BumpNesting (n : Nesting) (k : Sym) (dm ds : List ℕ) (c : Cursor) (dm′ ds′ : List ℕ) (c′ : Cursor) (n′ : Nesting) : Type 0 where
   pub ran : (F : File) (ev : List ℕ) → Ran F (reported (bump-by n k)) (world ev dm ds c) (world ev dm′ ds′ c′)
   pub is : n′ ≡ counts n (bump-by n k)
   pub below : (b : ℕ) → NestingBelow b n → NestingBelow (b + 1) n′

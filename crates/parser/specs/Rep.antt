@@ -85,7 +85,7 @@ pub record Put (v : ℕ) (ev : List ℕ) (c : Cursor) (ev′ : List ℕ) (c′ :
   pub wrote : (F : File) (dm ds : List ℕ) → Wrote F v (world ev dm ds c) (world ev′ dm ds c′)
   pub pos : c′ .pos ≡ c .pos
 
-pub record Said (m : ℕ) (dm ds : List ℕ) (c : Cursor) (dm′ ds′ : List ℕ) (c′ : Cursor) : Type 0 where
+pub record ErrorHere (m : ℕ) (dm ds : List ℕ) (c : Cursor) (dm′ ds′ : List ℕ) (c′ : Cursor) : Type 0 where
   pub ran : (F : File) (ev : List ℕ) → Ran F (Run.err m) (world ev dm ds c) (world ev dm′ ds′ c′)
   pub pos : c′ .pos ≡ c .pos
 
@@ -95,14 +95,14 @@ pub record PlainToken (F : File) (p v : ℕ) : Type 0 where
   pub no-error : getD F p 0 ≡ Syntax.Error → ⊥
   pub event : v ≡ kind (getD F p 0)
 
-pub record Bumped (F : File) (w w′ : World) : Type 0 where
+pub record Bump (F : File) (w w′ : World) : Type 0 where
   pub ran : Ran F take-token w w′
   pub moved : w .c .pos < length F → w′ .c .pos ≡ w .c .pos + 1
 
 -- a token whose event is all that is written
-pub record Took (F : File) (ev : List ℕ) (c : Cursor) (ev′ : List ℕ) (c′ : Cursor) : Type 0 where
-  pub bumped : (dm ds : List ℕ) → Bumped F (world ev dm ds c) (world ev′ dm ds c′)
+pub record BumpPlain (F : File) (ev : List ℕ) (c : Cursor) (ev′ : List ℕ) (c′ : Cursor) : Type 0 where
+  pub bumped : (dm ds : List ℕ) → Bump F (world ev dm ds c) (world ev′ dm ds c′)
 
 -- a run of tokens whose events are all that is written
-pub record TookAll {A : Type 0} (F : File) (f : P A) (ev : List ℕ) (c : Cursor) (ev′ : List ℕ) (c′ : Cursor) : Type 0 where
+pub record BumpWhile {A : Type 0} (F : File) (f : P A) (ev : List ℕ) (c : Cursor) (ev′ : List ℕ) (c′ : Cursor) : Type 0 where
   pub ran : (dm ds : List ℕ) → Ran F f (world ev dm ds c) (world ev′ dm ds c′)

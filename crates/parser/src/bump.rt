@@ -26,12 +26,12 @@ ghost use Rattle.grammar.specs.Look.{at, regular-trivia, non-comment-trivia};
 ghost use Rattle.grammar.specs.Run.{if_then_else_, take-token};
 ghost use Rattle.grammar.specs.Bump.{nop, bump-while, expect-kind, expect-name, error-token};
 ghost use Rattle.parser.specs.Sets.{trivia-to};
-ghost use Rattle.parser.specs.Rep.{entry, exit, Ran, RanTo, TookAll};
+ghost use Rattle.parser.specs.Rep.{entry, exit, Ran, RanTo, BumpWhile};
 
 // while the token is trivia up to `last` { bump }. Each such kind is its own event, and `current` past the last token, 0, is none.
 fn bump_while(kinds: &[u16], ev: &mut [u16], c0: Cursor, last: u16) -> Cursor
     requires { ⌜ last < MARK ⌝ }
-    ensures { λ r. ⌜ TookAll (now (kinds .entry)) (bump-while (trivia-to last)) (now (ev .entry)) c0 (now (ev .exit)) r ⌝ }
+    ensures { λ r. ⌜ BumpWhile (now (kinds .entry)) (bump-while (trivia-to last)) (now (ev .entry)) c0 (now (ev .exit)) r ⌝ }
 {
     let mut c = c0;
     while is_trivia_to(last, current(kinds, c.pos)) {

@@ -12,7 +12,7 @@ ghost use mathlib.Core.Path.{_≡_};
 ghost use Prim.Native.Nat.{_+_, _<_, _^_};
 ghost use Rattle.grammar.specs.Message.{number as numberOf};
 ghost use Rattle.grammar.specs.Out.{kind};
-ghost use Rattle.parser.specs.Rep.{entry, exit, Put, Said, PlainToken, Bumped, Took};
+ghost use Rattle.parser.specs.Rep.{entry, exit, Put, ErrorHere, PlainToken, Bump, BumpPlain};
 
 pub struct Cursor {
     pub pos: usize,
@@ -58,7 +58,7 @@ pub fn put(ev: &mut [u16], c: Cursor, v: u16) -> Cursor
 
 // The message, and the index of the token here; past the last token, their number. error_at_eof is the same at the end.
 pub fn error_here(dm: &mut [u16], ds: &mut [u32], c: Cursor, m: Message) -> Cursor
-    ensures { λ r. ⌜ Said (numberOf m) (now (dm .entry)) (now (ds .entry)) c (now (dm .exit)) (now (ds .exit)) r ⌝ }
+    ensures { λ r. ⌜ ErrorHere (numberOf m) (now (dm .entry)) (now (ds .entry)) c (now (dm .exit)) (now (ds .exit)) r ⌝ }
 {
     let d = c.diags;
     let p = c.pos;
@@ -87,7 +87,7 @@ fn event_of(k: u16) -> u16
 // bump at a token that is not Error, and whose event is v.
 pub fn bump_plain(kinds: &[u16], ev: &mut [u16], c: Cursor, v: u16) -> Cursor
     requires { ⌜ PlainToken (now kinds) (c .pos) v ⌝ }
-    ensures { λ r. ⌜ Took (now (kinds .entry)) (now (ev .entry)) c (now (ev .exit)) r ⌝ }
+    ensures { λ r. ⌜ BumpPlain (now (kinds .entry)) (now (ev .entry)) c (now (ev .exit)) r ⌝ }
 {
     let next = c.pos + 1;
     let b = put(ev, c, v);
@@ -99,7 +99,7 @@ pub fn bump_plain(kinds: &[u16], ev: &mut [u16], c: Cursor, v: u16) -> Cursor
 }
 
 pub fn bump(kinds: &[u16], ev: &mut [u16], dm: &mut [u16], ds: &mut [u32], c: Cursor) -> Cursor
-    ensures { λ r. ⌜ Bumped (now (kinds .entry)) (entry ev dm ds c) (exit ev dm ds r) ⌝ }
+    ensures { λ r. ⌜ Bump (now (kinds .entry)) (entry ev dm ds c) (exit ev dm ds r) ⌝ }
 {
     let p = c.pos;
     if p < kinds.len() {

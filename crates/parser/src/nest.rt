@@ -6,7 +6,7 @@ use grammar::nesting::Bumped;
 use grammar::nesting::Nesting;
 ghost use Prim.Native.Nat.{_^_};
 ghost use Rattle.grammar.specs.Nesting.{NestingBelow};
-ghost use Rattle.parser.specs.Counts.{Counted};
+ghost use Rattle.parser.specs.Counts.{BumpNesting};
 
 pub struct Nested {
     pub c: Cursor,
@@ -22,7 +22,7 @@ pub fn bump_nesting(
     kind: u16,
 ) -> Nested
     requires { ⌜ NestingBelow (2 ^ 63) nesting ⌝ }
-    ensures { λ r. ⌜ Counted nesting kind (now (dm .entry)) (now (ds .entry)) c
+    ensures { λ r. ⌜ BumpNesting nesting kind (now (dm .entry)) (now (ds .entry)) c
         (now (dm .exit)) (now (ds .exit)) (r .c) (r .nesting) ⌝ }
 {
     let b = nesting.bump(kind);

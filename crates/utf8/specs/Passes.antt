@@ -13,6 +13,6 @@ pub record Passes (s : List ℕ) (start at : ℕ) : Type 0 where
   pub same : validate-from 0 start (drop start s) ≡ validate-from 0 at (drop at s)
 
 -- the same, and before `to` only where no character stands
-pub record Walked (s : List ℕ) (start to at : ℕ) : Type 0 where
+pub record Walk (s : List ℕ) (start to at : ℕ) : Type 0 where
   pub passes : Passes s start at
   pub stopped : at < to → charLength (drop at s) ≡ 0

@@ -5,7 +5,7 @@ ghost use Prim.Native.Nat.{_+_, _≤_, _<_};
 ghost use lib.ListN.{length, drop};
 ghost use Rattle.utf8.specs.Table.{_⋯_, row-fits, charLength};
 ghost use Rattle.utf8.specs.Rows.{tailLength};
-ghost use Rattle.utf8.specs.Passes.{Walked};
+ghost use Rattle.utf8.specs.Passes.{Walk};
 
 // Whether a byte stands at `at` and lies in `low` to `high`.
 fn byte_in(source: &[u8], at: usize, low: u8, high: u8) -> bool
@@ -89,7 +89,7 @@ fn char_length(source: &[u8], at: usize) -> usize
 // Past the characters from `from` up to `to`; before `to` only where no character stands.
 pub fn walk(source: &[u8], from: usize, to: usize) -> usize
     requires { ⌜ (from ≤ to) × (to ≤ length (now source)) ⌝ }
-    ensures { λ r. ⌜ Walked (now (source .entry)) from to r ⌝ }
+    ensures { λ r. ⌜ Walk (now (source .entry)) from to r ⌝ }
 {
     let mut at = from;
     while at < to {
