@@ -35,7 +35,7 @@ def parts():
     parsed = [f"Laws/{file}" for file in modules(f"{grammar}/Laws.antt")]
     definitions = ["Message", "Run", "Look", "Nesting", "Bump", "Path", "Line", "Instruction", "Block", "Item"]
     return [
-        Part("Laws of the lexer", lexer, ["Chars", "Lexer", "Tokens"], lexed, "Lex"),
+        Part("Laws of the lexer", lexer, ["Chars", "Lexer", "Tokens"], lexed, "LexRule"),
         Part("Laws of the grammar", grammar, definitions, parsed, r"P [A-Z]\w*|Round L", "Run"),
     ]
 
@@ -55,7 +55,7 @@ class Index:
         for file, found in self.stated.items():
             for one in found:
                 function = "→" in one.type if file in part.definitions else re.search(r"(^|→ )P \w+$", one.type)
-                if one.kind in ("abbrev", "unfoldable") and (function or re.match(r"P |Lex$", one.type)):
+                if one.kind in ("abbrev", "unfoldable") and (function or re.match(r"P |LexRule$", one.type)):
                     self.defined.setdefault(one.name, file)
         self.ways = {name for name, file in self.defined.items() if file == part.ways}
         self.properties = {one.name for file in part.laws for one in self.stated[file] if self.is_property(one)}

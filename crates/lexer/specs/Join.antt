@@ -28,9 +28,9 @@ none-while : (k : ℕ) (p : ℕ → Bool) → eqb k Newline ≡ false → NoNewl
 unfolding lex-while
 none-while k p e = record { none = λ r. e }
 
-none-pick : (t : Bool) {f g : LexRule} → NoNewline f → NoNewline g → NoNewline (choose t f g)
-none-pick true p q = p
-none-pick false p q = q
+none-choose : (t : Bool) {f g : LexRule} → NoNewline f → NoNewline g → NoNewline (choose t f g)
+none-choose true p q = p
+none-choose false p q = q
 
 -- the arm of a test that fails is free
 none-past : (t : Bool) (f : LexRule) {g : LexRule} → t ≡ false → NoNewline g → NoNewline (choose t f g)
@@ -82,7 +82,7 @@ none-stray b = record { none = λ r. refl }
 -- the arms of every other class
 none-arm : (c b : ℕ) → eqb c Newline ≡ false → eqb c Cr ≡ false → NoNewline (arm c b)
 unfolding arm
-none-arm c b e f = search (none-one, none-while, none-past, none-pick, none-follow, none-special, none-quoted, none-stray) depth 30
+none-arm c b e f = search (none-one, none-while, none-past, none-choose, none-follow, none-special, none-quoted, none-stray) depth 30
 
 -- the class of a byte that is neither LF nor CR
 no-mark : (b : ℕ) → (eqb (punctuation b) Newline ≡ false) × (eqb (punctuation b) Cr ≡ false)

@@ -25,13 +25,13 @@ low-cond false a b p q = q
 low-one : (k : ℕ) → low k ≡ true → Low (lex-one k)
 low-one k e = record { is = λ r. e }
 
-low-run : (k : ℕ) (p : ℕ → Bool) → low k ≡ true → Low (lex-while k p)
+low-while : (k : ℕ) (p : ℕ → Bool) → low k ≡ true → Low (lex-while k p)
 unfolding lex-while
-low-run k p e = record { is = λ r. e }
+low-while k p e = record { is = λ r. e }
 
-low-pick : (t : Bool) {f g : LexRule} → Low f → Low g → Low (choose t f g)
-low-pick true p q = p
-low-pick false p q = q
+low-choose : (t : Bool) {f g : LexRule} → Low f → Low g → Low (choose t f g)
+low-choose true p q = p
+low-choose false p q = q
 
 low-follow : (x : ℕ) {f g : LexRule} → Low f → Low g → Low (follow x f g)
 unfolding follow
@@ -95,7 +95,7 @@ low-other c h e f = record { is = λ r. rw (e, f) at h }
 low-arm : (c b : ℕ) → classes c ≡ true → Low (arm c b)
 unfolding arm
 low-arm c b h =
-    search (low-other, low-one, low-run, low-else (eqb c Letter), low-else (eqb c Digit), low-pick, low-follow, low-special, low-quoted, low-stray) depth 40
+    search (low-other, low-one, low-while, low-else (eqb c Letter), low-else (eqb c Digit), low-choose, low-follow, low-special, low-quoted, low-stray) depth 40
 
 pub low-next : (b : ℕ) (r : List ℕ) → next b r .kind < 60
 unfolding next
