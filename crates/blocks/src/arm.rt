@@ -2,7 +2,6 @@
 use grammar::block::Terminators;
 use lexer::syntax::DOC_COMMENT;
 use lexer::syntax::IDENT;
-use parser::kinds::CONTROL_FLOW;
 use parser::kinds::in_words;
 use parser::kinds::is_regular_trivia;
 use parser::kinds::starts_instruction;
@@ -13,6 +12,7 @@ use parser::look::current;
 use parser::look::eof;
 use parser::look::is_top_level_starter;
 use parser::look::starts_behind_doc;
+use parser::sets::CONTROL_FLOW;
 ghost use mathlib.Core.Path.{_≡_};
 ghost use lib.ListN.{length, drop};
 ghost use Rattle.grammar.specs.Look.{control-flow};

@@ -13,6 +13,7 @@ use parser::kinds::in_set;
 use parser::kinds::is_name_like;
 use parser::look::at_kind;
 use parser::look::current;
+use parser::sets::LITERALS;
 ghost use mathlib.Core.Path.{_≡_};
 ghost use mathlib.Core.Bool.{_||_};
 ghost use mathlib.Core.List.{[], _∷_};
@@ -20,9 +21,6 @@ ghost use Rattle.lexer.specs.Syntax.{Number, QuotedString};
 ghost use Rattle.grammar.specs.Look.{name-like, oneOf};
 ghost use Rattle.grammar.specs.Block.{suffix-operand, suffix-round, parse-structured-header-suffixes};
 ghost use Rattle.parser.specs.Rep.{entry, exit, Ran, RanTo};
-
-// Number and QuotedString, as bits.
-const LITERALS: u64 = 0xa00000000;
 
 fn is_operand(k: u16) -> bool
     ensures { λ r. ⌜ r ≡ (name-like k || oneOf (Number ∷ QuotedString ∷ []) k) ⌝ }

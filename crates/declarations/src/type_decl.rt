@@ -21,6 +21,8 @@ use parser::look::current;
 use parser::look::eof;
 use parser::look::line_break_starts_new_top_level_item;
 use parser::nest::bump_nesting;
+use parser::sets::EQUAL_OR_COLON;
+use parser::sets::TYPE_WORDS;
 ghost use mathlib.Core.Path.{_≡_};
 ghost use lib.ListN.{drop};
 ghost use Rattle.grammar.specs.Run.{scan};
@@ -30,12 +32,6 @@ ghost use Rattle.grammar.specs.Item.{type-name-and-body, parse-type-decl};
 ghost use Rattle.parser.specs.Rep.{entry, exit, Ran};
 ghost use Rattle.parser.specs.Ahead.{BreakKnown};
 ghost use Rattle.declarations.specs.Parts.{type-keyword, type-ends};
-
-// `type` and `enum`
-const TYPE_WORDS: u64 = 0x8080;
-
-// Equal and Colon
-const EQUAL_OR_COLON: u64 = 0x104000000000;
 
 // Whether a type's body ends here, and what is remembered of the lookahead behind newlines.
 struct BodyEnd {

@@ -1,5 +1,4 @@
 // Instructions.
-use crate::line::LINE_END;
 use grammar::block::Terminators;
 use grammar::event::CLOSE;
 use grammar::nesting::Nesting;
@@ -10,7 +9,6 @@ use parser::cursor::Cursor;
 use parser::cursor::bump;
 use parser::cursor::bump_plain;
 use parser::cursor::put;
-use parser::kinds::CONTROL_FLOW;
 use parser::kinds::expects_continuation_operand;
 use parser::kinds::in_set;
 use parser::kinds::in_words;
@@ -23,6 +21,11 @@ use parser::look::eof;
 use parser::look::is_top_level_starter;
 use parser::look::peek_after_inline_whitespace;
 use parser::nest::bump_nesting;
+use parser::sets::CONTROL_FLOW;
+use parser::sets::GOES_ON;
+use parser::sets::LINE_END;
+use parser::sets::PLAIN;
+use parser::sets::PLAIN_PUNCTUATION;
 ghost use mathlib.Core.Path.{_≡_};
 ghost use mathlib.Core.Bool.{true, false};
 ghost use Prim.Native.Nat.{_≤_};
@@ -134,11 +137,6 @@ fn at_instruction_end(kinds: &[u16], p: usize, previous: Significant, nesting: N
     false
 }
 
-// The kinds that neither change the counts nor are trivia or Error; and those of them that continue an instruction wherever they stand.
-const PLAIN: u64 = 0xf1e3fff80000000;
-
-const PLAIN_PUNCTUATION: u64 = 0xe161fc000000000;
-
 // Which plain kinds an instruction goes on with behind a token, outside delimiters.
 fn open_behind(k: u16) -> u64
     ensures { λ r. ⌜ r ≡ open-behind (Kind k) ⌝ }
@@ -173,9 +171,6 @@ fn plain_tokens(kinds: &[u16], ev: &mut [u16], c0: Cursor) -> Lead
     }
     Lead { c, previous }
 }
-
-// What an instruction may go on with behind one Whitespace: the punctuation that continues it, and Whitespace again.
-const GOES_ON: u64 = 0xef61fc008000000;
 
 // Whether one or two tokens tell that an instruction ends here, outside delimiters. Mostly they do.
 fn ends_plainly(kinds: &[u16], p: usize, previous: Significant) -> bool

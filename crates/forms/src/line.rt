@@ -19,6 +19,7 @@ use parser::look::eof;
 use parser::look::is_top_level_starter;
 use parser::look::next_relevant_top_level_token;
 use parser::nest::bump_nesting;
+use parser::sets::LINE_END;
 ghost use mathlib.Core.Path.{_≡_};
 ghost use mathlib.Core.Bool.{not, _||_};
 ghost use Prim.Native.Nat.{_≤_};
@@ -29,9 +30,6 @@ ghost use Rattle.grammar.specs.Line.{parse-line-tail, expr-round, no-token, par
 ghost use Rattle.grammar.specs.Line.{parse-signature-result-until-line-end};
 ghost use Rattle.parser.specs.Rep.{entry, exit, Ran};
 ghost use Rattle.forms.specs.Line.{line-ends, expr-ends, result-end};
-
-// Newline, Comment, DocComment
-pub const LINE_END: u64 = 0x70000000;
 
 // Whitespace, and at most one comment.
 pub fn parse_line_tail(

@@ -1,4 +1,10 @@
 // Classes of tokens, by their kinds and words.
+use crate::sets::NAME;
+use crate::sets::OPERAND;
+use crate::sets::PUNCTUATION;
+use crate::sets::RESERVED;
+use crate::sets::STARTER_KINDS;
+use crate::sets::STARTERS;
 use grammar::words::MARK;
 use lexer::syntax::COMMENT;
 use lexer::syntax::DOC_COMMENT;
@@ -20,25 +26,6 @@ pub const TRIVIA: u16 = DOC_COMMENT;
 pub const NON_COMMENT_TRIVIA: u16 = NEWLINE;
 
 pub const SPACE: u16 = WHITESPACE;
-
-// Sets of kinds, and of words, as the bits of a number.
-pub const OPERAND: u64 = 0xe17dfc000000000;
-
-pub const PUNCTUATION: u64 = 0xef61fc000000000;
-
-pub const NAME: u64 = 0x580000000;
-
-// The kinds and the words that start an item, and the words that do behind `pub`.
-pub const STARTER_KINDS: u64 = 0x1040000000;
-
-pub const STARTERS: u64 = 0x968e;
-
-pub const DECLARED: u64 = 0x9288;
-
-// The words of the control forms.
-pub const CONTROL_FLOW: u64 = 0x14110;
-
-pub const RESERVED: u64 = 0x1f7fe;
 
 // Whether the bit is set.
 pub fn in_set(mask: u64, k: u16) -> bool

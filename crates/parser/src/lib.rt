@@ -4,3 +4,4 @@ pub mod cursor;
 pub mod kinds;
 pub mod look;
 pub mod nest;
+pub mod sets;

@@ -1,5 +1,4 @@
 // Lookahead. A place in the file is a token's index; what the definitions call the list that is left starts there.
-use crate::kinds::DECLARED;
 use crate::kinds::NON_COMMENT_TRIVIA;
 use crate::kinds::REGULAR_TRIVIA;
 use crate::kinds::SPACE;
@@ -7,6 +6,7 @@ use crate::kinds::TRIVIA;
 use crate::kinds::in_words;
 use crate::kinds::is_trivia_to;
 use crate::kinds::starts_item;
+use crate::sets::DECLARED;
 use grammar::block::Terminators;
 use grammar::words::ELSE;
 use grammar::words::END;
