@@ -46,10 +46,11 @@ fuzz:
 	tests/fuzz/run $(SECONDS) $(JOBS)
 	cd tests && cargo run --offline --release --bin fuzz -- --seed $(SEED) --seconds $(SECONDS)
 
-# Instructions on sources of n and 2n bytes (docs/PERFORMANCE.md). Needs valgrind.
+# Instructions of the exported call on sources of n and 2n bytes (docs/PERFORMANCE.md). Needs valgrind.
 growth:
-	rt check cases
-	cd tests && cargo run --offline --release --bin growth -- --program ../target/bin/cases --markdown
+	rt staticlib cst
+	cd tests && cargo build --offline --release -p growth
+	tests/target/release/growth --markdown
 
 # Times of the proved lexer and reader, a plain Rust lexer and the reference (docs/PERFORMANCE.md).
 speed:

@@ -1,5 +1,6 @@
 // Calls of `masm_parse_text` that the program `cases` does not make: counts of two words, and sources at the greatest length.
 use frames::output;
+use lexer::MAX_SOURCE;
 ghost use Rattle.frames.specs.Ready.{Ready};
 
 // The counts, behind the status.
@@ -67,7 +68,7 @@ fn put_calls(source: &mut [u8], two: &mut [u64], three: &mut [u64], out: &mut [u
 }
 
 fn main() {
-    let mut source = [32u8; 1048577];
+    let mut source = [32u8; MAX_SOURCE + 1];
     let mut two = [7u64; 2];
     let mut three = [7u64; 3];
     let mut out = [0u8; 4096];

@@ -1,32 +1,22 @@
-//! One run under callgrind: how many instructions the program took.
+//! One run under callgrind: how many instructions a function took, with all that it called.
 
 use std::{
-    collections::HashMap,
-    env,
-    fs::{self, File},
-    io,
-    path::Path,
-    process::{Command, Stdio, id},
-    sync::atomic::{AtomicUsize, Ordering},
+    io::{self, Write},
+    path::PathBuf,
+    process::{Command, Output, Stdio},
 };
 
-/// The program's slices may stand on its stack.
-const STACK: &str = "--main-stacksize=536870912";
-
-/// Each run has files of its own.
-static RUNS: AtomicUsize = AtomicUsize::new(0);
-
-pub struct Valgrind<'a> {
-    pub program: &'a Path,
-    /// What functions with this word in their names take is left out.
-    pub aside: &'a str,
+/// A program that reads a source from standard input, calls a function on it once, and prints the
+/// answer.
+pub struct Counted {
+    pub program: PathBuf,
+    /// Only what runs inside it is counted.
+    pub function: String,
 }
 
 pub struct Run {
     pub instructions: u64,
-    /// Whether a function was left out.
-    pub parted: bool,
-    /// The answer's first line.
+    /// The line that the program printed.
     pub answer: String,
 }
 
@@ -35,72 +25,39 @@ pub fn is_there() -> bool {
     tried.is_ok_and(|status| status.success())
 }
 
-impl Valgrind<'_> {
-    pub fn run(&self, frame: &[u8]) -> Result<Run, String> {
-        let number = RUNS.fetch_add(1, Ordering::Relaxed);
-        let [input, profile] = ["frame", "callgrind"]
-            .map(|name| env::temp_dir().join(format!("growth-{}-{number}.{name}", id())));
-        let run = self.run_with(frame, &input, &profile);
-        for file in [input, profile] {
-            let _ = fs::remove_file(file);
+impl Counted {
+    pub fn run(&self, source: &[u8]) -> Result<Run, String> {
+        let name = self.program.display();
+        let Output { status, stdout, stderr } =
+            self.output(source).map_err(|error| format!("{name}: {error}"))?;
+        let said = String::from_utf8_lossy(&stderr);
+        if !status.success() {
+            return Err(format!("{name} ended with {status}\n{said}"));
         }
-        run
+        let instructions = collected(&said)
+            .filter(|instructions| *instructions > 0)
+            .ok_or_else(|| format!("{name}: nothing was counted in {}\n{said}", self.function))?;
+        Ok(Run { instructions, answer: String::from_utf8_lossy(&stdout).trim_end().to_string() })
     }
 
-    /// The input is a file: from a pipe it could come in pieces.
-    fn run_with(&self, frame: &[u8], input: &Path, profile: &Path) -> Result<Run, String> {
-        let trouble = |error: io::Error| error.to_string();
-        fs::write(input, frame).map_err(trouble)?;
-        let output = Command::new("valgrind")
-            .args(["--tool=callgrind", "--quiet", STACK])
-            .arg(format!("--callgrind-out-file={}", profile.display()))
-            .arg(self.program)
-            .stdin(File::open(input).map_err(trouble)?)
-            .output()
-            .map_err(trouble)?;
-        if !output.status.success() {
-            let said = String::from_utf8_lossy(&output.stderr);
-            return Err(format!("the program ended with {}\n{said}", output.status));
-        }
-        let first = output.stdout.split(|byte| *byte == b'\n').next().unwrap_or_default();
-        let answer = String::from_utf8_lossy(first).into_owned();
-        let costs = costs(&fs::read_to_string(profile).map_err(trouble)?);
-        let (aside, counted): (Vec<_>, Vec<_>) =
-            costs.into_iter().partition(|(name, _)| name.contains(self.aside));
-        let instructions = counted.iter().map(|(_, cost)| cost).sum();
-        Ok(Run { instructions, parted: !aside.is_empty(), answer })
+    /// Counting starts where the function is entered, and stops where it returns.
+    fn output(&self, source: &[u8]) -> io::Result<Output> {
+        let mut child = Command::new("valgrind")
+            .args(["--tool=callgrind", "--callgrind-out-file=/dev/null", "--collect-atstart=no"])
+            .arg(format!("--toggle-collect={}", self.function))
+            .arg(&self.program)
+            .stdin(Stdio::piped())
+            .stdout(Stdio::piped())
+            .stderr(Stdio::piped())
+            .spawn()?;
+        // A program that ends without reading is told by how it ended.
+        let _ = child.stdin.take().expect("standard input is a pipe").write_all(source);
+        child.wait_with_output()
     }
 }
 
-/// What each function took itself, from callgrind's file. A name stands there once, with a
-/// number; a line of cost behind `calls=` is what the callee took.
-fn costs(profile: &str) -> HashMap<String, u64> {
-    let (mut names, mut costs) = (HashMap::new(), HashMap::new());
-    let (mut current, mut callee) = (String::new(), false);
-    for line in profile.lines() {
-        if let Some(name) = line.strip_prefix("fn=") {
-            current = function(&mut names, name);
-        } else if let Some(name) = line.strip_prefix("cfn=") {
-            function(&mut names, name);
-        } else if line.starts_with("calls=") {
-            callee = true;
-        } else if line.starts_with(|first: char| first.is_ascii_digit() || "+-*".contains(first)) {
-            let cost = line.split(' ').nth(1).and_then(|cost| cost.parse().ok()).unwrap_or(0);
-            if !std::mem::take(&mut callee) {
-                *costs.entry(current.clone()).or_insert(0u64) += cost;
-            }
-        }
-    }
-    costs
-}
-
-/// The name behind `(number) name`, or the one that the number had before.
-fn function(names: &mut HashMap<String, String>, text: &str) -> String {
-    match text.split_once(") ") {
-        Some((number, name)) => {
-            names.insert(number.to_string(), name.to_string());
-            name.to_string()
-        },
-        None => names.get(text.trim_end_matches(')')).cloned().unwrap_or_default(),
-    }
+/// The count in callgrind's line `Collected : N`.
+fn collected(said: &str) -> Option<u64> {
+    let (_, count) = said.lines().find_map(|line| line.split_once("Collected : "))?;
+    count.trim().parse().ok()
 }

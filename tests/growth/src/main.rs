@@ -1,18 +1,17 @@
-//! Counts the reader's instructions on sources of n and of 2n bytes. Where the time is linear,
-//! the second count is about twice the first.
+//! Counts the instructions of the exported call on sources of n and of 2n bytes. Where the time is
+//! linear, the second count is about twice the first.
 
 mod callgrind;
 mod measure;
 mod table;
 
-use std::{env, path::Path, process::ExitCode};
+use std::{env, process::ExitCode};
 
-use callgrind::Valgrind;
+use callgrind::Counted;
 use measure::{Measure, families};
 use table::Table;
 
-const USAGE: &str =
-    "usage: growth --program PATH [--size N] [--only WORD] [--aside WORD] [--markdown]";
+const USAGE: &str = "usage: growth [--size N] [--only WORD] [--markdown] [--program PATH FUNCTION]";
 
 /// A greater ratio shows that the time is not linear.
 const GREATEST: f64 = 2.1;
@@ -20,25 +19,25 @@ const GREATEST: f64 = 2.1;
 /// How many families are measured at a time.
 const TOGETHER: usize = 2;
 
+/// The program that makes the exported call.
+const ONE_CALL: &str = "one_call";
+
+/// The exported call.
+const CALL: &str = "masm_parse_text";
+
 struct Options {
-    program: String,
     /// The n.
     size: usize,
     /// Only families with this in their names.
     only: String,
-    aside: String,
     markdown: bool,
+    /// Counted in place of the exported call.
+    program: Option<Counted>,
 }
 
 fn main() -> ExitCode {
-    let mut options = Options {
-        program: String::new(),
-        size: 65_536,
-        only: String::new(),
-        aside: "output".to_string(),
-        markdown: false,
-    };
-    if read(&mut options, env::args().skip(1)).is_none() || options.program.is_empty() {
+    let mut options = Options { size: 65_536, only: String::new(), markdown: false, program: None };
+    if read(&mut options, env::args().skip(1)).is_none() {
         eprintln!("{USAGE}");
         return ExitCode::from(2);
     }
@@ -46,7 +45,7 @@ fn main() -> ExitCode {
         eprintln!("growth: valgrind, which counts the instructions, is not on this machine");
         return ExitCode::from(2);
     }
-    match run(&options) {
+    match run(options) {
         Ok(0) => ExitCode::SUCCESS,
         Ok(_) => ExitCode::FAILURE,
         Err(trouble) => {
@@ -60,11 +59,13 @@ fn main() -> ExitCode {
 fn read(options: &mut Options, mut words: impl Iterator<Item = String>) -> Option<()> {
     while let Some(word) = words.next() {
         match word.as_str() {
-            "--program" => options.program = words.next()?,
             "--size" => options.size = words.next()?.parse().ok()?,
             "--only" => options.only = words.next()?,
-            "--aside" => options.aside = words.next()?,
             "--markdown" => options.markdown = true,
+            "--program" => {
+                let (program, function) = (words.next()?.into(), words.next()?);
+                options.program = Some(Counted { program, function });
+            },
             _ => return None,
         }
     }
@@ -72,17 +73,13 @@ fn read(options: &mut Options, mut words: impl Iterator<Item = String>) -> Optio
 }
 
 /// Prints the table; how many families grow too fast.
-fn run(options: &Options) -> Result<usize, String> {
-    let valgrind = Valgrind { program: Path::new(&options.program), aside: &options.aside };
-    let sizes = [options.size, 2 * options.size];
-    let measure = Measure::new(valgrind, sizes)?;
-    if !measure.parted {
-        eprintln!("growth: no function is named like `{}`: printing is counted", options.aside);
-    }
-    let table = Table { markdown: options.markdown, greatest: GREATEST };
-    table.print_head(sizes);
+fn run(Options { size, only, markdown, program }: Options) -> Result<usize, String> {
+    let counted = program.map_or_else(exported_call, Ok)?;
+    let measure = Measure { counted, sizes: [size, 2 * size] };
+    let table = Table { markdown, greatest: GREATEST };
+    table.print_head(measure.sizes);
     let (mut all, mut fast) = (0, 0);
-    let chosen: Vec<_> = families().filter(|(name, _)| name.contains(&options.only)).collect();
+    let chosen: Vec<_> = families().filter(|(name, _)| name.contains(&only)).collect();
     for families in chosen.chunks(TOGETHER) {
         for row in measure.rows(families) {
             let row = row?;
@@ -93,4 +90,17 @@ fn run(options: &Options) -> Result<usize, String> {
     }
     println!("growth: {all} families, {fast} above {GREATEST}");
     Ok(fast)
+}
+
+/// The call in the archive, made by the program that is built beside this one.
+fn exported_call() -> Result<Counted, String> {
+    if !exported::LINKED {
+        return Err(exported::MISSING.to_string());
+    }
+    let growth = env::current_exe().map_err(|error| error.to_string())?;
+    let program = growth.with_file_name(ONE_CALL);
+    if !program.exists() {
+        return Err(format!("{ONE_CALL} is not built"));
+    }
+    Ok(Counted { program, function: CALL.to_string() })
 }

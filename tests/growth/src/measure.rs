@@ -1,28 +1,18 @@
-//! The instructions that a source's answer takes, without the frame's fixed part.
+//! The instructions that the call takes on a source of each family.
 
 use std::thread;
 
-use corpus::{
-    frame::{self, Asked},
-    random::Random,
-    script::script,
-    shapes::SHAPES,
-};
-use reference::Rooms;
+use corpus::{random::Random, script::script, shapes::SHAPES};
 
-use crate::callgrind::Valgrind;
+use crate::callgrind::Counted;
 
 /// The most bytes of the script that is repeated; it is made a little shorter.
 const SCRIPT: usize = 8_192;
 
-/// Counts for one program and two sizes.
-pub struct Measure<'a> {
-    valgrind: Valgrind<'a>,
-    sizes: [usize; 2],
-    /// What an empty source takes with the rooms of each size: filling and printing the slices.
-    empty: [u64; 2],
-    /// Whether the printing of numbers is left out.
-    pub parted: bool,
+/// Counts for one function and two sizes.
+pub struct Measure {
+    pub counted: Counted,
+    pub sizes: [usize; 2],
 }
 
 pub struct Row {
@@ -30,8 +20,8 @@ pub struct Row {
     /// Of the longer source.
     pub bytes: usize,
     pub tokens: u64,
-    /// Instructions for both sources, less the empty one's.
-    pub net: [i64; 2],
+    /// For both sources.
+    pub instructions: [u64; 2],
 }
 
 /// A family's source of a size.
@@ -57,17 +47,7 @@ fn scripts(size: usize) -> Vec<u8> {
     one.repeat(size / most).into_bytes()
 }
 
-impl<'a> Measure<'a> {
-    pub fn new(valgrind: Valgrind<'a>, sizes: [usize; 2]) -> Result<Self, String> {
-        let mut measure = Self { valgrind, sizes, empty: [0; 2], parted: true };
-        for (at, size) in sizes.into_iter().enumerate() {
-            let run = measure.valgrind.run(&frame(&[], size))?;
-            measure.empty[at] = run.instructions;
-            measure.parted &= run.parted;
-        }
-        Ok(measure)
-    }
-
+impl Measure {
     /// The rows of these families, measured side by side.
     pub fn rows(&self, families: &[Family]) -> Vec<Result<Row, String>> {
         thread::scope(|scope| {
@@ -79,17 +59,17 @@ impl<'a> Measure<'a> {
         })
     }
 
+    /// Every family's source is accepted: its answer is 0 and the number of tokens, then more.
     fn row(&self, name: &'static str, sources: [Vec<u8>; 2]) -> Result<Row, String> {
-        let mut row = Row { name, bytes: sources[1].len(), tokens: 0, net: [0; 2] };
-        for (at, source) in sources.iter().enumerate() {
-            let run = self.valgrind.run(&frame(source, self.sizes[at]))?;
+        let mut row = Row { name, bytes: sources[1].len(), tokens: 0, instructions: [0; 2] };
+        for (source, instructions) in sources.iter().zip(&mut row.instructions) {
+            let run = self.counted.run(source)?;
             let numbers: Vec<u64> =
                 run.answer.split(' ').filter_map(|number| number.parse().ok()).collect();
             let [0, tokens, ..] = numbers[..] else {
                 return Err(format!("{name}: not accepted, but answered `{}`", run.answer));
             };
-            row.tokens = tokens;
-            row.net[at] = run.instructions as i64 - self.empty[at] as i64;
+            (row.tokens, *instructions) = (tokens, run.instructions);
         }
         Ok(row)
     }
@@ -97,25 +77,10 @@ impl<'a> Measure<'a> {
 
 impl Row {
     pub fn ratio(&self) -> f64 {
-        self.net[1] as f64 / self.net[0] as f64
+        self.instructions[1] as f64 / self.instructions[0] as f64
     }
 
     pub fn per_byte(&self) -> f64 {
-        self.net[1] as f64 / self.bytes as f64
+        self.instructions[1] as f64 / self.bytes as f64
     }
-}
-
-/// The frame of a source, with rooms that are enough for any source of this size.
-fn frame(source: &[u8], size: usize) -> Vec<u8> {
-    let diagnostics = 2 * size;
-    let rooms = Rooms {
-        counts: 3,
-        token_kinds: size,
-        token_ends: size,
-        events: 7 * size + 2,
-        messages: diagnostics,
-        starts: diagnostics,
-        ends: diagnostics,
-    };
-    frame::frame(Asked::Reading, source, rooms)
 }

@@ -10,7 +10,7 @@ pub struct Table {
 
 impl Table {
     pub fn print_head(&self, [small, large]: [usize; 2]) {
-        let at = |size: usize| format!("at {} bytes", grouped(size as i64));
+        let at = |size: usize| format!("at {} bytes", grouped(size as u64));
         let [at_small, at_large] = [small, large].map(at);
         let head = ["family", "tokens", &at_small, &at_large, "per byte", "ratio"];
         self.line(head.map(str::to_string));
@@ -23,9 +23,9 @@ impl Table {
         let mark = if row.ratio() > self.greatest { " above" } else { "" };
         self.line([
             row.name.to_string(),
-            grouped(row.tokens as i64),
-            grouped(row.net[0]),
-            grouped(row.net[1]),
+            grouped(row.tokens),
+            grouped(row.instructions[0]),
+            grouped(row.instructions[1]),
             format!("{:.1}", row.per_byte()),
             format!("{:.2}{mark}", row.ratio()),
         ]);
@@ -42,12 +42,12 @@ impl Table {
 }
 
 /// The number with a comma before each three digits.
-fn grouped(number: i64) -> String {
-    let mut text = number.abs().to_string();
+fn grouped(number: u64) -> String {
+    let mut text = number.to_string();
     let mut at = text.len();
     while at > 3 {
         at -= 3;
         text.insert(at, ',');
     }
-    if number < 0 { format!("-{text}") } else { text }
+    text
 }
