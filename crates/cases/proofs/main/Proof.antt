@@ -1,13 +1,14 @@
 -- `cases::main` is safe: its arrays have their lengths. Assumes nothing.
 use mathlib.Core.Path.{sym}
-use Prim.Native.Nat.{ℕ}
+use Prim.Native.Nat.{ℕ, _+_}
 use lib.ListN.{length-replicate}
+use Rattle.lexer.specs.Tokens.{MAX-SOURCE}
 use borrow.Author.Needs.{needs}
 use Rattle.cases.proofs.main.Statement.{statement}
 use Rattle.cases.proofs.main.Tie as tie
 
 slice-aggregate-run-cases : tie.Need-slice-aggregate-run-cases
-slice-aggregate-run-cases c = sym (length-replicate {0} {A = ℕ} 1048577 0)
+slice-aggregate-run-cases c = sym (length-replicate {0} {A = ℕ} (MAX-SOURCE + 1) 0)
 
 slice-aggregate-run-cases-2 : tie.Need-slice-aggregate-run-cases-2
 slice-aggregate-run-cases-2 c = sym (length-replicate {0} {A = ℕ} 262144 0)
