@@ -13,17 +13,17 @@ pub enum Answer {
 }
 
 // The status and the three numbers behind it.
-pub struct Row {
+pub struct Numbers {
     pub status: u64,
     pub first: u64,
     pub second: u64,
     pub third: u64,
 }
 
-fn with(status: u64, first: usize, second: usize, third: usize) -> Row
+fn with(status: u64, first: usize, second: usize, third: usize) -> Numbers
     ensures { λ r. ⌜ r ≡ row status first second third ⌝ }
 {
-    Row {
+    Numbers {
         status,
         first: first as u64,
         second: second as u64,
@@ -32,7 +32,7 @@ fn with(status: u64, first: usize, second: usize, third: usize) -> Row
 }
 
 // The numbers of an answer in document 01's table.
-pub fn numbers(answer: Answer) -> Row
+pub fn numbers(answer: Answer) -> Numbers
     ensures { λ r. ⌜ r ≡ numbersOf answer ⌝ }
 {
     match answer {

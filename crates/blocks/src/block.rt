@@ -12,7 +12,7 @@ use crate::header::if_header;
 use crate::header::keyword_line;
 use crate::header::repeat_header;
 use crate::header::while_header;
-use crate::rounds::Place;
+use crate::rounds::BlockPlace;
 use crate::rounds::first_rounds;
 use crate::rounds::next_rounds;
 use grammar::block::BlockOwner;
@@ -36,7 +36,7 @@ ghost use Rattle.blocks.specs.Shapes.{ParseBlock, ParseForm};
 // Where a block begins, and which it is: the arguments of `block_from`, which a frame then holds in one place.
 struct Start {
     c: Cursor,
-    place: Place,
+    place: BlockPlace,
 }
 
 pub fn parse_block(
@@ -53,7 +53,7 @@ pub fn parse_block(
     ensures { λ r. ⌜ ParseBlock (now (kinds .entry)) owner terminators depth
         (entry ev dm ds c0) (exit ev dm ds (r .c)) (r .outcome) (r .item) ⌝ }
 {
-    let place = Place {
+    let place = BlockPlace {
         depth: depth as u16,
         owner: owner,
         terminators: terminators,
@@ -142,7 +142,7 @@ fn inner_block(
     ensures { λ r. ⌜ ParseBlock (now (kinds .entry)) owner terminators depth
         (entry ev dm ds c0) (exit ev dm ds (r .c)) (r .outcome) (r .item) ⌝ }
 {
-    let place = Place {
+    let place = BlockPlace {
         depth: depth as u16,
         owner: owner,
         terminators: terminators,

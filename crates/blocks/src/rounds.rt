@@ -21,7 +21,7 @@ ghost use Rattle.blocks.specs.Shapes.{ItemAt, FormHere, BlockRounds, Fir
 const MAX_CONTROL_FLOW_NESTING: usize = 256;
 
 // Which block it is, and how many forms it stands in. One small struct, since each frame of the cycle has one.
-pub struct Place {
+pub struct BlockPlace {
     pub depth: u16,
     pub owner: BlockOwner,
     pub terminators: Terminators,
@@ -78,7 +78,7 @@ fn rounds(
     dm: &mut [u16],
     ds: &mut [u32],
     c0: Cursor,
-    place: Place,
+    place: BlockPlace,
     item0: bool,
 ) -> Stopped
     requires { ⌜ ItemAt (now kinds) (c0 .pos) item0 ⌝ }
@@ -131,7 +131,7 @@ pub fn first_rounds(
     dm: &mut [u16],
     ds: &mut [u32],
     c0: Cursor,
-    place: Place,
+    place: BlockPlace,
 ) -> Stopped
     ensures { λ r. ⌜ FirstRounds (now (kinds .entry)) (place .owner) (place .terminators) (place .depth)
         (entry ev dm ds c0) (exit ev dm ds (r .c)) (r .outcome) (r .item) (r .control) (r .word) ⌝ }
@@ -147,7 +147,7 @@ pub fn next_rounds(
     dm: &mut [u16],
     ds: &mut [u32],
     c0: Cursor,
-    place: Place,
+    place: BlockPlace,
     item0: bool,
 ) -> Stopped
     requires { ⌜ ItemAt (now kinds) (c0 .pos) item0 ⌝ }

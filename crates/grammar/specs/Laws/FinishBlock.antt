@@ -21,17 +21,17 @@ use Rattle.grammar.specs.Laws.Tame.{tame-pure, tame-take, tame-err, tame
 use Rattle.grammar.specs.Laws.Finish.{Final, silent, met-end, Finishes, finishes-tame, finishes-pick, finishes-if, finishes-after, finishes-then, finishes-outcome, finishes-map, ended-calm, tame-recovered, finishes-ended}
 
 -- What a block whose file ended puts out last: its report, or a tree that the file ended in.
-pub data BlockEnd (w : BlockOwner) : Forest → Type 0 where
-  own-report : BlockEnd w (say (missingEndNumber w) nil)
-  inner-tree : {z : Forest} → Unclosed z → BlockEnd w z
+pub data BlockFinish (w : BlockOwner) : Forest → Type 0 where
+  own-report : BlockFinish w (say (missingEndNumber w) nil)
+  inner-tree : {z : Forest} → Unclosed z → BlockFinish w z
 
 -- What the node k puts out last.
 pub data LastBlock : Kind → Forest → Type 0 where
-  of-block : (w : BlockOwner) (y z : Forest) → Calm ending y → BlockEnd w z → LastBlock (holder w) (node Block (y <> z) nil)
+  of-block : (w : BlockOwner) (y z : Forest) → Calm ending y → BlockFinish w z → LastBlock (holder w) (node Block (y <> z) nil)
 
 -- A block of w, and the Block node around it.
 abbrev pub EndsBlock : BlockOwner → P BlockParseOutcome → Type 0
-EndsBlock w f = Finishes (BlockEnd w) BlockParseOutcome.ReachedEof f
+EndsBlock w f = Finishes (BlockFinish w) BlockParseOutcome.ReachedEof f
 
 abbrev pub EndsNode : BlockOwner → P BlockParseOutcome → Type 0
 EndsNode w f = Finishes (LastBlock (holder w)) BlockParseOutcome.ReachedEof f
@@ -40,7 +40,7 @@ block-node : (w : BlockOwner) {f : P BlockParseOutcome} → EndsBlock w f → En
 unfolding inNode
 block-node w {f} F = record { finish = λ r. c r (F .finish r) }
   where
-    c : (r : List Sym) → Final (BlockEnd w) BlockParseOutcome.ReachedEof (f r) → Final (LastBlock (holder w)) BlockParseOutcome.ReachedEof (inNode Block f r)
+    c : (r : List Sym) → Final (BlockFinish w) BlockParseOutcome.ReachedEof (f r) → Final (LastBlock (holder w)) BlockParseOutcome.ReachedEof (inNode Block f r)
     c r (silent k) = silent (k, tt)
     c r (met-end y z k q e l v) = met-end nil (node Block (y <> z) nil) tt (of-block w y z k q) (ap (λ x. node Block x nil) e) l v
 
@@ -124,7 +124,7 @@ finishes-eof : (w : BlockOwner) {g : P BlockParseOutcome} → EndsBlock w g →
 unfolding _>>=_ peek eof err pure number
 finishes-eof w {g} G = record { finish = c }
   where
-    c : (r : List Sym) → Final (BlockEnd w) BlockParseOutcome.ReachedEof ((if eof then (err (number (Message.MissingEnd w)) >> pure BlockParseOutcome.ReachedEof) else g) r)
+    c : (r : List Sym) → Final (BlockFinish w) BlockParseOutcome.ReachedEof ((if eof then (err (number (Message.MissingEnd w)) >> pure BlockParseOutcome.ReachedEof) else g) r)
     c [] = met-end nil (say (missingEndNumber w) nil) tt own-report refl refl refl
     c (s ∷ r) = G .finish (s ∷ r)
 
