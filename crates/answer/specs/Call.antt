@@ -6,7 +6,7 @@ use mathlib.Core.Bool.{cond}
 use mathlib.Core.List.{List, _∷_}
 use lib.Dec.{ltb}
 use lib.ListN.{length, drop}
-use Rattle.answer.specs.declared.Numbers.{Numbers}
+use Rattle.answer.specs.declared.FourNumbers.{FourNumbers}
 use Rattle.answer.specs.Numbers.{numbers}
 use Rattle.answer.specs.Answer.{Slices, Outcome, parse-text}
 
@@ -20,7 +20,7 @@ abbrev pub reply : ℕ → Slices → List ℕ → Reply
 reply status s counts = record { status = status; slices = s; counts = counts }
 
 -- an answer's numbers: the first is returned, the others are the first words of `counts`
-abbrev pub row-reply : Numbers → Slices → List ℕ → Reply
+abbrev pub row-reply : FourNumbers → Slices → List ℕ → Reply
 row-reply n s counts = reply (n .status) s (n .first ∷ n .second ∷ n .third ∷ drop 3 counts)
 
 abbrev pub answer-reply : Outcome → List ℕ → Reply

@@ -2,12 +2,12 @@
 use Prim.Native.Nat.{ℕ}
 use Rattle.answer.specs.declared.Answer.{Answer}
 use Rattle.answer.specs.declared.Answer.the-variants.{TooLong, NotUtf8, TokenRoom, Refused, OutputRoom, Accepted}
-use Rattle.answer.specs.declared.Numbers.{Numbers}
+use Rattle.answer.specs.declared.FourNumbers.{FourNumbers}
 
-abbrev pub row : ℕ → ℕ → ℕ → ℕ → Numbers
+abbrev pub row : ℕ → ℕ → ℕ → ℕ → FourNumbers
 row status first second third = record { status = status; first = first; second = second; third = third }
 
-abbrev pub numbers : Answer → Numbers
+abbrev pub numbers : Answer → FourNumbers
 numbers TooLong = row 1 0 0 0
 numbers (NotUtf8 n) = row 2 n 0 0
 numbers (TokenRoom t) = row 3 t 0 0

@@ -13,17 +13,17 @@ pub enum Answer {
 }
 
 // The status and the three numbers behind it.
-pub struct Numbers {
+pub struct FourNumbers {
     pub status: u64,
     pub first: u64,
     pub second: u64,
     pub third: u64,
 }
 
-fn with(status: u64, first: usize, second: usize, third: usize) -> Numbers
+fn with(status: u64, first: usize, second: usize, third: usize) -> FourNumbers
     ensures { λ r. ⌜ r ≡ row status first second third ⌝ }
 {
-    Numbers {
+    FourNumbers {
         status,
         first: first as u64,
         second: second as u64,
@@ -32,7 +32,7 @@ fn with(status: u64, first: usize, second: usize, third: usize) -> Numbers
 }
 
 // The numbers of an answer in document 01's table.
-pub fn numbers(answer: Answer) -> Numbers
+pub fn numbers(answer: Answer) -> FourNumbers
     ensures { λ r. ⌜ r ≡ numbersOf answer ⌝ }
 {
     match answer {

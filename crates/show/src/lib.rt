@@ -1,5 +1,5 @@
 // The text of program `tree`, as document 01 has it.
-use answer::Numbers;
+use answer::FourNumbers;
 use answer::numbers;
 use frames::output;
 use room::least;
@@ -14,7 +14,7 @@ mod message;
 const LONGEST: usize = 2048;
 
 // `ok` T E D, or `no` and the four numbers.
-fn put_row(out: &mut [u8], used: usize, row: Numbers) -> usize
+fn put_row(out: &mut [u8], used: usize, row: FourNumbers) -> usize
     requires { ⌜ Ready used (now out) ⌝ }
     ensures { λ r. ⌜ Ready r (now (out .exit)) ⌝ }
 {

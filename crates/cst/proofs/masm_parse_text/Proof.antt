@@ -6,7 +6,7 @@ use native.Mathlib.Omega.{arith}
 use borrow.Author.Tests.{lt-ltb, le-ltb}
 use lib.ListN.{length, set, drop, length-set}
 use Rattle.answer.specs.declared.Answer.{Answer}
-use Rattle.answer.specs.declared.Numbers.{Numbers}
+use Rattle.answer.specs.declared.FourNumbers.{FourNumbers}
 use Rattle.answer.specs.Numbers.{numbers}
 use Rattle.answer.specs.Answer.{Slices, outcome, parse-text}
 use Rattle.answer.specs.Call.{call, MasmParseText}
@@ -27,13 +27,13 @@ module _ (source : List ℕ) (s : Slices) (counts : List ℕ) where
       let e = lt-ltb (length counts) 3 h in
       record { status-is = rw e; slices-are = rw e; counts-are = rw e }
 
-  replies : (a : Answer) (s′ : Slices) (n : Numbers) → 3 ≤ length counts → outcome a s′ ≡ parse-text source s → n ≡ numbers a
+  replies : (a : Answer) (s′ : Slices) (n : FourNumbers) → 3 ≤ length counts → outcome a s′ ≡ parse-text source s → n ≡ numbers a
       → MasmParseText source s counts (n .status) s′ (set (set (set counts 0 (n .first)) 1 (n .second)) 2 (n .third))
   unfolding call
   replies a s′ n h o e =
       let k = le-ltb (length counts) 3 h in
       record {
-        status-is = ap (λ (x : Numbers). x .status) e ∙ rw (k, sym o) refl;
+        status-is = ap (λ (x : FourNumbers). x .status) e ∙ rw (k, sym o) refl;
         slices-are = rw (k, sym o) refl;
         counts-are = three counts (n .first) (n .second) (n .third) h ∙ rw (k, sym o, e) refl;
       }
