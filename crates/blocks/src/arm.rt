@@ -113,7 +113,8 @@ pub fn block_arm_here(
     item: bool,
 ) -> Seen
     requires { ⌜ (DocKnown (now kinds) p known) × (ItemAt (now kinds) p item) ⌝ }
-    ensures { λ r. ⌜ (r .arm ≡ block-arm terminators (drop p (now (kinds .entry)))) × (DocKnown (now (kinds .entry)) p (r .known)) ⌝ }
+    ensures { λ r. ⌜ (r .arm ≡ block-arm terminators (drop p (now (kinds .entry))))
+        × (DocKnown (now (kinds .entry)) p (r .known)) ⌝ }
 {
     let k = current(kinds, p);
     if is_regular_trivia(k) {
