@@ -6,7 +6,7 @@ use mathlib.Core.List.{List, [], _∷_, map, append-nil}
 use native.Mathlib.Omega.{arith}
 use lib.ListN.{length, length-map}
 use Rattle.utf8.specs.WellFormed.{WellFormed}
-use Rattle.utf8.specs.Laws.{accepts as valid}
+use Rattle.utf8.specs.Laws.{accepted, accepts as valid}
 use Rattle.lexer.specs.Lexer.{tokenize}
 use Rattle.lexer.specs.Tokens.{MAX-SOURCE, token-kinds}
 use Rattle.lexer.specs.Tokens
@@ -23,6 +23,7 @@ use Rattle.grammar.specs.Theorems.AllTokens.{all-tokens}
 use Rattle.grammar.specs.Theorems.FewOpen.{peak, few-open}
 use Rattle.grammar.specs.Theorems.FewEvents.{few-events}
 use Rattle.grammar.specs.Theorems.FewDiagnostics.{few-diagnostics}
+use Rattle.grammar.specs.Theorems.InOrder.{NeverFalling}
 use Rattle.grammar.specs.Block.{MAX-CONTROL-FLOW-NESTING as limit}
 use Rattle.marks.specs.Laws.{NotRefused, none-refused, source-unmarked}
 use Rattle.answer.specs.Answer.{Slices, token-room, diagnostic-room, events-of, places-of}
@@ -30,9 +31,10 @@ use Rattle.answer.specs.Call.{MasmParseText}
 use Rattle.answer.specs.Given.{token-count, event-count, diagnostic-count, given, cut}
 use Rattle.answer.specs.Accepts.{reading-slices, reading-of-call, last-row-of-call}
 use Rattle.answer.specs.JoinedTokens.{cut-source}
+use Rattle.answer.specs.InOrder.{starts-in-order}
 
 -- The counts are those of what is given. The leaves in order are the tokens, and their texts the source, byte for byte. At most 516 nodes are
--- open together.
+-- open together. No diagnostic starts before the one before it.
 pub record Facts (source : List ℕ) (g : Slices) (counts : List ℕ) : Type 0 where
   pub tokens : length (g .kinds) ≡ token-count counts
   pub ends : length (g .ends) ≡ token-count counts
@@ -43,6 +45,7 @@ pub record Facts (source : List ℕ) (g : Slices) (counts : List ℕ) : Type 0 w
   pub few-open : peak 0 (g .events) ≤ 516
   pub few-events : event-count counts ≤ 7 * token-count counts + 2
   pub few-diagnostics : diagnostic-count counts ≤ 2 * token-count counts
+  pub in-order : NeverFalling 0 (g .starts)
 
 by-kinds : (ss : List Sym) → map kind ss ≡ map eventOf (map kindOf ss)
 by-kinds [] = refl
@@ -66,10 +69,10 @@ diagnostics-few source =
 events-few : (source : List ℕ) → length (events-of source) ≤ 7 * length (tokenize source) + 2
 events-few source = omega (arith, few-events limit (symbols source), length-map (tokenize source) Source.token-symbol)
 
-of-reading : (source : List ℕ) (counts : List ℕ) → token-count counts ≡ length (tokenize source)
+of-reading : (source : List ℕ) (counts : List ℕ) → WellFormed source → token-count counts ≡ length (tokenize source)
     → event-count counts ≡ length (events-of source) → diagnostic-count counts ≡ length (places-of source)
     → Facts source (reading-slices source) counts
-of-reading source counts t e d =
+of-reading source counts w t e d =
     record {
       tokens = length-map (tokenize source) Tokens.token-kind ∙ sym t;
       ends = length-ends 0 (tokenize source) ∙ sym t;
@@ -80,13 +83,15 @@ of-reading source counts t e d =
       few-open = omega (arith, few-open limit (symbols source));
       few-events = omega (arith, events-few source);
       few-diagnostics = omega (arith, diagnostics-few source);
+      in-order = starts-in-order source w;
     }
 
 pub facts : (source : List ℕ) (s : Slices) (counts : List ℕ) {r : ℕ} {s′ : Slices} {counts′ : List ℕ}
     → MasmParseText source s counts r s′ counts′ → r ≡ 0 → Facts source (given s′ counts′) counts′
 facts source s counts c z =
-    let g = reading-of-call source s counts (last-row-of-call source s counts c z) c .1 in
-    rw (g .given-is) (of-reading source _ (g .t-is) (g .e-is) (g .d-is))
+    let last = last-row-of-call source s counts c z in
+    let g = reading-of-call source s counts last c .1 in
+    rw (g .given-is) (of-reading source _ (accepted source (last .utf8)) (g .t-is) (g .e-is) (g .d-is))
 
 -- For n bytes: n tokens, 7 * n + 2 events and 2 * n diagnostics.
 pub enough-room : (source : List ℕ) (s : Slices) (counts : List ℕ) {r : ℕ} {s′ : Slices} {counts′ : List ℕ}

@@ -1,4 +1,4 @@
--- The tokens of a text's bytes are the tokens of its characters, each text encoded.
+-- The tokens of a text's bytes are the tokens of its characters, each text encoded; so every token is whole characters.
 -- Assumes nothing.
 use Prim.Native.Nat.{ℕ, zero, suc, _≤_, _<_}
 use mathlib.Core.Path.{_≡_, sym, ap, _∙_}
@@ -8,10 +8,10 @@ use lib.Seq.{take-append-seam, drop-append-seam}
 use Rattle.utf8.specs.Width.{width}
 use Rattle.utf8.specs.Scalar.{encode}
 use Rattle.lexer.specs.Lexer.{Lexeme, Token, tokenize}
-use Rattle.lexer.specs.Laws.{tokenize-nil, tokenize-cons}
+use Rattle.lexer.specs.Laws.{tokenize-nil, tokenize-cons, Every}
 use Rattle.utf8.specs.WellFormed.{WellFormed}
 use Rattle.characters.specs.Text.{Scalars, encode-all}
-use Rattle.characters.specs.Decode.{decodes, encode-once}
+use Rattle.characters.specs.Decode.{encoded-well-formed, decodes, encode-once}
 use Rattle.characters.specs.CharLexer.{char-next, char-tokens, char-tokenize, encoded}
 use Rattle.characters.specs.Spelling.{HighBytes, Spelling, ascii, wide, spelling}
 use Rattle.characters.specs.Agree.{take-encoded, drop-encoded}
@@ -84,3 +84,27 @@ by-characters s w =
       only = λ cs p e. encode-once cs (d .0) p (d .1) (e ∙ sym (d .2));
       tokens = ap tokenize (sym (d .2)) ∙ encoded-tokens (d .0);
     }
+
+abbrev pub WholeCharacters : Token → Type 0
+WholeCharacters t = WellFormed (t .text)
+
+scalars-take : (n : ℕ) (cs : List ℕ) → Scalars cs → Scalars (take n cs)
+scalars-take zero cs p = tt
+scalars-take (suc n) [] p = tt
+scalars-take (suc n) (c ∷ cs) p = (p .0, scalars-take n cs (p .1))
+
+-- every token is whole characters, of those that are left behind k
+whole : (k : ℕ) (cs : List ℕ) → Scalars cs → Every WholeCharacters (map encoded (char-tokens k cs))
+unfolding char-tokens
+whole k [] p = tt
+whole zero (c ∷ r) p =
+    let m = char-next c r .more in
+    (encoded-well-formed (c ∷ take m r) (p .0, scalars-take m r (p .1)), whole m r (p .1))
+whole (suc k) (c ∷ r) p = whole k r (p .1)
+
+-- every token of a well-formed source is a well-formed text
+pub every-whole : (s : List ℕ) → WellFormed s → Every WholeCharacters (tokenize s)
+unfolding char-tokenize
+every-whole s w =
+    let b = by-characters s w in
+    rw (b .tokens) (whole 0 (b .characters) (b .scalars))

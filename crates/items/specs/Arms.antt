@@ -5,8 +5,9 @@
 use mathlib.Core.Path.{_≡_, refl}
 use mathlib.Core.Bool.{Bool, cond, _||_}
 use mathlib.Core.List.{List, [], _∷_}
+use lib.Dec.{ltb}
 use Rattle.lexer.specs.Syntax.{DocComment, At}
-use Rattle.grammar.specs.Words.{Sym, is, ADV-MAP, BEGIN, CONST, ENUM, MOD, NAMESPACE, PROC, TYPE}
+use Rattle.grammar.specs.Words.{Sym, MARK, is, ADV-MAP, BEGIN, CONST, ENUM, MOD, NAMESPACE, PROC, PUB, TYPE}
 use Rattle.grammar.specs.Look.{regular-trivia, at-kind, at-keyword, at-regular-trivia}
 use Rattle.grammar.specs.Run.{Res, P}
 use Rattle.grammar.specs.declared.message.Message.{Message}
@@ -58,17 +59,27 @@ item-is block r =
     (if-arm h (at-declaration (TYPE ∷ ENUM ∷ [])) _ _ r refl
     (if-arm h (at-keyword ADV-MAP) _ _ r refl refl))))))))
 
--- the arms behind the first three, by the token k here and the token d that says which declaration starts here
-unfoldable pub declared-arm : Sym → Sym → ItemArm
-declared-arm k d =
+-- the declaration that a keyword starts, alone or behind `pub`
+unfoldable pub declaration-arm : Sym → ItemArm
+declaration-arm d =
     cond (is MOD d) ItemArm.Submodule
-    (cond (is At k || is PROC d) ItemArm.Procedure
-    (cond (is BEGIN k) ItemArm.Begin
+    (cond (is PROC d) ItemArm.Procedure
     (cond (is CONST d) ItemArm.Constant
     (cond (is TYPE d || is ENUM d) ItemArm.Type
-    (cond (is ADV-MAP k) ItemArm.AdviceMap
-    ItemArm.Bad)))))
+    ItemArm.Bad)))
 
--- all arms
+-- at a word that is not `pub`
+unfoldable pub word-arm : Sym → ItemArm
+word-arm k =
+    cond (is NAMESPACE k) ItemArm.Namespace
+    (cond (is BEGIN k) ItemArm.Begin
+    (cond (is ADV-MAP k) ItemArm.AdviceMap
+    (declaration-arm k)))
+
+-- at a token that is no word
+unfoldable pub plain-arm : Sym → ItemArm
+plain-arm k = cond (is DocComment k) ItemArm.Doc (cond (regular-trivia k) ItemArm.Trivia (cond (is At k) ItemArm.Procedure ItemArm.Bad))
+
+-- by the token k here, and the token d that says which declaration starts here
 unfoldable pub arm-by : Sym → Sym → ItemArm
-arm-by k d = cond (is DocComment k) ItemArm.Doc (cond (regular-trivia k) ItemArm.Trivia (cond (is NAMESPACE k) ItemArm.Namespace (declared-arm k d)))
+arm-by k d = cond (ltb k MARK) (plain-arm k) (cond (is PUB k) (declaration-arm d) (word-arm k))

@@ -3,9 +3,11 @@ use grammar::words::ADV_MAP;
 use grammar::words::BEGIN;
 use grammar::words::CONST;
 use grammar::words::ENUM;
+use grammar::words::MARK;
 use grammar::words::MOD;
 use grammar::words::NAMESPACE_WORD;
 use grammar::words::PROC;
+use grammar::words::PUB;
 use grammar::words::TYPE;
 use lexer::syntax::AT;
 use lexer::syntax::DOC_COMMENT;
@@ -15,7 +17,7 @@ use parser::look::declared;
 ghost use mathlib.Core.Path.{_≡_};
 ghost use Prim.Native.Nat.{_≤_};
 ghost use lib.ListN.{length, drop};
-ghost use Rattle.items.specs.Arms.{item-arm, declared-arm as declaredArm};
+ghost use Rattle.items.specs.Arms.{item-arm, declaration-arm as declarationArm, word-arm as wordArm, plain-arm as plainArm};
 
 // The arms of parse_source_item.
 pub enum ItemArm {
@@ -31,21 +33,15 @@ pub enum ItemArm {
     Bad,
 }
 
-// The arms behind the first three, by the token and by the declaration that it starts.
-fn declared_arm(k: u16, d: u16) -> ItemArm
-    ensures { λ r. ⌜ r ≡ declaredArm k d ⌝ }
+// The declaration that a keyword starts, alone or behind `pub`.
+fn declaration_arm(d: u16) -> ItemArm
+    ensures { λ r. ⌜ r ≡ declarationArm d ⌝ }
 {
     if MOD == d {
         return ItemArm::Submodule;
     }
-    if AT == k {
-        return ItemArm::Procedure;
-    }
     if PROC == d {
         return ItemArm::Procedure;
-    }
-    if BEGIN == k {
-        return ItemArm::Begin;
     }
     if CONST == d {
         return ItemArm::Constant;
@@ -56,25 +52,51 @@ fn declared_arm(k: u16, d: u16) -> ItemArm
     if ENUM == d {
         return ItemArm::Type;
     }
-    if ADV_MAP == k {
-        return ItemArm::AdviceMap;
-    }
     ItemArm::Bad
 }
 
-// The tests of parse_source_item, in its order.
-pub fn item_arm_here(kinds: &[u16], p: usize) -> ItemArm
-    ensures { λ r. ⌜ r ≡ item-arm (drop p (now (kinds .entry))) ⌝ }
+// At a word that is not `pub`.
+fn word_arm(k: u16) -> ItemArm
+    ensures { λ r. ⌜ r ≡ wordArm k ⌝ }
 {
-    let k = current(kinds, p);
+    if NAMESPACE_WORD == k {
+        return ItemArm::Namespace;
+    }
+    if BEGIN == k {
+        return ItemArm::Begin;
+    }
+    if ADV_MAP == k {
+        return ItemArm::AdviceMap;
+    }
+    declaration_arm(k)
+}
+
+// At a token that is no word.
+fn plain_arm(k: u16) -> ItemArm
+    ensures { λ r. ⌜ r ≡ plainArm k ⌝ }
+{
     if DOC_COMMENT == k {
         return ItemArm::Doc;
     }
     if is_regular_trivia(k) {
         return ItemArm::Trivia;
     }
-    if NAMESPACE_WORD == k {
-        return ItemArm::Namespace;
+    if AT == k {
+        return ItemArm::Procedure;
     }
-    declared_arm(k, declared(kinds, p))
+    ItemArm::Bad
+}
+
+// The tests of parse_source_item; few are left once it is known whether the token is a word.
+pub fn item_arm_here(kinds: &[u16], p: usize) -> ItemArm
+    ensures { λ r. ⌜ r ≡ item-arm (drop p (now (kinds .entry))) ⌝ }
+{
+    let k = current(kinds, p);
+    if k < MARK {
+        return plain_arm(k);
+    }
+    if PUB == k {
+        return declaration_arm(declared(kinds, p));
+    }
+    word_arm(k)
 }
