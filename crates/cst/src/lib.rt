@@ -32,6 +32,7 @@ fn parse_utf8(
     let read = marks::mark_source(source, kinds, ends);
     let t = read.count;
     let refusal = read.refusal;
+    let n = least(least(kinds.len(), ends.len()), t);
     let answer = rows::parse_from_row_3(
         source,
         t,
@@ -43,7 +44,6 @@ fn parse_utf8(
         starts,
         stops,
     );
-    let n = least(least(kinds.len(), ends.len()), t);
     marks::unmark(&mut kinds[..n]);
     answer
 }

@@ -51,10 +51,10 @@ fn write_reading(
         (now (events .entry)) (now (messages .entry)) (now (starts .entry)) (now (stops .entry))
         r (now (events .exit)) (now (messages .exit)) (now (starts .exit)) (now (stops .exit)) ⌝ }
 {
+    let anchor = utf8::last_char(source);
     let c = items::file::parse(kinds, events, messages, starts);
     let e = c.events;
     let d = c.diags;
-    let anchor = utf8::last_char(source);
     places::places(ends, anchor, d, starts, stops);
     Counts {
         events: e,

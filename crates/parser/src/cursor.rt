@@ -75,13 +75,13 @@ pub fn error_here(dm: &mut [u16], ds: &mut [u32], c: Cursor, m: Message) -> Curs
 fn event_of(k: u16) -> u16
     ensures { λ r. ⌜ r ≡ kind k ⌝ }
 {
-    if MARK <= k {
-        return IDENT;
-    }
     if k < WHITESPACE {
         return ERROR_TOKEN;
     }
-    k
+    if k < MARK {
+        return k;
+    }
+    IDENT
 }
 
 // bump at a token that is not Error, and whose event is v.

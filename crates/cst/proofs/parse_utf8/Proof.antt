@@ -26,48 +26,50 @@ module _ (source kinds ends ev dm ds de : List ℕ) (t : ℕ) (kinds₁ ends₁ 
       rw (plain, sym (lex .ends-are)) (ap (with-kinds _) l ∙ other-kinds source ends₁ ev dm ds de kinds₁ _ same)
 
 -- places
-abbrev after-least2 : tie.After-unmark-arg → tie.After-least2
-after-least2 c = c .before
-
-abbrev after-parse-from-row-3 : tie.After-least → tie.After-parse-from-row-3
+abbrev after-parse-from-row-3 : tie.After-unmark-arg → tie.After-parse-from-row-3
 after-parse-from-row-3 c = c .before .before .before .before .before .before .before .before .before
 
-abbrev after-mark-source : tie.After-parse-from-row-3-arg6 → tie.After-mark-source
-after-mark-source c = c .before .before .before .before .before .before .before .before .before .before
+abbrev after-least2 : tie.After-parse-from-row-3-arg6 → tie.After-least2
+after-least2 c = c .before .before .before .before .before .before
+
+abbrev after-mark-source : tie.After-least → tie.After-mark-source
+after-mark-source c = c .before .before .before .before .before
 
 abbrev start : tie.After-mark-source → tie.Start
 start c = c .before .before .before .before .before .before .before .before .before .before
 
 parse-from-row-3-requires : tie.Need-parse-from-row-3-requires
 parse-from-row-3-requires c κs =
-    let c₁ = after-mark-source c in
+    let c₁ = after-mark-source (after-least2 c .before) in
     let pre = start c₁ .pre in
     let k = c₁ .mark-source .ensures in
     (pre .0, pre .1, k .refusal-is, marked-tokens _ _ _ _ _ _ (k .fit))
 
 unmark-part : tie.Need-slice-aggregate-unmark
-unmark-part c = sym (length-take-le _ _ (omega (arith, c .before .least2 .ensures, c .before .before .least .ensures)))
+unmark-part c =
+    let c₁ = after-least2 (after-parse-from-row-3 c .before) in
+    sym (length-take-le _ _ (omega (arith, c₁ .least2 .ensures, c₁ .before .least .ensures)))
 
 returns : tie.Need-returns
 returns c =
     let c₁ = c .before .before in
-    let c₂ = after-least2 (c₁ .before) in
-    let c₃ = c₂ .before in
-    let c₄ = after-parse-from-row-3 c₃ in
-    let c₅ = after-mark-source (c₄ .before) in
+    let c₂ = after-parse-from-row-3 (c₁ .before) in
+    let c₃ = after-least2 (c₂ .before) in
+    let c₄ = c₃ .before in
+    let c₅ = after-mark-source c₄ in
     let a = start c₅ .args in
     let k = c₅ .mark-source .ensures in
     unmarked (a .source .now) (a .kinds .now) (a .ends .now) (a .events .now) (a .messages .now) (a .starts .now) (a .stops .now) _ _ _ (k .fit)
-    (c₂ .least2 .result) (omega (arith, c₂ .least2 .ensures, c₃ .least .ensures, c₅ .mark-source .kept)) (c₁ .unmark .ensures) (c₄ .parse-from-row-3 .ensures)
+    (c₃ .least2 .result) (omega (arith, c₃ .least2 .ensures, c₄ .least .ensures, c₅ .mark-source .kept)) (c₁ .unmark .ensures) (c₂ .parse-from-row-3 .ensures)
 
 pub parse-utf8-spec : {M : Type 1} → statement M
 parse-utf8-spec =
     tie.close
     (tie.spec
     (λ c κs. search needs)
+    (λ c κs. search needs)
+    (λ c κs. search needs)
     parse-from-row-3-requires
-    (λ c κs. search needs)
-    (λ c κs. search needs)
     (λ c. search needs)
     unmark-part
     (λ c κs. search needs)
