@@ -15,7 +15,7 @@ read: target/read
 C_FLAGS := -std=c11 -O2 -Wall -Wextra -Iinclude
 archive := target/staticlib/libcst.a
 
-target/fold: $(wildcard examples/fold/*.[ch] include/*.h) $(archive)
+target/fold: $(wildcard examples/fold/* include/*.h) $(archive)
 	$(CC) $(C_FLAGS) $(filter %.c,$^) $(archive) -o $@
 
 target/read: examples/read.c $(wildcard include/*.h) $(archive)
