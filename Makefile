@@ -54,7 +54,8 @@ large:
 
 # The exported call over the corpus, and from C, and fold. Needs gcc and valgrind.
 calls: $(archive)
-	cd tests && cargo run --offline --release --bin differ calls
+	cd tests && cargo build --offline --release
+	tests/target/release/differ calls
 	tests/c/run
 	tests/fold/run
 
