@@ -1,0 +1,80 @@
+/* A program to start from: prints the items of a script with their lines, or else its diagnostics.
+   Exit status: 0 without diagnostics, 1 with some, 2 where it is refused, 3 where it is not read. */
+#include <stdio.h>
+#include <stdlib.h>
+
+#include "masm_messages.h"
+#include "masm_names.h"
+
+#define N MASM_MAX_SOURCE
+#define SLICE(array) array, sizeof array / sizeof *array
+
+static struct reading {
+    uint8_t source[N + 1]; /* one byte more than is allowed, so that a longer file is seen */
+    uint16_t kinds[MASM_TOKEN_ROOM(N)], events[MASM_EVENT_ROOM(N)];
+    uint32_t token_ends[MASM_TOKEN_ROOM(N)], starts[MASM_DIAGNOSTIC_ROOM(N)];
+    uint32_t ends[MASM_DIAGNOSTIC_ROOM(N)];
+    uint16_t messages[MASM_DIAGNOSTIC_ROOM(N)];
+    uint64_t counts[MASM_COUNTS];
+} *r;
+
+/* Each offset is at least the one before, in items and in diagnostics: the lines are counted once. */
+static size_t line_of(size_t offset)
+{
+    static size_t at = 0, line = 1;
+    for (; at < offset; at++)
+        line += r->source[at] == '\n';
+    return line;
+}
+
+/* The items are the nodes directly under the root. */
+static void print_items(void)
+{
+    size_t open = 0, token = 0;
+    for (size_t i = 0; i < r->counts[1]; i++) {
+        uint16_t event = r->events[i];
+        size_t offset = token == 0 ? 0 : r->token_ends[token - 1];
+        if (event >= MASM_WHITESPACE)
+            token++;
+        else if (event == MASM_CLOSE && --open == 1)
+            printf(" to %zu\n", line_of(offset - 1));
+        else if (event != MASM_CLOSE && open++ == 1)
+            printf("%s, lines %zu", masm_kind_name(event), line_of(offset));
+    }
+}
+
+/* A token is text of the script: it is never printed as it is. */
+static void print_diagnostics(void)
+{
+    for (size_t i = 0; i < r->counts[2]; i++) {
+        char token[41];
+        size_t length = r->ends[i] - r->starts[i];
+        printf("line %zu: %s", line_of(r->starts[i]), masm_message(r->messages[i]));
+        if (r->messages[i] == MASM_UNRECOGNIZED) {
+            size_t shown = masm_escape(r->source + r->starts[i], length, token, sizeof token);
+            printf(" `%s`%s", token, shown < length ? " and more" : "");
+        }
+        putchar('\n');
+    }
+}
+
+int main(int count, char **words)
+{
+    FILE *file = count == 2 ? fopen(words[1], "rb") : NULL;
+    r = calloc(1, sizeof *r);
+    size_t length = file != NULL && r != NULL ? fread(r->source, 1, sizeof r->source, file) : 0;
+    if (file == NULL || r == NULL || ferror(file)) {
+        fputs("read: no FILE that can be read\n", stderr);
+        return 3;
+    }
+    uint64_t status = masm_parse_text(r->source, length, SLICE(r->kinds), SLICE(r->token_ends),
+                                      SLICE(r->events), SLICE(r->messages), SLICE(r->starts),
+                                      SLICE(r->ends), SLICE(r->counts));
+    puts(masm_status_text(status));
+    int result = status != MASM_ACCEPTED ? 2 : r->counts[2] > 0;
+    if (result == 0)
+        print_items();
+    else if (result == 1)
+        print_diagnostics();
+    return fflush(stdout) == 0 && !ferror(stdout) ? result : 3;
+}
