@@ -60,17 +60,23 @@ static void print_diagnostics(void)
 
 int main(int count, char **words)
 {
-    FILE *file = count == 2 ? fopen(words[1], "rb") : NULL;
-    r = calloc(1, sizeof *r);
-    size_t length = file != NULL && r != NULL ? fread(r->source, 1, sizeof r->source, file) : 0;
-    if (file == NULL || r == NULL || ferror(file)) {
-        fputs("read: no FILE that can be read\n", stderr);
+    if (count != 2) {
+        fputs("usage: read FILE\n", stderr);
+        return 3;
+    }
+    FILE *file = fopen(words[1], "rb");
+    r = file == NULL ? NULL : calloc(1, sizeof *r);
+    size_t length = r == NULL ? 0 : fread(r->source, 1, sizeof r->source, file);
+    if (r == NULL || ferror(file)) {
+        perror("read");
         return 3;
     }
     uint64_t status = masm_parse_text(r->source, length, SLICE(r->kinds), SLICE(r->token_ends),
                                       SLICE(r->events), SLICE(r->messages), SLICE(r->starts),
                                       SLICE(r->ends), SLICE(r->counts));
     puts(masm_status_text(status));
+    if (status == MASM_NOT_UTF8 || status == MASM_UNWANTED)
+        printf("line %zu\n", line_of(r->counts[0]));
     int result = status != MASM_ACCEPTED ? 2 : r->counts[2] > 0;
     if (result == 0)
         print_items();

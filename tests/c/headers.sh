@@ -17,8 +17,9 @@ if command -v g++ >/dev/null; then
 else
     echo "no g++: the headers are not tried in C++"
 fi
-nm "$archive" 2>/dev/null | awk '$(NF - 1) == "U" { print $NF }' | sort -u >"$out/wanted"
-nm "$archive" 2>/dev/null | awk 'NF == 3 { print $3 }' | sort -u | comm -13 - "$out/wanted" >"$out/needed"
+nm -g --defined-only "$archive" | awk 'NF == 3 { print $3 }' | sort -u >"$out/defined"
+nm -u "$archive" | awk 'NF == 2 { print $2 }' | sort -u | comm -23 - "$out/defined" >"$out/needed"
+[ "$(cat "$out/defined" "$out/needed")" = $'masm_parse_text\nmemset' ] || stop "masm_cst.h tells wrong what the archive needs"
 
 echo "== names"
 build print_names tests/c/print_names.c -- -O2

@@ -1,5 +1,15 @@
 #include "sizing.h"
 
+/* A count that the call gave, as a room; 0 where it is more than suffices for any source. */
+static size_t room_from(const struct call *call, size_t index, size_t most)
+{
+    uint64_t count = count_of(call, index);
+    if (count <= most)
+        return count;
+    fail("sizing: more than suffices");
+    return 0;
+}
+
 /* Makes the call with these rooms and sets those that it says are too short; its status. */
 static uint64_t size_by_call(enum lending how, const uint8_t *source, size_t length,
                              struct rooms *rooms)
@@ -7,10 +17,11 @@ static uint64_t size_by_call(enum lending how, const uint8_t *source, size_t len
     struct call call = make_call(how, source, length, *rooms);
     size_t *room = rooms->length;
     if (call.status == MASM_TOKEN_SHORT)
-        room[TOKEN_KINDS] = room[TOKEN_ENDS] = count_of(&call, 0);
+        room[TOKEN_KINDS] = room[TOKEN_ENDS] = room_from(&call, 0, MASM_TOKEN_ROOM(length));
     if (call.status == MASM_OUTPUT_SHORT) {
-        room[EVENTS] = count_of(&call, 1);
-        room[MESSAGES] = room[STARTS] = room[ENDS] = count_of(&call, 2);
+        room[EVENTS] = room_from(&call, 1, MASM_EVENT_ROOM(length));
+        room[MESSAGES] = room[STARTS] = room[ENDS] =
+            room_from(&call, 2, MASM_DIAGNOSTIC_ROOM(length));
     }
     uint64_t status = call.status;
     end_call(&call);
