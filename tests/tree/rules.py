@@ -1,4 +1,5 @@
-"""The rules of docs/TREE.md over many sources: under which node each stands, what it holds and in which order, which can be empty.
+"""The rules of docs/TREE.md over many sources: under which node each stands, what it holds and in which order, which can be empty,
+and where diagnostics stand.
 
 The sources are an empty one, the paper's examples, those of docs/MESSAGES.md, the example scripts, and scripts made of WORDS at random from a seed.
 """
@@ -112,6 +113,21 @@ def node_faults(node):
     yield from block_faults(node)
 
 
+def diagnostic_faults(source, printed):
+    """Starts never fall; a line is 1 plus the LF before the start, a column 1 plus the bytes since the last LF."""
+    last = 0
+    for line in printed:
+        if not line.startswith("! "):
+            continue
+        row, column, start = map(int, line.split(" ")[1:4])
+        before = source[:start]
+        if start < last:
+            yield f"a diagnostic at {start} behind one at {last}"
+        if (row, column) != (1 + before.count(b"\n"), start - before.rfind(b"\n")):
+            yield f"line {row} and column {column} for {start}"
+        last = start
+
+
 def told(text):
     """The pairs of a node and what it stands under, by the paper's table."""
     table = text.split("## Under which node stands what")[1].split("\n## ")[0]
@@ -125,6 +141,7 @@ def check(text):
     for source in sources(text):
         printed = paper.read(paper.PROGRAM, source)
         count += printed is not None
+        faults.update(f"{fault} in {source!r}" for fault in diagnostic_faults(source, printed or []))
         for node in nodes(source, printed or []):
             faults.update(f"{fault} in {source!r}" for fault in node_faults(node))
             if node.parent:
