@@ -1,5 +1,5 @@
 /* A program to start from: prints the items of a script with their lines, or else its diagnostics.
-   Exit status: 0 without diagnostics, 1 with some, 2 where it is refused, 3 where it is not read. */
+   Exit status: 0 without diagnostics, 1 with some, 2 if it is refused, 3 if it is not read. */
 #include <stdio.h>
 #include <stdlib.h>
 
@@ -18,7 +18,7 @@ static struct reading {
     uint64_t counts[MASM_COUNTS];
 } *r;
 
-/* Each offset is at least the one before, in items and in diagnostics: the lines are counted once. */
+/* Offsets of items, and of diagnostics, never fall, so that the lines are counted once. */
 static size_t line_of(size_t offset)
 {
     static size_t at = 0, line = 1;

@@ -26,9 +26,9 @@ extern "C" {
 /* The stack that a call takes, in bytes: measured (tests/c/stack_test.c), not proved. */
 #define MASM_STACK 81920u
 
-/* Lengths of slices that suffice for every source of up to n bytes. None is 0, so that memory for
-   an empty source is memory too. n is evaluated once. Above MASM_MAX_SOURCE a source is refused,
-   whatever the rooms. */
+/* Lengths of slices that suffice for every source of up to n bytes. None is 0, so that for an empty
+   source too malloc, or a vector's data(), gives a pointer that is not null. n is evaluated once.
+   Above MASM_MAX_SOURCE a source is refused, whatever the rooms. */
 #define MASM_SOURCE_ROOM(n) (MASM_SIZE(n) + 1)
 #define MASM_TOKEN_ROOM(n) (MASM_SIZE(n) + 1)
 #define MASM_EVENT_ROOM(n) (7 * MASM_SIZE(n) + 2)

@@ -14,7 +14,8 @@
 #define MASM_UNRECOGNIZED 50u
 
 /* The text of a number from 1 to MASM_MESSAGES; of any other an empty one. It is printable ASCII
-   and holds nothing of the script: the token of MASM_UNRECOGNIZED is the caller's to add, escaped. */
+   with nothing of the script in it: the token of MASM_UNRECOGNIZED is the caller's to add, by
+   masm_escape. */
 static inline const char *masm_message(uint16_t number)
 {
     static const char *const texts[MASM_MESSAGES + 1] = {

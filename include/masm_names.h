@@ -1,4 +1,4 @@
-/* The names of the kinds, which are those of the Rust's syntax.rs, and the texts of the statuses. */
+/* The names of the kinds, which are those of the Rust's syntax.rs, and the texts of statuses. */
 #ifndef MASM_NAMES_H
 #define MASM_NAMES_H
 

@@ -51,8 +51,8 @@ static bool reads(const char *text, uint64_t tokens, uint64_t events, uint64_t d
 
 int main()
 {
-    bool passed = reads("", 0, 2, 0) && reads("begin add end\n", 6, 14, 0) && reads("begin", 1, 7, 1)
-        && std::strcmp(masm_kind_name(MASM_BLOCK), "Block") == 0
+    bool passed = reads("", 0, 2, 0) && reads("begin add end\n", 6, 14, 0)
+        && reads("begin", 1, 7, 1) && std::strcmp(masm_kind_name(MASM_BLOCK), "Block") == 0
         && std::strcmp(masm_message(22), "unexpected top-level token") == 0;
     std::printf("vector_test: %s\n", passed ? "passed" : "failed");
     return passed ? 0 : 1;
