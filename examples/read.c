@@ -8,13 +8,13 @@
 
 #define N MASM_MAX_SOURCE
 #define SLICE(array) array, sizeof array / sizeof *array
+enum { TOKENS = MASM_TOKEN_ROOM(N), EVENTS = MASM_EVENT_ROOM(N) };
+enum { DIAGNOSTICS = MASM_DIAGNOSTIC_ROOM(N) };
 
-static struct reading {
+static struct {
     uint8_t source[N + 1]; /* one byte more than is allowed, so that a longer file is seen */
-    uint16_t kinds[MASM_TOKEN_ROOM(N)], events[MASM_EVENT_ROOM(N)];
-    uint32_t token_ends[MASM_TOKEN_ROOM(N)], starts[MASM_DIAGNOSTIC_ROOM(N)];
-    uint32_t ends[MASM_DIAGNOSTIC_ROOM(N)];
-    uint16_t messages[MASM_DIAGNOSTIC_ROOM(N)];
+    uint16_t kinds[TOKENS], events[EVENTS], messages[DIAGNOSTICS];
+    uint32_t token_ends[TOKENS], starts[DIAGNOSTICS], ends[DIAGNOSTICS];
     uint64_t counts[MASM_COUNTS];
 } *r;
 
@@ -32,30 +32,27 @@ static void print_items(void)
 {
     size_t open = 0, token = 0;
     for (size_t i = 0; i < r->counts[1]; i++) {
-        uint16_t event = r->events[i];
         size_t offset = token == 0 ? 0 : r->token_ends[token - 1];
-        if (event >= MASM_WHITESPACE)
+        if (r->events[i] >= MASM_WHITESPACE)
             token++;
-        else if (event == MASM_CLOSE && --open == 1)
+        else if (r->events[i] == MASM_CLOSE && --open == 1)
             printf(" to %zu\n", line_of(offset - 1));
-        else if (event != MASM_CLOSE && open++ == 1)
-            printf("%s, lines %zu", masm_kind_name(event), line_of(offset));
+        else if (r->events[i] != MASM_CLOSE && open++ == 1)
+            printf("%s, lines %zu", masm_kind_name(r->events[i]), line_of(offset));
     }
 }
 
 /* A token is text of the script: it is never printed as it is. */
-static void print_diagnostics(void)
+static void print_diagnostic(size_t i)
 {
-    for (size_t i = 0; i < r->counts[2]; i++) {
-        char token[41];
-        size_t length = r->ends[i] - r->starts[i];
-        printf("line %zu: %s", line_of(r->starts[i]), masm_message(r->messages[i]));
-        if (r->messages[i] == MASM_UNRECOGNIZED) {
-            size_t shown = masm_escape(r->source + r->starts[i], length, token, sizeof token);
-            printf(" `%s`%s", token, shown < length ? " and more" : "");
-        }
-        putchar('\n');
+    char token[41];
+    size_t length = r->ends[i] - r->starts[i];
+    printf("line %zu: %s", line_of(r->starts[i]), masm_message(r->messages[i]));
+    if (r->messages[i] == MASM_UNRECOGNIZED) {
+        size_t shown = masm_escape(r->source + r->starts[i], length, token, sizeof token);
+        printf(" `%s`%s", token, shown < length ? " and more" : "");
     }
+    putchar('\n');
 }
 
 int main(int count, char **words)
@@ -77,10 +74,11 @@ int main(int count, char **words)
     puts(masm_status_text(status));
     if (status == MASM_NOT_UTF8 || status == MASM_UNWANTED)
         printf("line %zu\n", line_of(r->counts[0]));
-    int result = status != MASM_ACCEPTED ? 2 : r->counts[2] > 0;
-    if (result == 0)
+    size_t diagnostics = status == MASM_ACCEPTED ? r->counts[2] : 0;
+    if (status == MASM_ACCEPTED && diagnostics == 0)
         print_items();
-    else if (result == 1)
-        print_diagnostics();
+    for (size_t i = 0; i < diagnostics; i++)
+        print_diagnostic(i);
+    int result = status != MASM_ACCEPTED ? 2 : diagnostics > 0;
     return fflush(stdout) == 0 && !ferror(stdout) ? result : 3;
 }
