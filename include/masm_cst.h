@@ -1,4 +1,14 @@
-/* The reader of Miden Assembly scripts: one call, no heap, nothing kept after it. */
+/* The reader of Miden Assembly scripts: one call, no heap, nothing kept after it.
+
+   No diagnostic does not mean a valid script. The reader finds items, blocks and instructions by
+   their shape, to fold them; it checks no instruction, name, type or number of operands. After
+   `const FEE = 10 * (2 + 3` all the rest of a file is the constant's, with no diagnostic.
+
+   `rt staticlib cst` writes the archive to link, target/staticlib/libcst.a. It has this call and no
+   other name, and needs nothing but `memset`.
+
+   masm_names.h names kinds and statuses, masm_messages.h has the texts of the diagnostics, and
+   docs/TREE.md says what stands under each node. examples/read.c is a program to start from. */
 #ifndef MASM_CST_H
 #define MASM_CST_H
 
@@ -16,11 +26,20 @@ extern "C" {
 /* The stack that a call takes, in bytes: measured (tests/c/stack_test.c), not proved. */
 #define MASM_STACK 81920u
 
-/* Lengths of slices that suffice for every source of n bytes. */
-#define MASM_TOKEN_ROOM(n) ((size_t)(n))
-#define MASM_EVENT_ROOM(n) ((size_t)7 * (n) + 2)
-#define MASM_DIAGNOSTIC_ROOM(n) ((size_t)2 * (n))
+/* Lengths of slices that suffice for every source of up to n bytes. None is 0, so that for an empty
+   source too malloc, or a vector's data(), gives a pointer that is not null. n is evaluated once.
+   Above MASM_MAX_SOURCE a source is refused, whatever the rooms. */
+#define MASM_SOURCE_ROOM(n) (MASM_SIZE(n) + 1)
+#define MASM_TOKEN_ROOM(n) (MASM_SIZE(n) + 1)
+#define MASM_EVENT_ROOM(n) (7 * MASM_SIZE(n) + 2)
+#define MASM_DIAGNOSTIC_ROOM(n) (2 * MASM_SIZE(n) + 1)
 #define MASM_COUNTS 3
+
+#ifdef __cplusplus
+#define MASM_SIZE(n) static_cast<size_t>(n)
+#else
+#define MASM_SIZE(n) ((size_t)(n))
+#endif
 
 /* What the call returns: what is then in counts[0], [1] and [2], when, and what is written to the
    other slices. All else is as it was before. Checked in the order 6, 1, 2, 3, 4, 5. */
@@ -111,14 +130,25 @@ enum masm_kind {
    events: the tree from its root, a MASM_SOURCE_FILE; the tokens in it are all tokens in order.
    messages, starts, ends: a diagnostic's number (masm_messages.h) and its bytes, from start to
    before end; at the end of the file start is the last character's offset, and end equals it. The
-   room for diagnostics is the shortest length.
+   room for diagnostics is the shortest length. Starts never fall: no diagnostic starts before the
+   one before it. Its line is 1 plus the LF bytes before start, its column 1 plus the bytes since
+   the last LF.
 
-   The caller keeps: no pointer is null, for an empty slice too, and each is aligned for its type;
-   no slice that is written overlaps another or the source; during the call nobody else writes to
-   any of them, and nobody else reads those that are written: meanwhile token_kinds holds kinds with
-   marks on them and starts holds token indices. Then nothing outside the slices is read or written
-   but the stack. Any number of threads may call at once, with slices of their own; they may share a
-   source. */
+   Slices can also be sized by calls. On `begin add end` and LF, each call reading it anew:
+
+       room for tokens, events, diagnostics    returned    counts
+             0             0         0         3           6  0  0
+             6             0         0         5           6 14  0
+             6            14         0         0           6 14  0
+
+   An empty source has no token, so that its first call returns 5, with 0, 2 and 0.
+
+   The caller keeps: no pointer is null, for an empty slice or source too, and each is aligned for
+   its type; no slice that is written overlaps another or the source; during the call nobody else
+   writes to any of them, and nobody else reads those that are written: meanwhile token_kinds holds
+   kinds with marks on them and starts holds token indices. Then nothing outside the slices is read
+   or written but the stack. Any number of threads may call at once, with slices of their own; they
+   may share a source. */
 uint64_t masm_parse_text(const uint8_t *source, size_t source_len,
                          uint16_t *token_kinds, size_t token_kinds_len,
                          uint32_t *token_ends, size_t token_ends_len,

@@ -2,14 +2,20 @@
 #ifndef MASM_MESSAGES_H
 #define MASM_MESSAGES_H
 
+#include <stddef.h>
 #include <stdint.h>
+#include <string.h>
 
 #define MASM_MESSAGES 53u
 
-/* After this text stands the diagnostic's token between backticks. */
+/* After this text stands a space and the diagnostic's token between backticks. The token is bytes
+   of the script, chosen by whoever wrote it: controls of a terminal, characters that turn the
+   direction of writing, a megabyte in one line. Show it by masm_escape. */
 #define MASM_UNRECOGNIZED 50u
 
-/* The text of a number from 1 to MASM_MESSAGES; of any other an empty one. */
+/* The text of a number from 1 to MASM_MESSAGES; of any other an empty one. It is printable ASCII
+   with nothing of the script in it: the token of MASM_UNRECOGNIZED is the caller's to add, by
+   masm_escape. */
 static inline const char *masm_message(uint16_t number)
 {
     static const char *const texts[MASM_MESSAGES + 1] = {
@@ -69,6 +75,32 @@ static inline const char *masm_message(uint16_t number)
         "unexpected closing delimiter `}`"
     };
     return number <= MASM_MESSAGES ? texts[number] : "";
+}
+
+/* Writes bytes of the script as printable ASCII: a backslash, a backtick and all bytes outside
+   space to `~` as \xNN, with two capital digits, the others as themselves. Writes a NUL behind them
+   and takes only as many bytes as fit with it in `room`: 4 for each and 1 more are always enough.
+   With room 0 nothing is written. Returns how many bytes were taken. */
+static inline size_t masm_escape(const uint8_t *bytes, size_t count, char *text, size_t room)
+{
+    static const char digits[] = "0123456789ABCDEF";
+    size_t taken = 0, written = 0;
+    for (; taken < count; taken++) {
+        unsigned byte = bytes[taken];
+        int plain = byte >= ' ' && byte <= '~' && byte != '\\' && byte != '`';
+        const char code[4] = { '\\', 'x', digits[byte >> 4], digits[byte & 15] };
+        size_t width = plain ? 1 : sizeof code;
+        if (room - written <= width)
+            break;
+        if (plain)
+            memcpy(text + written, bytes + taken, width);
+        else
+            memcpy(text + written, code, width);
+        written += width;
+    }
+    if (room > 0)
+        text[written] = '\0';
+    return taken;
 }
 
 #endif

@@ -10,6 +10,7 @@
 #include "join.h"
 #include "long_cases.h"
 #include "rooms.h"
+#include "sizing.h"
 
 static const char *const LENDING_NAMES[LENDINGS] = { "exact", "words", "end", "start" };
 
@@ -37,12 +38,20 @@ static void check_joins(enum lending how)
         fail("join: the premise on `)` is not needed");
 }
 
+static void check_sizes_by_call(enum lending how)
+{
+    case_name = "sizing";
+    for (size_t i = 0; i < CASE_COUNT; i++)
+        check_sizing(how, (const uint8_t *)CASES[i].source, CASES[i].length, &CASES[i].full);
+}
+
 static void check_all(enum lending how)
 {
     for (size_t i = 0; i < CASE_COUNT; i++) {
         case_name = CASES[i].name;
         check_rooms(how, (const uint8_t *)CASES[i].source, CASES[i].length, &CASES[i].full);
     }
+    check_sizes_by_call(how);
     check_nested(how, 256);
     check_nested(how, 257);
     check_sizes(how);

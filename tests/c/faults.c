@@ -69,5 +69,7 @@ uint64_t faulty_call(struct call *c)
         read_behind(&c->source);
     if (strcmp(fault, "join") == 0 && strcmp(case_name, "demand 3") == 0)
         spoil_slice(c, "starts-first");
+    if (strcmp(fault, "sizing") == 0 && strcmp(case_name, "sizing") == 0)
+        spoil_slice(c, "counts-first");
     return status;
 }
