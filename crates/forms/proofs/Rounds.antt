@@ -2,6 +2,7 @@
 use mathlib.Core.Bool.{Bool, true, false, false≢true, cond, not, _&&_, _||_}
 use mathlib.Core.List.{List, [], _∷_}
 use mathlib.Core.Path.{_≡_, refl, sym, ap, ap₂, _∙_}
+use borrow.Author.Tests.{ne-eqb}
 use Rattle.lexer.specs.Syntax.{Whitespace, Newline, Comment, DocComment}
 use Rattle.grammar.specs.Words.{Sym, is, ELSE}
 use Rattle.grammar.specs.Look.{oneOf, is-trivia, current, at, skip, past, at-kind, space-before-top-level-item, is-top-level-starter, at-top-level-form-starter-in-block, at-terminator, at-block-recovery-boundary}
@@ -27,6 +28,11 @@ line-kinds (s ∷ r) = refl
 pub line-end-is : {x : Bool} {k : Sym} (r : List Sym) → x ≡ bit 0x70000000 k → k ≡ current r → x ≡ at (oneOf (Newline ∷ Comment ∷ DocComment ∷ [])) r
 unfolding oneOf
 line-end-is {k} r e c = at-by (oneOf (Newline ∷ Comment ∷ DocComment ∷ [])) r refl (e ∙ bits-are 0x70000000 (Newline ∷ Comment ∷ DocComment ∷ []) k tt tt) c
+
+-- behind the test for Whitespace, the same is asked by `is-trivia`
+pub trivia-end-is : {x : Bool} {k : Sym} (r : List Sym) → x ≡ is-trivia k → k ≡ current r → (k ≡ Whitespace → ⊥) → x ≡ at (oneOf (Newline ∷ Comment ∷ DocComment ∷ [])) r
+unfolding oneOf
+trivia-end-is {k} r e c n = at-by (oneOf (Newline ∷ Comment ∷ DocComment ∷ [])) r refl (e ∙ rw (ne-eqb Whitespace k (λ q. n (sym q))) refl) c
 
 -- a test that is made in parts
 module _ {A : Type 0} (x y : A) where

@@ -128,7 +128,7 @@ fn at_instruction_end(kinds: &[u16], p: usize, previous: Significant, nesting: N
     if k == WHITESPACE {
         return !should_continue_instruction_after_whitespace(kinds, p, previous, nesting);
     }
-    if in_set(LINE_END, k) {
+    if is_trivia(k) {
         return nesting.is_root();
     }
     if is_some(previous) {

@@ -3,7 +3,7 @@ use mathlib.Core.Bool.{not}
 use mathlib.Core.Path.{refl, sym, ap, _∙_}
 use Rattle.forms.specs.Instruction.{instruction-ends}
 use Rattle.lexer.specs.Syntax.{Whitespace}
-use Rattle.forms.proofs.Rounds.{line-end-is, not-doc}
+use Rattle.forms.proofs.Rounds.{trivia-end-is, not-doc}
 use Rattle.parser.proofs.Ahead.{at-here, at-not}
 use Rattle.forms.proofs.instruction.at_instruction_end.Statement.{statement}
 use Rattle.forms.proofs.instruction.at_instruction_end.Tie as tie
@@ -21,14 +21,14 @@ unfolding instruction-ends
 returns-2 c =
     let c₁ = c .before .before .before in
     let c₂ = c₁ .before in
-    let e = line-end-is _ (c .before .before .in-set .ensures) (c₂ .current .ensures) in
+    let e = trivia-end-is _ (c .before .before .is-trivia .ensures) (c₂ .current .ensures) (c₁ .if1 .left) in
     rw (at-not Whitespace _ refl (c₂ .current .ensures) (c₁ .if1 .left), sym e ∙ c .before .if2 .taken) (c .is-root .ensures)
 
 should-stop-instruction-before-requires : tie.Need-should-stop-instruction-before-requires
 should-stop-instruction-before-requires c κs =
     let c₁ = c .before .before .before in
     let c₂ = c₁ .before .before in
-    let e = line-end-is _ (c₁ .in-set .ensures) (c₂ .current .ensures) in
+    let e = trivia-end-is _ (c₁ .is-trivia .ensures) (c₂ .current .ensures) (c₁ .before .if1 .left) in
     not-doc _ (sym e ∙ c .before .before .if2 .left)
 
 returns-3 : tie.Need-returns-3
@@ -38,7 +38,7 @@ returns-3 c =
     let c₂ = c₁ .before in
     let c₃ = c₂ .before in
     let c₄ = c₃ .before in
-    let e = line-end-is _ (c₂ .in-set .ensures) (c₄ .current .ensures) in
+    let e = trivia-end-is _ (c₂ .is-trivia .ensures) (c₄ .current .ensures) (c₃ .if1 .left) in
     rw (at-not Whitespace _ refl (c₄ .current .ensures) (c₃ .if1 .left), sym e ∙ c₁ .if2 .left, sym (c .before .before .is-some .ensures) ∙ c .before .if3 .taken)
     (c .should-stop-instruction-before .ensures)
 
@@ -48,7 +48,7 @@ returns-4 c =
     let c₁ = c .before .before .before in
     let c₂ = c₁ .before in
     let c₃ = c₂ .before in
-    let e = line-end-is _ (c₁ .in-set .ensures) (c₃ .current .ensures) in
+    let e = trivia-end-is _ (c₁ .is-trivia .ensures) (c₃ .current .ensures) (c₂ .if1 .left) in
     rw (at-not Whitespace _ refl (c₃ .current .ensures) (c₂ .if1 .left), sym e ∙ c .before .before .if2 .left, sym (c .before .is-some .ensures) ∙ c .if3 .left)
 
 pub at-instruction-end-spec : {M : Type 1} → statement M
