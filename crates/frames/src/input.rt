@@ -1,30 +1,37 @@
-// The whole of standard input, as far as a buffer has room, or that it can't be read.
+// Standard input as far as a buffer has room, and whether a read failed.
 use libc::STDIN_FILENO;
-ghost use mathlib.Core.Path.{_≡_};
-ghost use lib.ListN.{length};
-ghost use Rattle.frames.specs.Input.{Within};
+ghost use Rattle.io.specs.Counts.{Counts};
 
-pub enum Input {
-    Bytes(usize),
-    Unread,
+pub struct Input {
+    pub got: usize,
+    pub failed: bool,
 }
 
-// Reads until the buffer is full or the input ends: so many bytes; or until a read fails.
+// Reads until the buffer is full, the input ends or a read fails.
 pub fn read_input(buf: &mut [u8]) -> Input
-    ensures { λ r. ⌜ Within r (now (buf .exit)) ⌝ }
+    ensures { λ r. ⌜ Counts (r .got) (now (buf .exit)) ⌝ }
 {
     let mut done = 0;
     while done < buf.len() {
         let rest = &mut buf[done..];
-        let got = libc::read(STDIN_FILENO, rest);
-        if got < 0 {
-            return Input::Unread;
+        let more = libc::read(STDIN_FILENO, rest);
+        if more < 0 {
+            return Input {
+                got: done,
+                failed: true,
+            };
         }
-        let n = io::count(got, rest);
+        let n = io::count(more, rest);
         if n == 0 {
-            return Input::Bytes(done);
+            return Input {
+                got: done,
+                failed: false,
+            };
         }
         done += n;
     }
-    Input::Bytes(done)
+    Input {
+        got: done,
+        failed: false,
+    }
 }
