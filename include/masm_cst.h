@@ -131,8 +131,8 @@ enum masm_kind {
    messages, starts, ends: a diagnostic's number (masm_messages.h) and its bytes, from start to
    before end; at the end of the file start is the last character's offset, and end equals it. The
    room for diagnostics is the shortest length. Starts never fall: no diagnostic starts before the
-   one before it. Its line is 1 plus the LF bytes before start, its column 1 plus the bytes since
-   the last LF.
+   one before it (proved: starts-in-order, docs/PROOFS.md). Its line is 1 plus the LF bytes before
+   start, its column 1 plus the bytes since the last LF.
 
    Slices can also be sized by calls. On `begin add end` and LF, each call reading it anew:
 
