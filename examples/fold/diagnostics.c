@@ -1,70 +1,124 @@
-/* Diagnostics with their places and the marked text. */
-#include <stdio.h>
+/* Diagnostics and refusals, with their places and the marked text. */
+#include <string.h>
 
 #include "fold.h"
 #include "masm_messages.h"
 
-/* Bytes of a line that are shown before and behind the start of the marked text. */
-enum { BEFORE = 60, BEHIND = 100 };
+enum { MOST_SHOWN = 100 };
 
-static void put_times(char mark, size_t times)
+/* A part of a line, as much as fits in a row. */
+struct part {
+    size_t from, to;
+};
+
+/* The columns that bytes take: at most, or in most terminals. */
+static size_t columns_of(const struct reading *r, size_t from, size_t to, bool usual)
 {
-    while (times-- > 0)
-        putchar(mark);
+    size_t columns = 0;
+    struct unit unit;
+    for (; from < to; from += unit.taken) {
+        unit = next_unit(r->source + from, to - from);
+        columns += usual ? unit.usual : unit.columns;
+    }
+    return columns;
 }
 
-/* The line around `start`, cut where it is long, and carets below the text up to `end`. */
-void show_place(const struct reading *r, size_t start, size_t end)
+/* Where the shown part of a line starts: so that what comes before `start` takes half a row. */
+static size_t part_start(const struct reading *r, size_t start, size_t line_start)
+{
+    size_t half = text_width() / 2;
+    size_t from = start - line_start > half ? start - half : line_start;
+    while (from < start && (r->source[from] & 0xC0) == 0x80)
+        from++;
+    size_t columns = columns_of(r, from, start, false);
+    while (columns > half) {
+        struct unit unit = next_unit(r->source + from, start - from);
+        columns -= unit.columns;
+        from += unit.taken;
+    }
+    return from;
+}
+
+static struct part part_around(const struct reading *r, size_t start)
 {
     size_t line = line_of(r, start);
-    size_t from = r->line_starts[line - 1], to = line_end(r, line);
-    bool cut = start - from > BEFORE;
-    if (cut)
-        from = start - BEFORE;
-    if (to > start && to - start > BEHIND)
-        to = start + BEHIND;
-    printf("%7zu | %s", line, cut ? "..." : "");
-    put_bytes(r->source + from, to - from);
-    fputs(to < line_end(r, line) ? "...\n" : "\n", stdout);
-    size_t marked = end < to ? end : to;
-    size_t carets = marked > start ? width_of(r->source + start, marked - start) : 0;
-    printf("%7s | %s", "", cut ? "   " : "");
-    put_times(' ', width_of(r->source + from, start - from));
-    put_times('^', carets > 0 ? carets : 1);
+    size_t line_start = r->line_starts[line - 1];
+    size_t end = text_end(r, line_start, line_end(r, line));
+    struct part part = { part_start(r, start, line_start), 0 };
+    size_t columns = 0;
+    for (part.to = part.from; part.to < end;) {
+        struct unit unit = next_unit(r->source + part.to, end - part.to);
+        columns += unit.columns;
+        if (columns > text_width())
+            break;
+        part.to += unit.taken;
+    }
+    return part;
+}
+
+/* The line around `start`, or a part of it, and carets below the text up to `end`. */
+static void show_place(const struct reading *r, size_t start, size_t end)
+{
+    size_t line = line_of(r, start);
+    struct part part = part_around(r, start);
+    bool whole = part.from == r->line_starts[line - 1]
+        && part.to >= text_end(r, part.from, line_end(r, line));
+    start_row('|', "%7zu    %s", line, whole ? "line" : "part");
+    put_text(r->source + part.from, part.to - part.from);
+    end_row();
+    start_row('>', "");
+    size_t marked = end < part.to ? end : part.to;
+    size_t before = columns_of(r, part.from, start, true);
+    size_t carets = marked > start ? columns_of(r, start, marked, true) : 1;
+    for (size_t i = 0; i < before + carets && i < text_width(); i++)
+        put_words(i < before ? " " : "^");
+    end_row();
+}
+
+/* A row with the place and the words, then the marked text. */
+static void show_report(const struct reading *r, size_t start, size_t end, const char *label,
+                        const char *words)
+{
+    size_t line = line_of(r, start);
+    start_row('>', "%7zu !  %s", line, label);
+    put_words("column %zu", column_of(r, start));
     if (end > start && line_of(r, end - 1) > line)
-        printf(" to line %zu", line_of(r, end - 1));
-    putchar('\n');
-}
-
-/* Every start is below the length, or 0. */
-void count_reports(struct reading *r)
-{
-    r->reports = need(r->length + 2, sizeof *r->reports);
-    for (size_t i = 0; i < r->counts[2]; i++)
-        r->reports[r->starts[i] + 1]++;
-    for (size_t i = 1; i < r->length + 2; i++)
-        r->reports[i] += r->reports[i - 1];
-}
-
-/* Whether a diagnostic starts at one of these bytes. */
-bool reported(const struct reading *r, size_t start, size_t end)
-{
-    return r->reports[end] > r->reports[start];
+        put_words(" to line %zu", line_of(r, end - 1));
+    put_words(": %s", words);
+    end_row();
+    show_place(r, start, end);
 }
 
 void show_diagnostics(const struct reading *r)
 {
-    for (size_t i = 0; i < r->counts[2]; i++) {
-        size_t start = r->starts[i], end = r->ends[i];
-        put_name(r->name);
-        printf(":%zu:%zu: %s", line_of(r, start), column_of(r, start),
-               masm_message(r->messages[i]));
-        if (r->messages[i] == MASM_UNRECOGNIZED) {
-            fputs(" `", stdout);
-            put_bytes(r->source + start, end - start);
-            putchar('`');
-        }
-        putchar('\n');
-        show_place(r, start, end);
+    size_t shown = r->diagnostics < MOST_SHOWN ? r->diagnostics : MOST_SHOWN;
+    for (size_t i = 0; i < shown; i++)
+        show_report(r, r->starts[i], r->ends[i], "diagnostic", masm_message(r->messages[i]));
+    if (shown == r->diagnostics)
+        return;
+    start_row('>', "");
+    put_words("%zu more diagnostics are not shown", r->diagnostics - shown);
+    end_row();
+}
+
+void show_refusal(const struct reading *r, uint64_t status)
+{
+    static const char LABEL[] = "refused";
+    size_t offset = r->counts[0], end = offset;
+    start_row('|', "   line    item");
+    put_text((const uint8_t *)r->name, strlen(r->name));
+    end_row();
+    if (status == MASM_NOT_UTF8) {
+        show_report(r, offset, end, LABEL, "from this byte on it is not UTF-8");
+    } else if (status == MASM_UNWANTED) {
+        end += r->source[offset] == 'u' ? strlen("use") : strlen("extern");
+        show_report(r, offset, end, LABEL, "`use` and `extern` are not allowed");
+    } else {
+        start_row('>', "%7s !  %s", "", LABEL);
+        if (status == MASM_TOO_LONG)
+            put_words("it is longer than %u bytes", MASM_MAX_SOURCE);
+        else
+            put_words("no room, status %u", (unsigned)status);
+        end_row();
     }
 }

@@ -1,112 +1,75 @@
-/* Shows a Miden Assembly script folded by items, or unfolded with the depth of its blocks. */
+/* Shows a Miden Assembly script folded by procedures and blocks, or unfolded with their depth. */
+#define _POSIX_C_SOURCE 200809L
+#include <signal.h>
 #include <stdio.h>
 #include <stdlib.h>
 #include <string.h>
 
 #include "fold.h"
 
-enum { CLEAN = 0, DIAGNOSED = 1, REFUSED = 2, FAILED = 3 };
-
-static const char HELP[] =
-    "usage: fold FILE [--open]        FILE is - for standard input\n"
-    "\n"
-    "Shows a script of up to 1048576 bytes with one row for each item: its lines, the depth of\n"
-    "its blocks, and how many lines and comments are folded. `!` marks an item with an error in it\n"
-    "or reported at it. Comments and attributes outside the folds have rows of their own. With\n"
-    "--open all lines are shown; a row with + opens blocks, with - closes some, with * does both.\n"
-    "Then come the diagnostics. Bytes that are not printable ASCII are shown as \\xNN, \\t or \\r,\n"
-    "and a backslash as \\\\.\n"
-    "\n"
-    "Exit status: 0 without diagnostics, 1 with some, 2 if the script is refused, 3 if it could\n"
-    "not be read or shown.\n";
-
-/* Makes the call with rooms that suffice for any source of this length. */
-static uint64_t parse(struct reading *r)
+/* Shows what was read; the exit status. */
+static int show(struct reading *r, const struct options *o)
 {
-    size_t n = r->length > MASM_MAX_SOURCE ? 0 : r->length;
-    size_t tokens = MASM_TOKEN_ROOM(n), events = MASM_EVENT_ROOM(n);
-    size_t diagnostics = MASM_DIAGNOSTIC_ROOM(n);
-    r->token_kinds = need(tokens, sizeof *r->token_kinds);
-    r->token_ends = need(tokens, sizeof *r->token_ends);
-    r->events = need(events, sizeof *r->events);
-    r->messages = need(diagnostics, sizeof *r->messages);
-    r->starts = need(diagnostics, sizeof *r->starts);
-    r->ends = need(diagnostics, sizeof *r->ends);
-    return masm_parse_text(r->source, r->length, r->token_kinds, tokens, r->token_ends, tokens,
-                           r->events, events, r->messages, diagnostics, r->starts, diagnostics,
-                           r->ends, diagnostics, r->counts, MASM_COUNTS);
-}
-
-static void release(struct reading *r)
-{
-    free(r->source);
-    free(r->line_starts);
-    free(r->token_kinds);
-    free(r->token_ends);
-    free(r->events);
-    free(r->messages);
-    free(r->starts);
-    free(r->ends);
-    free(r->reports);
-}
-
-static void put_refusal_at(const struct reading *r, size_t start, size_t end, const char *reason)
-{
-    put_name(r->name);
-    printf(":%zu:%zu: refused: %s\n", line_of(r, start), column_of(r, start), reason);
-    show_place(r, start, end);
-}
-
-static void show_refusal(const struct reading *r, uint64_t status)
-{
-    size_t offset = r->counts[0], end = offset;
-    if (status == MASM_NOT_UTF8) {
-        put_refusal_at(r, offset, end, "from this byte on it is not UTF-8");
-    } else if (status == MASM_UNWANTED) {
-        end += r->source[offset] == 'u' ? strlen("use") : strlen("extern");
-        put_refusal_at(r, offset, end, "`use` and `extern` are not allowed");
-    } else {
-        put_name(r->name);
-        if (status == MASM_TOO_LONG)
-            printf(": refused: it is longer than %u bytes\n", MASM_MAX_SOURCE);
-        else
-            printf(": refused: no room, status %llu\n", (unsigned long long)status);
-    }
-}
-
-static int show(struct reading *r, uint64_t status, bool open)
-{
+    uint64_t status = parse(r);
     if (status != MASM_ACCEPTED) {
         show_refusal(r, status);
         return REFUSED;
     }
-    count_reports(r);
-    if (open)
-        show_open(r);
+    struct survey s = { 0 };
+    make_survey(r, &s);
+    bool found = find_names(r, &s, o);
+    if (found) {
+        mark_reports(r, &s);
+        if (o->open)
+            show_open(r, &s);
+        else
+            show_folded(r, &s, o);
+        show_diagnostics(r);
+    }
+    free(s.facts);
+    free(s.items);
+    if (!found)
+        return FAILED;
+    return r->diagnostics > 0 ? DIAGNOSED : CLEAN;
+}
+
+static int show_file(const struct options *o)
+{
+    struct reading r = { 0 };
+    int error = read_source(&r, o->file);
+    int result = FAILED;
+    if (error == 0)
+        result = show(&r, o);
     else
-        show_folded(r);
-    show_diagnostics(r);
-    return r->counts[2] > 0 ? DIAGNOSED : CLEAN;
+        complain(r.name, strerror(error));
+    release(&r);
+    return result;
+}
+
+static int run(const struct options *o)
+{
+    if (o->help) {
+        fputs(HELP, stdout);
+        return CLEAN;
+    }
+    if (o->ascii)
+        show_ascii_only();
+    size_t width = find_width(o->width);
+    if (width == 0) {
+        complain("standard output", "the terminal has less than 40 columns");
+        return FAILED;
+    }
+    set_width(width);
+    return show_file(o);
 }
 
 int main(int count, char **words)
 {
-    if (count == 2 && strcmp(words[1], "--help") == 0) {
-        fputs(HELP, stdout);
-        return CLEAN;
-    }
-    bool open = count == 3 && strcmp(words[2], "--open") == 0;
-    if (count != 2 && !open) {
-        fputs(HELP, stderr);
-        return FAILED;
-    }
-    struct reading r = { 0 };
-    int result = FAILED;
-    if (read_source(&r, words[1]))
-        result = show(&r, parse(&r), open);
-    else
-        fputs("fold: the file can't be read\n", stderr);
-    release(&r);
-    bool shown = fflush(stdout) == 0 && ferror(stdout) == 0;
-    return shown ? result : FAILED;
+    struct options o = { 0 };
+    /* A reader that goes away is an error like any other. */
+    signal(SIGPIPE, SIG_IGN);
+    set_width(find_width(0) > 0 ? find_width(0) : NARROWEST);
+    int result = read_options(&o, count, words) ? run(&o) : FAILED;
+    free(o.names);
+    return finish_output() ? result : FAILED;
 }

@@ -1,75 +1,77 @@
 /* The unfolded view: every line of the source behind its number and the depth of its blocks. */
-#include <stdio.h>
+#include <string.h>
 
 #include "fold.h"
 
-/* More bars than this are not drawn; the number says the depth. */
-enum { MOST_BARS = 16 };
-
-/* What the events of one row say. */
+/* What the tokens of one row say. */
 struct mark {
     unsigned depth;
-    bool opens, closes;
+    uint8_t flags;
 };
 
-/* Where a row ends: behind LF or a CR without it. Both end a comment, so both must show. */
-static size_t row_end(const struct reading *r, size_t from)
+/* The depth is that of the first token that is no blank, also where the row begins inside it. Blocks
+   open and close at tokens that start in the row. `token` is the first one that ends behind `from`. */
+static struct mark look(const struct reading *r, const struct survey *s, size_t *token, size_t from,
+                        size_t to)
 {
-    for (size_t i = from; i < r->length; i++) {
-        bool before_lf = i + 1 < r->length && r->source[i + 1] == '\n';
-        if (r->source[i] == '\n' || (r->source[i] == '\r' && !before_lf))
-            return i + 1;
-    }
-    return r->length;
-}
-
-/* Takes the events up to the row's end. Its depth is that of its first token that is no blank. */
-static struct mark take_row(const struct reading *r, struct walk *w, size_t to)
-{
-    struct mark mark = { w->blocks, false, false };
+    struct mark mark = { s->facts[*token].depth, 0 };
     bool found = false;
-    while (w->event < r->counts[1] && (token_start(r, w->token) < to || to == r->length)) {
-        unsigned blocks = w->blocks;
-        size_t token = w->token;
-        step(r, w);
-        mark.opens |= w->blocks > blocks;
-        mark.closes |= w->blocks < blocks;
-        if (w->token > token && !found && !is_blank(r->token_kinds[token])) {
-            mark.depth = blocks;
+    for (; *token < r->tokens && token_start(r, *token) < to; ++*token) {
+        const struct fact *fact = &s->facts[*token];
+        mark.flags |= token_start(r, *token) < from ? fact->flags & UNREAD : fact->flags;
+        if (!found && !is_blank(r->token_kinds[*token])) {
+            mark.depth = fact->depth;
             found = true;
         }
+        if (r->token_ends[*token] > to)
+            break;
     }
     return mark;
 }
 
 static char sign_of(struct mark mark)
 {
-    if (mark.opens)
-        return mark.closes ? '*' : '+';
-    return mark.closes ? '-' : ' ';
+    if ((mark.flags & OPENS) != 0)
+        return (mark.flags & CLOSES) != 0 ? '*' : '+';
+    return (mark.flags & CLOSES) != 0 ? '-' : ' ';
 }
 
 static void put_row(const struct reading *r, size_t from, size_t to, struct mark mark)
 {
+    const char *unread = (mark.flags & UNREAD) != 0 ? "unread" : "";
     size_t line = line_of(r, from);
     if (r->line_starts[line - 1] == from)
-        printf("%7zu", line);
+        start_row('|', "%7zu %3u %c %s", line, mark.depth, sign_of(mark), unread);
     else
-        printf("%7s", "");
-    printf(" %3u %c | ", mark.depth, sign_of(mark));
-    for (unsigned bar = 0; bar < mark.depth && bar < MOST_BARS; bar++)
-        fputs(": ", stdout);
-    size_t text = to > from && r->source[to - 1] == '\n' ? to - 1 : to;
-    put_bytes(r->source + from, text - from);
-    putchar('\n');
+        start_row('|', "%7s %3u %c %s", "", mark.depth, sign_of(mark), unread);
+    put_text(r->source + from, text_end(r, from, to) - from);
+    end_row();
 }
 
-void show_open(const struct reading *r)
+/* What is doubtful about the items that start before `to`, and where reading ended. */
+static void show_notes(const struct reading *r, struct survey *s, size_t *next, size_t from,
+                       size_t to)
 {
-    struct walk w = { 0 };
-    printf("%7s %5s |\n", "line", "depth");
+    for (; *next < s->item_count && token_start(r, s->items[*next].token) < to; ++*next)
+        show_doubts(r, s, &s->items[*next]);
+    size_t limit = token_start(r, s->limit);
+    if (s->limit < r->tokens && limit >= from && limit < to)
+        show_limit(r, s);
+}
+
+void show_open(const struct reading *r, struct survey *s)
+{
+    size_t token = 0, next = 0;
+    start_row('|', "   line dep");
+    put_text((const uint8_t *)r->name, strlen(r->name));
+    end_row();
     for (size_t from = 0, to; from < r->length; from = to) {
-        to = row_end(r, from);
-        put_row(r, from, to, take_row(r, &w, to));
+        to = break_behind(r, from, r->length);
+        show_notes(r, s, &next, from, to);
+        put_row(r, from, to, look(r, s, &token, from, to));
     }
+    bool ended = r->length == 0 || r->source[r->length - 1] == '\n';
+    start_row('>', "");
+    put_words("lines: %zu; diagnostics: %zu", r->lines - ended, r->diagnostics);
+    end_row();
 }
