@@ -40,11 +40,11 @@ def ranges():
         yield first, last, width
 
 
-def main():
-    out = sys.stdout
-    out.write(f"/* Unicode {unicodedata.unidata_version}, written by letters.py */\n")
+def table():
+    yield f"/* Unicode {unicodedata.unidata_version}, written by letters.py */\n"
     for first, last, width in ranges():
-        out.write(f"{{ 0x{first:05X}, 0x{last:05X}, {width} }},\n")
+        yield f"{{ 0x{first:05X}, 0x{last:05X}, {width} }},\n"
 
 
-main()
+if __name__ == "__main__":
+    sys.stdout.writelines(table())

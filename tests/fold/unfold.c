@@ -1,11 +1,12 @@
-/* Reads what `fold FILE --open` printed and writes the source that it shows, byte for byte. A LF
-   is written behind the last row, be there one in the source or not. */
+/* Reads what `fold FILE --open` printed and writes the source that it shows, byte for byte but for
+   the CR of CR LF, which is not shown. A LF is written behind the last row, be there one in the
+   source or not. */
 #include <stdbool.h>
 #include <stdio.h>
 #include <stdlib.h>
 #include <string.h>
 
-enum { BAR = 14, GUTTER = 16, MOST_BARS = 16, LONGEST = 8 << 20 };
+enum { NUMBER = 7, SIGN = 22, TEXT = 24, LONGEST = 8192 };
 
 /* Writes the byte that a piece of text shows; the piece's length. */
 static size_t put_shown(const char *text)
@@ -26,23 +27,27 @@ static size_t put_shown(const char *text)
 
 int main(void)
 {
-    char *row = malloc(LONGEST);
-    if (row == NULL || fgets(row, LONGEST, stdin) == NULL)
-        return 2;
+    char row[LONGEST];
+    char before = '>';
     bool any = false;
-    while (fgets(row, LONGEST, stdin) != NULL && strlen(row) >= GUTTER && row[BAR] == '|') {
-        bool numbered = strspn(row, " ") < 7;
-        unsigned long depth = strtoul(row + 7, NULL, 10);
-        row[strcspn(row, "\n")] = '\0';
-        if (any && numbered)
+    if (fgets(row, sizeof row, stdin) == NULL)
+        return 2;
+    while (fgets(row, sizeof row, stdin) != NULL && strlen(row) >= TEXT) {
+        bool numbered = strspn(row, " ") < NUMBER;
+        char sign = row[SIGN] == ':' ? before : row[SIGN];
+        if (sign == '|' && row[SIGN] == '|' && any && numbered)
             putchar('\n');
-        const char *text = row + GUTTER + 2 * (depth < MOST_BARS ? depth : MOST_BARS);
-        while (*text != '\0')
+        before = sign;
+        if (strncmp(row + TEXT, "lines: ", 7) == 0 && sign == '>')
+            break;
+        if (sign != '|')
+            continue;
+        row[strcspn(row, "\n")] = '\0';
+        for (const char *text = row + TEXT; *text != '\0';)
             text += put_shown(text);
         any = true;
     }
     if (any)
         putchar('\n');
-    free(row);
     return 0;
 }
