@@ -124,6 +124,8 @@ static void put_more(const struct lines *lines)
 
 void show_doubts(const struct reading *r, struct survey *s, const struct item *item)
 {
+    if (item->kind == MASM_ERROR)
+        return; /* marked already */
     struct doubts d = find_doubts(r, s, item);
     if (item->block == NONE && item->kind != MASM_PROCEDURE && is_open(&d))
         show_open_delimiters(r, item, &d);

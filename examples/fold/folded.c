@@ -177,7 +177,7 @@ void show_folded(const struct reading *r, struct survey *s, const struct options
     show_rows(r, s, &totals);
     bool ended = r->length == 0 || r->source[r->length - 1] == '\n';
     start_row('>', "");
-    put_words("lines: %zu, folded: %zu in %zu folds; diagnostics: %zu", r->lines - ended,
-              totals.lines, totals.folds, r->diagnostics);
+    put_words("lines: %zu, folded: %zu in %zu fold%s; diagnostics: %zu", r->lines - ended,
+              totals.lines, totals.folds, totals.folds == 1 ? "" : "s", r->diagnostics);
     end_row();
 }

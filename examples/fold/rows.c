@@ -79,7 +79,7 @@ void put_text(const uint8_t *bytes, size_t length)
     }
 }
 
-/* Words of fold's own, in ASCII. */
+/* Words of fold's own, in ASCII; lines end between words. */
 void put_words(const char *format, ...)
 {
     char words[256];
@@ -87,8 +87,14 @@ void put_words(const char *format, ...)
     va_start(values, format);
     vsnprintf(words, sizeof words, format, values);
     va_end(values);
-    for (size_t i = 0; words[i] != '\0'; i++)
-        add(&words[i], 1, 1);
+    for (const char *word = words; *word != '\0';) {
+        size_t length = strcspn(word, " ");
+        length += word[length] == ' ';
+        if (length > text_width())
+            length = 1;
+        add(word, length, (unsigned)length);
+        word += length;
+    }
 }
 
 void end_row(void)
