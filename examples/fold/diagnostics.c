@@ -23,15 +23,14 @@ static size_t columns_of(const struct reading *r, size_t from, size_t to, bool u
     return columns;
 }
 
-/* Where the shown part of a line starts: so that what comes before `start` takes half a row. */
+/* Where the shown part of a line starts: so that what comes before `start` takes half a row. No
+   character is cut. */
 static size_t part_start(const struct reading *r, size_t start, size_t line_start)
 {
     size_t half = text_width() / 2;
     size_t from = start - line_start > half ? start - half : line_start;
-    while (from < start && (r->source[from] & 0xC0) == 0x80)
-        from++;
     size_t columns = columns_of(r, from, start, false);
-    while (columns > half) {
+    while (from < start && (columns > half || (r->source[from] & 0xC0) == 0x80)) {
         struct unit unit = next_unit(r->source + from, start - from);
         columns -= unit.columns;
         from += unit.taken;
@@ -39,20 +38,29 @@ static size_t part_start(const struct reading *r, size_t start, size_t line_star
     return from;
 }
 
-static struct part part_around(const struct reading *r, size_t start)
+/* As much of a line as fits in a row from `from` on. */
+static struct part part_from(const struct reading *r, size_t from, size_t end)
 {
-    size_t line = line_of(r, start);
-    size_t line_start = r->line_starts[line - 1];
-    size_t end = text_end(r, line_start, line_end(r, line));
-    struct part part = { part_start(r, start, line_start), 0 };
+    struct part part = { from, from };
     size_t columns = 0;
-    for (part.to = part.from; part.to < end;) {
+    while (part.to < end) {
         struct unit unit = next_unit(r->source + part.to, end - part.to);
         columns += unit.columns;
         if (columns > text_width())
             break;
         part.to += unit.taken;
     }
+    return part;
+}
+
+/* The whole line if it fits, else a part of it around `start`. */
+static struct part part_around(const struct reading *r, size_t start)
+{
+    size_t line = line_of(r, start), line_start = r->line_starts[line - 1];
+    size_t end = text_end(r, line_start, line_end(r, line));
+    struct part part = part_from(r, line_start, end);
+    if (part.to < end)
+        part = part_from(r, part_start(r, start, line_start), end);
     return part;
 }
 
@@ -105,9 +113,7 @@ void show_refusal(const struct reading *r, uint64_t status)
 {
     static const char LABEL[] = "refused";
     size_t offset = r->counts[0], end = offset;
-    start_row('|', "   line    item");
-    put_text((const uint8_t *)r->name, strlen(r->name));
-    end_row();
+    show_title("   line    item", r->name);
     if (status == MASM_NOT_UTF8) {
         show_report(r, offset, end, LABEL, "from this byte on it is not UTF-8");
     } else if (status == MASM_UNWANTED) {

@@ -46,6 +46,7 @@ void start_row(char sign, const char *left, ...);
 void put_text(const uint8_t *bytes, size_t length);
 void put_words(const char *format, ...);
 void end_row(void);
+void show_title(const char *left, const char *name);
 void complain(const char *outside, const char *words);
 bool finish_output(void);
 
@@ -67,6 +68,7 @@ struct reading {
     size_t diagnostics;
     uint64_t counts[MASM_COUNTS];
 };
+enum { TOO_DEEP = 49 }; /* the message where blocks lie too deep (docs/MESSAGES.md) */
 void *need(size_t count, size_t size);
 int read_source(struct reading *r, const char *name);
 uint64_t parse(struct reading *r);

@@ -1,7 +1,5 @@
 /* The folded view. A row is a piece of one line that belongs to one item; the blocks of procedures
    and `begin` blocks are folded, everything else is shown whole. */
-#include <string.h>
-
 #include "fold.h"
 
 /* The row under way: nothing yet where `to` is 0. */
@@ -171,9 +169,7 @@ void show_folded(const struct reading *r, struct survey *s, const struct options
 {
     struct totals totals = { 0 };
     fold_items(r, s, o);
-    start_row('|', "   line    item");
-    put_text((const uint8_t *)r->name, strlen(r->name));
-    end_row();
+    show_title("   line    item", r->name);
     show_rows(r, s, &totals);
     bool ended = r->length == 0 || r->source[r->length - 1] == '\n';
     start_row('>', "");

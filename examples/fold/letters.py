@@ -24,7 +24,10 @@ def is_shown(code):
 
 
 def columns(code):
-    return COLUMNS.get(unicodedata.east_asian_width(chr(code)), "NARROW")
+    """Newer versions of Unicode make more symbols wide, and terminals may know them."""
+    letter = chr(code)
+    usual = "EITHER" if unicodedata.category(letter)[0] == "S" else "NARROW"
+    return COLUMNS.get(unicodedata.east_asian_width(letter), usual)
 
 
 def ranges():

@@ -68,7 +68,8 @@ int main(int count, char **words)
     struct options o = { 0 };
     /* A reader that goes away is an error like any other. */
     signal(SIGPIPE, SIG_IGN);
-    set_width(find_width(0) > 0 ? find_width(0) : NARROWEST);
+    size_t width = find_width(0);
+    set_width(width > 0 ? width : NARROWEST);
     int result = read_options(&o, count, words) ? run(&o) : FAILED;
     free(o.names);
     return finish_output() ? result : FAILED;

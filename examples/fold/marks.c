@@ -7,8 +7,7 @@ enum {
     ATTRIBUTE_NAME = 38,
     ATTRIBUTE_END = 39,
     MISPLACED_DOC = 45,
-    UNEXPECTED_IN_BLOCK = 46,
-    TOO_DEEP = 49
+    UNEXPECTED_IN_BLOCK = 46
 };
 
 /* Whether a message speaks of the token at which it stands. All others say what an item lacks. */

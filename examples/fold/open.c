@@ -1,6 +1,4 @@
 /* The unfolded view: every line of the source behind its number and the depth of its blocks. */
-#include <string.h>
-
 #include "fold.h"
 
 /* What the tokens of one row say. */
@@ -62,9 +60,7 @@ static void show_notes(const struct reading *r, struct survey *s, size_t *next, 
 void show_open(const struct reading *r, struct survey *s)
 {
     size_t token = 0, next = 0;
-    start_row('|', "   line dep");
-    put_text((const uint8_t *)r->name, strlen(r->name));
-    end_row();
+    show_title("   line dep", r->name);
     for (size_t from = 0, to; from < r->length; from = to) {
         to = break_behind(r, from, r->length);
         show_notes(r, s, &next, from, to);

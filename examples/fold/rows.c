@@ -18,6 +18,7 @@ static struct {
 
 static const char AGAIN[] = "                      : ";
 static const char COMPLAINT[] = "fold: ", COMPLAINT_AGAIN[] = "    : ";
+_Static_assert(sizeof AGAIN == AROUND + 1, "all rows have a left part of the same width");
 
 void set_width(size_t width)
 {
@@ -100,6 +101,14 @@ void put_words(const char *format, ...)
 void end_row(void)
 {
     end_line();
+}
+
+/* The first row: what stands in the columns, and the name of the file. */
+void show_title(const char *left, const char *name)
+{
+    start_row('|', left);
+    put_text((const uint8_t *)name, strlen(name));
+    end_row();
 }
 
 /* Says on standard error what is wrong with a word or a file. */

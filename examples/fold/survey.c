@@ -46,12 +46,10 @@ static size_t count_items(const struct reading *r)
 
 /* The token from which on nothing was read because blocks lie too deep; else the number of tokens.
    It is where the only diagnostic of this number stands. */
-enum { DEPTH_EXCEEDED = 49 };
-
 static size_t find_limit(const struct reading *r)
 {
     for (size_t i = 0; i < r->diagnostics; i++)
-        if (r->messages[i] == DEPTH_EXCEEDED)
+        if (r->messages[i] == TOO_DEEP)
             return token_at(r, r->starts[i]);
     return r->tokens;
 }
