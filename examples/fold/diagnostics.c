@@ -38,7 +38,7 @@ static size_t part_start(const struct reading *r, size_t start, size_t line_star
     return from;
 }
 
-/* As much of a line as fits in a row from `from` on. */
+/* As much of a line as fits in a row from `from` on, with a column left for a caret behind it. */
 static struct part part_from(const struct reading *r, size_t from, size_t end)
 {
     struct part part = { from, from };
@@ -46,7 +46,7 @@ static struct part part_from(const struct reading *r, size_t from, size_t end)
     while (part.to < end) {
         struct unit unit = next_unit(r->source + part.to, end - part.to);
         columns += unit.columns;
-        if (columns > text_width())
+        if (columns >= text_width())
             break;
         part.to += unit.taken;
     }
@@ -76,9 +76,9 @@ static void show_place(const struct reading *r, size_t start, size_t end)
     end_row();
     start_row('>', "");
     size_t marked = end < part.to ? end : part.to;
-    size_t before = columns_of(r, part.from, start, true);
+    size_t before = columns_of(r, part.from, start < part.to ? start : part.to, true);
     size_t carets = marked > start ? columns_of(r, start, marked, true) : 1;
-    for (size_t i = 0; i < before + carets && i < text_width(); i++)
+    for (size_t i = 0; i < before + carets; i++)
         put_words(i < before ? " " : "^");
     end_row();
 }

@@ -7,8 +7,9 @@ struct mark {
     uint8_t flags;
 };
 
-/* The depth is that of the first token that is no blank, also where the row begins inside it. Blocks
-   open and close at tokens that start in the row. `token` is the first one that ends behind `from`. */
+/* The depth is that of the first token that is no blank, also where the row begins inside it.
+   Blocks open and close at tokens that start in the row. `token` is the first one that ends behind
+   `from`. */
 static struct mark look(const struct reading *r, const struct survey *s, size_t *token, size_t from,
                         size_t to)
 {

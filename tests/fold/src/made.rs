@@ -16,13 +16,20 @@ const PIECES: [&str; 44] = [
 /// A line that is wrapped more than once.
 const LONGEST: usize = 300;
 
+/// One in so many scripts stands behind blocks up to the limit of depth, or beyond it.
+const DEEP: usize = 40;
+
 /// The script of a number; the same for the same seed.
 pub fn script(seed: u64, number: u64) -> (Vec<u8>, Random) {
     let (input, mut random) = case(seed, number);
-    let source = match input {
+    let mut source = match input {
         Input::Source(source) => source,
         Input::Pair(first, second) => [first, second].concat(),
     };
+    if random.one_in(DEEP) {
+        let blocks = random.pick(&["if.true\n", "do ", "repeat.2 # c\n"]).repeat(random.between(254, 258));
+        source = [b"begin\n", blocks.as_bytes(), &source].concat();
+    }
     let source = match random.below(8) {
         0..3 => source,
         3 => ended(&source, |_| "\r\n", &mut random),

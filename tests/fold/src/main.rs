@@ -17,6 +17,9 @@ use view::View;
 
 const USAGE: &str = "usage: fold_check --fold PROGRAM --files N --seed N";
 
+/// After so many files it says how far it is.
+const PROGRESS: u64 = 10_000;
+
 /// How often a script that is shown wrongly is tried again with less.
 const TRIES: usize = 3_000;
 
@@ -40,6 +43,9 @@ fn run(program: PathBuf, files: u64, seed: u64) -> ExitCode {
     let begun = Instant::now();
     let (mut total, mut bytes) = (Seen::default(), 0);
     for number in 0..files {
+        if number > 0 && number.is_multiple_of(PROGRESS) {
+            println!("{number} files, {:.0} s", begun.elapsed().as_secs_f64());
+        }
         let (source, mut random) = made::script(seed, number);
         let view = View::chosen(program.clone(), &source, &mut random);
         bytes += source.len();

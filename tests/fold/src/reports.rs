@@ -79,11 +79,12 @@ fn check_place(
         let to = from + place.text.len();
         let whole = from == line_start && to == line_end;
         let label = if whole { "line" } else { "part" };
-        let marked = columns(start, end.min(to)).max(1).min(page.width - LEFT - 3 - before);
+        let marked = columns(start, end.min(to)).max(1);
         source.get(from..to) == Some(place.text.as_slice())
             && to <= line_end.max(from)
             && (start < to || start >= line_end)
-            && columns(from, start) == before
+            && columns(from, start.min(to)) == before
+            && LEFT + 3 + words.len() <= page.width
             && place.left == format!("{line:7}    {label:10}")
             && words[before..] == "^".repeat(marked)
     };
