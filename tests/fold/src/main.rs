@@ -21,7 +21,7 @@ const USAGE: &str = "usage: fold_check --fold PROGRAM --files N --seed N";
 const PROGRESS: u64 = 10_000;
 
 /// How often a script that is shown wrongly is tried again with less.
-const TRIES: usize = 3_000;
+const TRIES: usize = 1_000;
 
 fn main() -> ExitCode {
     let arguments: Vec<String> = env::args().skip(1).collect();
