@@ -96,7 +96,8 @@ impl Check<'_, '_> {
         if let Some(item) = item.filter(|item| tree.tokens[item.first].start == next) {
             let line = tree.line_of(next);
             let left = format!("{line:7}  ? {:10}", tree.item_label(item));
-            expected.extend(doubts(tree, item).words.into_iter().map(|words| (left.clone(), words)));
+            expected
+                .extend(doubts(tree, item).words.into_iter().map(|words| (left.clone(), words)));
         }
         if token == tree.limit && tree.tokens[token].start == next {
             let words = "from here on nothing was read: blocks lie deeper than 256".to_string();
@@ -165,7 +166,8 @@ impl Check<'_, '_> {
         let label = tree.label(token);
         let behind = tree.token_at(to - 1) + 1;
         let first = if starts_token { token } else { token + 1 };
-        let left = self.left(tree.line_of(next), first..behind.max(first), label == "unread", label);
+        let left =
+            self.left(tree.line_of(next), first..behind.max(first), label == "unread", label);
         self.done = to;
         same(&left, &row.left)
     }
@@ -234,7 +236,9 @@ impl Check<'_, '_> {
             return if breaks { Ok(()) } else { early };
         }
         let spaces = |token: &usize| tree.tokens[*token].kind == Kind::Whitespace as u16;
-        let Some(behind) = (at..tree.tokens.len()).find(|token| !spaces(token)) else { return Ok(()) };
+        let Some(behind) = (at..tree.tokens.len()).find(|token| !spaces(token)) else {
+            return Ok(());
+        };
         if tree.tokens[behind].kind == Kind::Newline as u16 {
             return if tree.text(behind) == b"\r" { early } else { Ok(()) };
         }

@@ -10,8 +10,7 @@ static RANGES: LazyLock<Vec<(u32, u32, usize, usize)>> = LazyLock::new(|| {
 });
 
 fn range(line: &str) -> Option<(u32, u32, usize, usize)> {
-    let fields: Vec<&str> =
-        line.strip_prefix("{ ")?.strip_suffix(" },")?.split(", ").collect();
+    let fields: Vec<&str> = line.strip_prefix("{ ")?.strip_suffix(" },")?.split(", ").collect();
     let [first, last, columns] = fields.as_slice() else { return None };
     let code = |field: &str| u32::from_str_radix(field.strip_prefix("0x")?, 16).ok();
     let (most, usual) = match *columns {

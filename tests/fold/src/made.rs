@@ -5,12 +5,13 @@ use fuzz::{check::Input, generate::case};
 
 /// Quotes over lines, line ends of all sorts, letters, delimiters left open, words that start items.
 const PIECES: [&str; 44] = [
-    "\"a\\\n  b\" ", "\"a\\\nproc b\" ", "\"\\\r\"", "\"x\\\r\n", "\"x\\\r\\\n\\\n", "\"x\\\n", "\"x\\\r\r",
-    "(", "[", "{", ")", "\nproc ", "\n@a ", "\n  pub ", "\nbegin ", "\rconst ", "\r", "\r\n", "\r\r\n",
-    "\n\n", " ", "\t", "    \n", "# é 料金 \u{202E}\u{301} 😀\n", "é", "料金", "\u{A0}", "\u{2800}", "±±", "\u{7F}",
-    "\\", "\u{1B}[2J", "\ntype T = felt\nexec.a\n", "\nconst A = (1\n", "\n@a(\nproc b end\n", "proc\nbegin\n",
-    "\nproc a(\nb: felt\n)\nend\n", "\nbegin add\nend const B = 1 # c\n", "\nproc a add end\n", "end ", "#! d\n",
-    "push.[\n", "if.\n", "@\n# c\n@b proc c end\n",
+    "\"a\\\n  b\" ", "\"a\\\nproc b\" ", "\"\\\r\"", "\"x\\\r\n", "\"x\\\r\\\n\\\n", "\"x\\\n",
+    "\"x\\\r\r", "(", "[", "{", ")", "\nproc ", "\n@a ", "\n  pub ", "\nbegin ", "\rconst ", "\r",
+    "\r\n", "\r\r\n", "\n\n", " ", "\t", "    \n", "# é 料金 \u{202E}\u{301} 😀\n", "é", "料金",
+    "\u{A0}", "\u{2800}", "±±", "\u{7F}", "\\", "\u{1B}[2J", "\ntype T = felt\nexec.a\n",
+    "\nconst A = (1\n", "\n@a(\nproc b end\n", "proc\nbegin\n", "\nproc a(\nb: felt\n)\nend\n",
+    "\nbegin add\nend const B = 1 # c\n", "\nproc a add end\n", "end ", "#! d\n", "push.[\n",
+    "if.\n", "@\n# c\n@b proc c end\n",
 ];
 
 /// A line that is wrapped more than once.
@@ -27,7 +28,8 @@ pub fn script(seed: u64, number: u64) -> (Vec<u8>, Random) {
         Input::Pair(first, second) => [first, second].concat(),
     };
     if random.one_in(DEEP) {
-        let blocks = random.pick(&["if.true\n", "do ", "repeat.2 # c\n"]).repeat(random.between(254, 258));
+        let blocks =
+            random.pick(&["if.true\n", "do ", "repeat.2 # c\n"]).repeat(random.between(254, 258));
         source = [b"begin\n", blocks.as_bytes(), &source].concat();
     }
     let source = match random.below(8) {

@@ -49,7 +49,8 @@ pub fn doubts(tree: &Tree, item: &Item) -> Doubts {
         return Doubts::default();
     }
     let end = item.end.min(tree.limit);
-    let starts: Vec<usize> = (item.first + 1..end).filter(|&token| begins_line(tree, token)).collect();
+    let starts: Vec<usize> =
+        (item.first + 1..end).filter(|&token| begins_line(tree, token)).collect();
     let proper = proper(tree, item);
     let (starters, others): (Vec<usize>, Vec<usize>) = starts
         .into_iter()
@@ -104,15 +105,15 @@ fn proper(tree: &Tree, item: &Item) -> BTreeSet<usize> {
 fn starter(tree: &Tree, token: usize) -> Option<String> {
     let text = tree.text(token);
     let kind = tree.tokens[token].kind;
-    let found = kind == Kind::At as u16
-        || (kind == Kind::Ident as u16 && STARTERS.contains(&text));
+    let found = kind == Kind::At as u16 || (kind == Kind::Ident as u16 && STARTERS.contains(&text));
     found.then(|| String::from_utf8_lossy(text).into_owned())
 }
 
 /// Whether a word goes on behind the end of a type, outside all delimiters.
 fn is_stray(tree: &Tree, item: &Item, token: usize) -> bool {
     let words = Kind::Ident as u16..=Kind::QuotedString as u16;
-    let closers = [Kind::RParen, Kind::RBracket, Kind::RBrace, Kind::RAngle].map(|kind| kind as u16);
+    let closers =
+        [Kind::RParen, Kind::RBracket, Kind::RBrace, Kind::RAngle].map(|kind| kind as u16);
     let body = tree.nodes[tree.tokens[token].node].kind == Kind::TypeBody as u16;
     let before = (item.first..token).rev().find(|&before| tree.is_word(before));
     body && words.contains(&tree.tokens[token].kind)

@@ -48,7 +48,8 @@ fn text<'a>(tree: &'a Tree, from: usize, to: usize) -> &'a [u8] {
 fn left(tree: &Tree, from: usize, to: usize) -> String {
     let touches = |token: usize| tree.tokens[token].start < to;
     let first = tree.token_at(from);
-    let tokens: Vec<usize> = (first..tree.tokens.len()).take_while(|&token| touches(token)).collect();
+    let tokens: Vec<usize> =
+        (first..tree.tokens.len()).take_while(|&token| touches(token)).collect();
     let starting = || tokens.iter().filter(|&&token| tree.tokens[token].start >= from);
     let text = tokens.iter().find(|&&token| !is_blank(tree.tokens[token].kind));
     let depth = tree.tokens[*text.unwrap_or(&first)].depth;

@@ -23,7 +23,9 @@ pub fn check(source: &[u8], diagnostics: &[Diagnostic], rows: &[Row], page: &Pag
     let more = diagnostics.len().saturating_sub(MOST_SHOWN);
     match rest {
         [] if more == 0 => Ok(()),
-        [last] if last.own && last.words() == format!("{more} more diagnostics are not shown") => Ok(()),
+        [last] if last.own && last.words() == format!("{more} more diagnostics are not shown") => {
+            Ok(())
+        },
         _ => Err(format!("behind the diagnostics, with {more} more: {rest:?}")),
     }
 }

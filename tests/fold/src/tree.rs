@@ -55,6 +55,14 @@ pub fn is_comment(kind: u16) -> bool {
     kind == Kind::Comment as u16 || kind == Kind::DocComment as u16
 }
 
+/// The nodes that are open, and whether blocks opened and closed since the last token.
+#[derive(Default)]
+struct Walk {
+    open: Vec<usize>,
+    opens: bool,
+    closes: bool,
+}
+
 /// An event below this number opens or closes a node.
 const FIRST_TOKEN: u16 = Kind::Whitespace as u16;
 
@@ -83,61 +91,66 @@ impl<'a> Tree<'a> {
     }
 
     fn build(&mut self, parsed: &Parsed) {
-        let mut open: Vec<usize> = Vec::new();
-        let (mut opens, mut closes) = (false, false);
+        let mut walk = Walk::default();
         for &event in &parsed.events {
-            let blocks = |tree: &Self, open: &[usize]| {
-                open.iter().filter(|&&node| tree.nodes[node].kind == Kind::Block as u16).count()
-            };
             match event {
-                0 => {
-                    let node = open.pop().expect("an open node");
-                    self.nodes[node].end = self.tokens.len();
-                    closes |= self.nodes[node].kind == Kind::Block as u16;
-                    if open.len() == 1 {
-                        self.items.last_mut().expect("an item").end = self.tokens.len();
-                    }
-                },
-                kind if kind < FIRST_TOKEN => {
-                    let (parent, first) = (open.last().copied().unwrap_or(0), self.tokens.len());
-                    open.push(self.nodes.len());
-                    self.nodes.push(Node { kind, parent, first, end: first });
-                    let node = self.nodes.len() - 1;
-                    if open.len() == 2 {
-                        let (block, depth, head) = (None, 0, None);
-                        self.items.push(Item { node, kind, first, end: first, block, depth, head });
-                    }
-                    if kind == Kind::Block as u16 {
-                        opens = true;
-                        let depth = blocks(self, &open);
-                        let item = self.items.last_mut().expect("an item");
-                        item.depth = item.depth.max(depth);
-                        item.block.get_or_insert(first);
-                    }
-                },
-                _ => {
-                    let token = parsed.tokens[self.tokens.len()];
-                    let in_error =
-                        open.iter().any(|&node| self.nodes[node].kind == Kind::Error as u16);
-                    self.tokens.push(Token {
-                        kind: token.kind,
-                        start: self.tokens.last().map_or(0, |token| token.end),
-                        end: token.end as usize,
-                        node: *open.last().expect("the root"),
-                        item: (open.len() > 1).then(|| self.items.len() - 1),
-                        depth: blocks(self, &open),
-                        unread: in_error || token.kind == Kind::Error as u16,
-                        opens,
-                        closes,
-                    });
-                    (opens, closes) = (false, false);
-                },
+                0 => self.close(&mut walk),
+                kind if kind < FIRST_TOKEN => self.open(kind, &mut walk),
+                _ => self.take(parsed.tokens[self.tokens.len()], &mut walk),
             }
         }
         if let Some(last) = self.tokens.last_mut() {
-            last.opens |= opens;
-            last.closes |= closes;
+            last.opens |= walk.opens;
+            last.closes |= walk.closes;
         }
+    }
+
+    /// How many nodes of a kind are open.
+    fn count(&self, walk: &Walk, kind: Kind) -> usize {
+        walk.open.iter().filter(|&&node| self.nodes[node].kind == kind as u16).count()
+    }
+
+    fn open(&mut self, kind: u16, walk: &mut Walk) {
+        let (node, first) = (self.nodes.len(), self.tokens.len());
+        let parent = walk.open.last().copied().unwrap_or(0);
+        self.nodes.push(Node { kind, parent, first, end: first });
+        walk.open.push(node);
+        if walk.open.len() == 2 {
+            let (block, depth, head) = (None, 0, None);
+            self.items.push(Item { node, kind, first, end: first, block, depth, head });
+        }
+        if kind == Kind::Block as u16 {
+            walk.opens = true;
+            let depth = self.count(walk, Kind::Block);
+            let item = self.items.last_mut().expect("an item");
+            item.depth = item.depth.max(depth);
+            item.block.get_or_insert(first);
+        }
+    }
+
+    fn close(&mut self, walk: &mut Walk) {
+        let node = walk.open.pop().expect("an open node");
+        self.nodes[node].end = self.tokens.len();
+        walk.closes |= self.nodes[node].kind == Kind::Block as u16;
+        if walk.open.len() == 1 {
+            self.items.last_mut().expect("an item").end = self.tokens.len();
+        }
+    }
+
+    fn take(&mut self, token: reference::Token, walk: &mut Walk) {
+        let in_error = self.count(walk, Kind::Error) > 0;
+        self.tokens.push(Token {
+            kind: token.kind,
+            start: self.tokens.last().map_or(0, |token| token.end),
+            end: token.end as usize,
+            node: *walk.open.last().expect("the root"),
+            item: (walk.open.len() > 1).then(|| self.items.len() - 1),
+            depth: self.count(walk, Kind::Block),
+            unread: in_error || token.kind == Kind::Error as u16,
+            opens: walk.opens,
+            closes: walk.closes,
+        });
+        (walk.opens, walk.closes) = (false, false);
     }
 
     pub fn token_at(&self, offset: usize) -> usize {

@@ -74,7 +74,9 @@ impl View {
     pub fn check(&self, source: &[u8]) -> Result<Seen, String> {
         let outcome = self.run(source);
         let reading = reference::reading(source);
-        if let (true, Reading::Parsed(_)) = (self.names.iter().any(|name| name == MISSING), &reading) {
+        if let (true, Reading::Parsed(_)) =
+            (self.names.iter().any(|name| name == MISSING), &reading)
+        {
             return self.check_missing(&outcome);
         }
         if !outcome.errors.is_empty() {
@@ -105,7 +107,8 @@ impl View {
         let expected = format!("fold: {MISSING}: no procedure of this name is in the script\n");
         let said = outcome.errors.replace("\n    : ", "");
         let fits = outcome.errors.lines().all(|line| line.len() <= self.page.width);
-        let right = outcome.status == Some(3) && outcome.output.is_empty() && said == expected && fits;
+        let right =
+            outcome.status == Some(3) && outcome.output.is_empty() && said == expected && fits;
         if right { Ok(Seen::default()) } else { Err("a missing name is not told".to_string()) }
     }
 
@@ -149,12 +152,18 @@ impl View {
             4 if source[offset] == b'u' => ("`use` and `extern` are not allowed", 3),
             4 => ("`use` and `extern` are not allowed", 6),
             _ => {
-                let long = matches!(rows, [row] if row.words() == "it is longer than 1048576 bytes");
+                let long =
+                    matches!(rows, [row] if row.words() == "it is longer than 1048576 bytes");
                 return if long { Ok(()) } else { Err(format!("refused with {status}: {rows:?}")) };
             },
         };
-        let rest =
-            reports::report(source, (offset, offset + length), ("refused", words), rows, &self.page)?;
+        let rest = reports::report(
+            source,
+            (offset, offset + length),
+            ("refused", words),
+            rows,
+            &self.page,
+        )?;
         if rest.is_empty() { Ok(()) } else { Err(format!("behind a refusal: {rest:?}")) }
     }
 }
