@@ -106,7 +106,7 @@ void end_row(void)
 /* The first row: what stands in the columns, and the name of the file. */
 void show_title(const char *left, const char *name)
 {
-    start_row('|', left);
+    start_row('|', "%s", left);
     put_text((const uint8_t *)name, strlen(name));
     end_row();
 }
