@@ -1,0 +1,180 @@
+/* A source, its lines, its tokens, and the call that reads it. */
+#include <errno.h>
+#include <stdio.h>
+#include <stdlib.h>
+#include <string.h>
+
+#include "fold.h"
+
+/* Memory for `count` elements, never null: the call wants a pointer for an empty slice too. */
+void *need(size_t count, size_t size)
+{
+    void *memory = calloc(count > 0 ? count : 1, size);
+    if (memory == NULL) {
+        fputs("fold: no memory\n", stderr);
+        exit(FAILED);
+    }
+    return memory;
+}
+
+static void find_lines(struct reading *r)
+{
+    r->lines = 1;
+    for (size_t i = 0; i < r->length; i++)
+        r->lines += r->source[i] == '\n';
+    r->line_starts = need(r->lines, sizeof *r->line_starts);
+    size_t line = 1;
+    for (size_t i = 0; i < r->length; i++)
+        if (r->source[i] == '\n')
+            r->line_starts[line++] = i + 1;
+}
+
+/* Reads a file, or standard input for `-`: one byte more than a source may have, so that a longer
+   file is refused by the call. The number of the error, or 0. */
+int read_source(struct reading *r, const char *name)
+{
+    bool from_stdin = strcmp(name, "-") == 0;
+    r->name = from_stdin ? "standard input" : name;
+    errno = 0;
+    FILE *file = from_stdin ? stdin : fopen(name, "rb");
+    if (file == NULL)
+        return errno;
+    size_t most = (size_t)MASM_MAX_SOURCE + 1;
+    r->source = need(most, 1);
+    r->length = fread(r->source, 1, most, file);
+    int error = ferror(file) == 0 ? 0 : errno;
+    if (!from_stdin)
+        fclose(file);
+    find_lines(r);
+    return error;
+}
+
+/* Makes the call with rooms that suffice for any source of this length. */
+uint64_t parse(struct reading *r)
+{
+    size_t n = r->length > MASM_MAX_SOURCE ? 0 : r->length;
+    size_t tokens = MASM_TOKEN_ROOM(n), events = MASM_EVENT_ROOM(n);
+    size_t diagnostics = MASM_DIAGNOSTIC_ROOM(n);
+    r->token_kinds = need(tokens, sizeof *r->token_kinds);
+    r->token_ends = need(tokens, sizeof *r->token_ends);
+    r->events = need(events, sizeof *r->events);
+    r->messages = need(diagnostics, sizeof *r->messages);
+    r->starts = need(diagnostics, sizeof *r->starts);
+    r->ends = need(diagnostics, sizeof *r->ends);
+    uint64_t status = masm_parse_text(r->source, r->length, r->token_kinds, tokens,
+                                      r->token_ends, tokens, r->events, events,
+                                      r->messages, diagnostics, r->starts, diagnostics,
+                                      r->ends, diagnostics, r->counts, MASM_COUNTS);
+    if (status == MASM_ACCEPTED) {
+        r->tokens = r->counts[0];
+        r->event_count = r->counts[1];
+        r->diagnostics = r->counts[2];
+    }
+    return status;
+}
+
+void release(struct reading *r)
+{
+    free(r->source);
+    free(r->line_starts);
+    free(r->token_kinds);
+    free(r->token_ends);
+    free(r->events);
+    free(r->messages);
+    free(r->starts);
+    free(r->ends);
+}
+
+/* The line of an offset, counted from 1: the last that starts there or before. */
+size_t line_of(const struct reading *r, size_t offset)
+{
+    size_t low = 0, high = r->lines;
+    while (high - low > 1) {
+        size_t middle = low + (high - low) / 2;
+        if (r->line_starts[middle] <= offset)
+            low = middle;
+        else
+            high = middle;
+    }
+    return low + 1;
+}
+
+/* Bytes, counted from 1. */
+size_t column_of(const struct reading *r, size_t offset)
+{
+    return offset - r->line_starts[line_of(r, offset) - 1] + 1;
+}
+
+/* Where a line's text ends; its LF is not part of it. */
+size_t line_end(const struct reading *r, size_t line)
+{
+    return line < r->lines ? r->line_starts[line] - 1 : r->length;
+}
+
+/* The offset behind the first line break from `from` on, or `end` if there is none before it. A CR
+   without LF ends a row too, though no line: both end a comment, so both must show. */
+size_t break_behind(const struct reading *r, size_t from, size_t end)
+{
+    for (size_t i = from; i < end; i++) {
+        bool before_lf = i + 1 < r->length && r->source[i + 1] == '\n';
+        if (r->source[i] == '\n' || (r->source[i] == '\r' && !before_lf))
+            return i + 1;
+    }
+    return end;
+}
+
+/* Where the text of a row ends that ends at `to`: before LF, and before the CR of CR LF. */
+size_t text_end(const struct reading *r, size_t from, size_t to)
+{
+    if (to > from && r->source[to - 1] == '\n')
+        to--;
+    bool before_lf = to < r->length && r->source[to] == '\n';
+    if (to > from && r->source[to - 1] == '\r' && before_lf)
+        to--;
+    return to;
+}
+
+size_t token_start(const struct reading *r, size_t token)
+{
+    return token == 0 ? 0 : r->token_ends[token - 1];
+}
+
+/* The token with the byte at an offset. */
+size_t token_at(const struct reading *r, size_t offset)
+{
+    size_t low = 0, high = r->tokens;
+    while (low < high) {
+        size_t middle = low + (high - low) / 2;
+        if (r->token_ends[middle] <= offset)
+            low = middle + 1;
+        else
+            high = middle;
+    }
+    return low;
+}
+
+size_t first_line(const struct reading *r, size_t token)
+{
+    return line_of(r, token_start(r, token));
+}
+
+size_t last_line(const struct reading *r, size_t token)
+{
+    return line_of(r, r->token_ends[token] - 1);
+}
+
+bool is_blank(uint16_t kind)
+{
+    return kind == MASM_WHITESPACE || kind == MASM_NEWLINE;
+}
+
+bool is_comment(uint16_t kind)
+{
+    return kind == MASM_COMMENT || kind == MASM_DOC_COMMENT;
+}
+
+bool is_text(const struct reading *r, size_t token, const char *text)
+{
+    size_t start = token_start(r, token), length = r->token_ends[token] - start;
+    return length == strlen(text) && memcmp(r->source + start, text, length) == 0;
+}
