@@ -15,10 +15,14 @@ static uint64_t counts[MASM_COUNTS];
 
 int main(int count, char **words)
 {
-    FILE *file = count == 2 ? fopen(words[1], "rb") : NULL;
+    if (count != 2) {
+        fputs("usage: read FILE\n", stderr);
+        return 3;
+    }
+    FILE *file = fopen(words[1], "rb");
     size_t length = file == NULL ? 0 : fread(source, 1, sizeof source, file);
     if (file == NULL || ferror(file)) {
-        perror("read FILE");
+        perror("read");
         return 3;
     }
     uint64_t status = masm_parse_text(source, length, SLICE(kinds), SLICE(token_ends),
