@@ -31,8 +31,8 @@ const char HELP[] =
     "At most 100 diagnostics are listed.\n"
     "\n"
     "No diagnostic does not mean a valid script: the reader folds, it does not check.\n"
-    "Exit status: 0 without diagnostics, 1 with some, 2 if the script is refused, 3 if\n"
-    "it could not be read or shown or the command line is wrong.\n";
+    "Exit status: 0 without diagnostics, 1 with some, 2 if the script is refused,\n"
+    "3 if it could not be read or shown or the command line is wrong.\n";
 
 static bool take_width(struct options *o, const char *text)
 {
