@@ -23,8 +23,9 @@ struct options {
 bool read_options(struct options *options, int count, char **words);
 extern const char HELP[];
 
-/* width.c: the width of a row, 0 where the terminal is too narrow. */
+/* terminal.c */
 size_t find_width(size_t given);
+bool takes_utf8(void);
 
 /* letters.c: a character as it is shown, or one byte escaped. */
 struct unit {

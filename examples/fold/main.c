@@ -52,7 +52,7 @@ static int run(const struct options *o)
         fputs(HELP, stdout);
         return CLEAN;
     }
-    if (o->ascii)
+    if (o->ascii || !takes_utf8())
         show_ascii_only();
     size_t width = find_width(o->width);
     if (width == 0) {
