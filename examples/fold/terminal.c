@@ -36,7 +36,7 @@ size_t find_width(size_t given)
    be control characters. */
 bool takes_utf8(void)
 {
-    if (!isatty(STDOUT_FILENO))
+    if (!isatty(STDOUT_FILENO) && !isatty(STDERR_FILENO))
         return true;
     setlocale(LC_CTYPE, "");
     return strcmp(nl_langinfo(CODESET), "UTF-8") == 0;

@@ -60,6 +60,8 @@ def main():
     for locale, ascii_only in (("C.UTF-8", False), ("C", True)):
         _, text = in_terminal(80, [fold, letters], locale)
         check(f"letters in locale {locale}", ("gr\u00f6" not in text, text.isascii()), (ascii_only,) * 2)
+        _, text = in_terminal(80, [fold, "gr\u00f6"], locale)
+        check(f"a complaint in locale {locale}", text.isascii(), ascii_only)
     print("terminals: widths, COLUMNS, --width and letters")
 
 
