@@ -77,7 +77,8 @@ void release(struct reading *r);
 size_t line_of(const struct reading *r, size_t offset);
 size_t column_of(const struct reading *r, size_t offset);
 size_t line_end(const struct reading *r, size_t line);
-size_t break_behind(const struct reading *r, size_t from, size_t end);
+bool starts_row(const struct reading *r, size_t offset);
+size_t row_end(const struct reading *r, size_t from, size_t end);
 size_t text_end(const struct reading *r, size_t from, size_t to);
 
 /* tokens.c */

@@ -87,16 +87,24 @@ size_t line_end(const struct reading *r, size_t line)
     return line < r->lines ? r->line_starts[line] - 1 : r->length;
 }
 
-/* The offset behind the first line break from `from` on, or `end` if there is none before it. A CR
-   without LF ends a row too, though no line: both end a comment, so both must show. */
-size_t break_behind(const struct reading *r, size_t from, size_t end)
+/* Whether a row starts at an offset. A CR without LF ends a row too, though no line: both end a
+   comment, so both must show. */
+bool starts_row(const struct reading *r, size_t offset)
 {
-    for (size_t i = from; i < end; i++) {
-        bool before_lf = i + 1 < r->length && r->source[i + 1] == '\n';
-        if (r->source[i] == '\n' || (r->source[i] == '\r' && !before_lf))
-            return i + 1;
-    }
-    return end;
+    if (offset == 0)
+        return true;
+    uint8_t last = r->source[offset - 1];
+    bool before_lf = offset < r->length && r->source[offset] == '\n';
+    return last == '\n' || (last == '\r' && !before_lf);
+}
+
+/* Where the row ends that `from` stands in, or `end` if that comes first. */
+size_t row_end(const struct reading *r, size_t from, size_t end)
+{
+    size_t to = from + 1;
+    while (to < end && !starts_row(r, to))
+        to++;
+    return to < end ? to : end;
 }
 
 /* Where the text of a row ends that ends at `to`: before LF, and before the CR of CR LF. */
