@@ -23,14 +23,15 @@ struct options {
 bool read_options(struct options *options, int count, char **words);
 extern const char HELP[];
 
-/* width.c: the width of a row, 0 where the terminal is too narrow. */
+/* terminal.c */
 size_t find_width(size_t given);
+bool takes_utf8(void);
 
 /* letters.c: a character as it is shown, or one byte escaped. */
 struct unit {
-    size_t taken;    /* bytes of the source */
+    size_t taken; /* bytes of the source */
     char text[5];
-    size_t length;   /* bytes of the text */
+    size_t length;    /* bytes of the text */
     unsigned columns; /* at most, for wrapping */
     unsigned usual;   /* in most terminals, for carets */
 };
@@ -50,7 +51,7 @@ void show_title(const char *left, const char *name);
 void complain(const char *outside, const char *words);
 bool finish_output(void);
 
-/* source.c: a source, where its lines start, and what the call gave of it. A line ends at LF. */
+/* A source, where its lines start, and what the call gave of it. A line ends at LF. */
 struct reading {
     const char *name;
     uint8_t *source;
@@ -68,18 +69,21 @@ struct reading {
     size_t diagnostics;
     uint64_t counts[MASM_COUNTS];
 };
-enum { TOO_DEEP = 49 }; /* the message where blocks lie too deep (docs/MESSAGES.md) */
+
+/* source.c */
 void *need(size_t count, size_t size);
 int read_source(struct reading *r, const char *name);
-uint64_t parse(struct reading *r);
 void release(struct reading *r);
 size_t line_of(const struct reading *r, size_t offset);
 size_t column_of(const struct reading *r, size_t offset);
 size_t line_end(const struct reading *r, size_t line);
-size_t break_behind(const struct reading *r, size_t from, size_t end);
+bool starts_row(const struct reading *r, size_t offset);
+size_t row_end(const struct reading *r, size_t from, size_t end);
 size_t text_end(const struct reading *r, size_t from, size_t to);
 
-/* Tokens. */
+/* tokens.c */
+enum { TOO_DEEP = 49 }; /* the message where blocks lie too deep (docs/MESSAGES.md) */
+uint64_t parse(struct reading *r);
 size_t token_start(const struct reading *r, size_t token);
 size_t token_at(const struct reading *r, size_t offset);
 size_t first_line(const struct reading *r, size_t token);

@@ -68,8 +68,7 @@ static size_t row_start(const struct reading *r, size_t token)
     if (token == 0 || r->token_kinds[token - 1] != MASM_WHITESPACE)
         return start;
     size_t blank = token_start(r, token - 1);
-    bool begins_line = blank == 0 || r->source[blank - 1] == '\n' || r->source[blank - 1] == '\r';
-    return begins_line ? blank : start;
+    return starts_row(r, blank) ? blank : start;
 }
 
 /* A row goes on with tokens of the same item; items that could not be read share rows. */
@@ -91,11 +90,9 @@ static void add_token(const struct reading *r, struct row *row, const struct fac
     }
     row->flags |= flags;
     while (start < end) {
-        row->to = start = break_behind(r, start, end);
-        uint8_t last = r->source[start - 1];
-        bool before_lf = start < r->length && r->source[start] == '\n';
-        if (last != '\n' && (last != '\r' || before_lf))
-            continue;
+        row->to = start = row_end(r, start, end);
+        if (!starts_row(r, start))
+            return;
         end_piece(r, row);
         row->from = start;
         row->flags = fact->label == MASM_ERROR ? REPORTED : 0;

@@ -68,6 +68,8 @@ int main(int count, char **words)
     struct options o = { 0 };
     /* A reader that goes away is an error like any other. */
     signal(SIGPIPE, SIG_IGN);
+    if (!takes_utf8())
+        show_ascii_only();
     size_t width = find_width(0);
     set_width(width > 0 ? width : NARROWEST);
     int result = read_options(&o, count, words) ? run(&o) : FAILED;

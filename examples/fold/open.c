@@ -63,7 +63,7 @@ void show_open(const struct reading *r, struct survey *s)
     size_t token = 0, next = 0;
     show_title("   line dep", r->name);
     for (size_t from = 0, to; from < r->length; from = to) {
-        to = break_behind(r, from, r->length);
+        to = row_end(r, from, r->length);
         show_notes(r, s, &next, from, to);
         put_row(r, from, to, look(r, s, &token, from, to));
     }

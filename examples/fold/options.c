@@ -22,7 +22,8 @@ const char HELP[] =
     "\n"
     "--open     all lines with the depth of their blocks; in a line with + blocks\n"
     "           open, with - some close, with * both\n"
-    "--ascii    escapes every character outside ASCII\n"
+    "--ascii    escapes every character outside ASCII; so it is in a terminal whose\n"
+    "           locale is not UTF-8\n"
     "--width N  columns of a row, 40 to 1000; else the terminal's, COLUMNS, or 80\n"
     "\n"
     "A backslash is shown as \\\\. What is invisible or moves the text beside it\n"
@@ -31,8 +32,8 @@ const char HELP[] =
     "At most 100 diagnostics are listed.\n"
     "\n"
     "No diagnostic does not mean a valid script: the reader folds, it does not check.\n"
-    "Exit status: 0 without diagnostics, 1 with some, 2 if the script is refused, 3 if\n"
-    "it could not be read or shown or the command line is wrong.\n";
+    "Exit status: 0 without diagnostics, 1 with some, 2 if the script is refused,\n"
+    "3 if it could not be read or shown or the command line is wrong.\n";
 
 static bool take_width(struct options *o, const char *text)
 {

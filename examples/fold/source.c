@@ -1,4 +1,4 @@
-/* A source, its lines, its tokens, and the call that reads it. */
+/* A source: read from a file, its lines, and where rows end in it. */
 #include <errno.h>
 #include <stdio.h>
 #include <stdlib.h>
@@ -49,30 +49,6 @@ int read_source(struct reading *r, const char *name)
     return error;
 }
 
-/* Makes the call with rooms that suffice for any source of this length. */
-uint64_t parse(struct reading *r)
-{
-    size_t n = r->length > MASM_MAX_SOURCE ? 0 : r->length;
-    size_t tokens = MASM_TOKEN_ROOM(n), events = MASM_EVENT_ROOM(n);
-    size_t diagnostics = MASM_DIAGNOSTIC_ROOM(n);
-    r->token_kinds = need(tokens, sizeof *r->token_kinds);
-    r->token_ends = need(tokens, sizeof *r->token_ends);
-    r->events = need(events, sizeof *r->events);
-    r->messages = need(diagnostics, sizeof *r->messages);
-    r->starts = need(diagnostics, sizeof *r->starts);
-    r->ends = need(diagnostics, sizeof *r->ends);
-    uint64_t status = masm_parse_text(r->source, r->length, r->token_kinds, tokens,
-                                      r->token_ends, tokens, r->events, events,
-                                      r->messages, diagnostics, r->starts, diagnostics,
-                                      r->ends, diagnostics, r->counts, MASM_COUNTS);
-    if (status == MASM_ACCEPTED) {
-        r->tokens = r->counts[0];
-        r->event_count = r->counts[1];
-        r->diagnostics = r->counts[2];
-    }
-    return status;
-}
-
 void release(struct reading *r)
 {
     free(r->source);
@@ -111,16 +87,24 @@ size_t line_end(const struct reading *r, size_t line)
     return line < r->lines ? r->line_starts[line] - 1 : r->length;
 }
 
-/* The offset behind the first line break from `from` on, or `end` if there is none before it. A CR
-   without LF ends a row too, though no line: both end a comment, so both must show. */
-size_t break_behind(const struct reading *r, size_t from, size_t end)
+/* Whether a row starts at an offset. A CR without LF ends a row too, though no line: both end a
+   comment, so both must show. */
+bool starts_row(const struct reading *r, size_t offset)
 {
-    for (size_t i = from; i < end; i++) {
-        bool before_lf = i + 1 < r->length && r->source[i + 1] == '\n';
-        if (r->source[i] == '\n' || (r->source[i] == '\r' && !before_lf))
-            return i + 1;
-    }
-    return end;
+    if (offset == 0)
+        return true;
+    uint8_t last = r->source[offset - 1];
+    bool before_lf = offset < r->length && r->source[offset] == '\n';
+    return last == '\n' || (last == '\r' && !before_lf);
+}
+
+/* Where the row ends that `from` stands in, or `end` if that comes first. */
+size_t row_end(const struct reading *r, size_t from, size_t end)
+{
+    size_t to = from + 1;
+    while (to < end && !starts_row(r, to))
+        to++;
+    return to < end ? to : end;
 }
 
 /* Where the text of a row ends that ends at `to`: before LF, and before the CR of CR LF. */
@@ -132,49 +116,4 @@ size_t text_end(const struct reading *r, size_t from, size_t to)
     if (to > from && r->source[to - 1] == '\r' && before_lf)
         to--;
     return to;
-}
-
-size_t token_start(const struct reading *r, size_t token)
-{
-    return token == 0 ? 0 : r->token_ends[token - 1];
-}
-
-/* The token with the byte at an offset. */
-size_t token_at(const struct reading *r, size_t offset)
-{
-    size_t low = 0, high = r->tokens;
-    while (low < high) {
-        size_t middle = low + (high - low) / 2;
-        if (r->token_ends[middle] <= offset)
-            low = middle + 1;
-        else
-            high = middle;
-    }
-    return low;
-}
-
-size_t first_line(const struct reading *r, size_t token)
-{
-    return line_of(r, token_start(r, token));
-}
-
-size_t last_line(const struct reading *r, size_t token)
-{
-    return line_of(r, r->token_ends[token] - 1);
-}
-
-bool is_blank(uint16_t kind)
-{
-    return kind == MASM_WHITESPACE || kind == MASM_NEWLINE;
-}
-
-bool is_comment(uint16_t kind)
-{
-    return kind == MASM_COMMENT || kind == MASM_DOC_COMMENT;
-}
-
-bool is_text(const struct reading *r, size_t token, const char *text)
-{
-    size_t start = token_start(r, token), length = r->token_ends[token] - start;
-    return length == strlen(text) && memcmp(r->source + start, text, length) == 0;
 }

@@ -1,6 +1,6 @@
 #!/usr/bin/env python3
 """Runs `fold` on a script with a long line, in terminals of chosen widths: its rows are as wide as the
-terminal, or it refuses."""
+terminal, or it refuses. Letters are shown where the locale is UTF-8 alone."""
 import fcntl
 import os
 import pty
@@ -14,11 +14,12 @@ def stop(reason):
     sys.exit(f"tests/fold: {reason}")
 
 
-def in_terminal(columns, words):
+def in_terminal(columns, words, locale="C.UTF-8"):
     """The exit status and what stands in the terminal."""
     leader, follower = pty.openpty()
     fcntl.ioctl(follower, termios.TIOCSWINSZ, struct.pack("HHHH", 24, columns, 0, 0))
-    done = subprocess.Popen(words, stdin=subprocess.DEVNULL, stdout=follower, stderr=follower)
+    env = {**os.environ, "LC_ALL": locale}
+    done = subprocess.Popen(words, stdin=subprocess.DEVNULL, stdout=follower, stderr=follower, env=env)
     os.close(follower)
     text = b""
     try:
@@ -40,7 +41,7 @@ def check(name, found, expected):
 
 
 def main():
-    fold, script = sys.argv[1:]
+    fold, script, letters = sys.argv[1:]
     long = "long name " * 20
     for columns in (40, 61, 80, 132):
         status, text = in_terminal(columns, [fold, script, "--open"])
@@ -56,7 +57,12 @@ def main():
         env = {**os.environ, "COLUMNS": columns}
         text = subprocess.run([fold, script, "--open"], env=env, capture_output=True, check=True).stdout
         check(f"COLUMNS={columns}", widest(text.decode()), expected)
-    print("widths: terminals, COLUMNS and --width")
+    for locale, ascii_only in (("C.UTF-8", False), ("C", True)):
+        _, text = in_terminal(80, [fold, letters], locale)
+        check(f"letters in locale {locale}", ("gr\u00f6" not in text, text.isascii()), (ascii_only,) * 2)
+        _, text = in_terminal(80, [fold, "gr\u00f6"], locale)
+        check(f"a complaint in locale {locale}", text.isascii(), ascii_only)
+    print("terminals: widths, COLUMNS, --width and letters")
 
 
 main()
