@@ -1,7 +1,7 @@
--- The starts of a source's diagnostics never fall; one at the end of the file starts at the last character, so behind no token's start.
+-- The starts of a source's diagnostics never fall. One at the end of the file starts at the last character, and no token starts behind that.
 -- Assumes nothing.
-use Prim.Native.Nat.{ℕ, _+_, _≤_, _<_}
-use mathlib.Core.Path.{_≡_, sym, ap, _∙_}
+use Prim.Native.Nat.{ℕ, _+_, _<_}
+use mathlib.Core.Path.{_≡_, sym, ap}
 use mathlib.Core.List.{List, [], _∷_, map}
 use native.Mathlib.Omega.{arith}
 use lib.ListN.{length, length-append}

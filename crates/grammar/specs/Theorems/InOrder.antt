@@ -1,7 +1,7 @@
 -- Diagnostics stand in the order of their tokens: none stands at a token before that of the one before it.
 -- Assumes nothing.
 use Prim.Native.Nat.{ℕ, zero, suc, _+_, _≤_}
-use mathlib.Core.Path.{_≡_, refl, sym, _∙_, ap}
+use mathlib.Core.Path.{_≡_, refl}
 use mathlib.Core.Bool.{Bool, true, false}
 use mathlib.Core.List.{List, [], _∷_, _++_, append-assoc, append-nil, map}
 use lib.ListN.{length, length-append}
@@ -10,7 +10,7 @@ use Rattle.lexer.specs.Syntax
 use Rattle.grammar.specs.Words.{Sym, is}
 use Rattle.grammar.specs.Run.{Forest, nil, leaf, node, say, leaves}
 use Rattle.grammar.specs.Item.{parse}
-use Rattle.grammar.specs.Out.{Diag, noted, dg, diags, Place, place, places}
+use Rattle.grammar.specs.Out.{Diag, noted, dg, diags, place, places}
 
 -- numbers of which none is below n, nor below the one before it
 abbrev pub NeverFalling : ℕ → List ℕ → Type 0
