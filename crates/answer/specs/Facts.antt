@@ -95,7 +95,7 @@ facts source s counts c z =
 pub enough_room : (source : List ℕ) (s : Slices) (counts : List ℕ) {r : ℕ} {s' : Slices} {counts' : List ℕ}
     → MasmParseText source s counts r s' counts' → length source ≤ MAX_SOURCE → WellFormed source → Every NotRefused (tokenize source)
     → length source ≤ token_room s → 7 * length source + 2 ≤ length s.events → 2 * length source ≤ diagnostic_room s → 3 ≤ length counts → r ≡ 0
-enough_room source s counts c small well plain token_room event-room diagnostic_room words =
+enough_room source s counts c small well plain token_room event_room diagnostic_room words =
     let f = few_tokens source in
     (reading_of_call source s counts (record {
       words = words;

@@ -1,9 +1,11 @@
 // The answer of a reading, and its four numbers.
+#![tactic(auto)]
+
 ghost use Rattle.std.specs.Prelude.{◌≡◌};
 ghost use Rattle.answer.specs.Numbers.{row, numbers as numbers_of};
 
 // The rows of document 01's table with their values.
-#[derive(Drop)]
+#[derive(Clone, Copy)]
 pub enum Answer {
     TooLong,
     NotUtf8(usize),
@@ -14,7 +16,7 @@ pub enum Answer {
 }
 
 // The status and the three numbers behind it.
-#[derive(Drop)]
+#[derive(Clone, Copy)]
 pub struct FourNumbers {
     pub status: u64,
     pub first: u64,

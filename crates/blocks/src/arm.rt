@@ -14,7 +14,7 @@ use parser::look::{
 use parser::sets::CONTROL_FLOW;
 
 // Tokens are taken, and there is another round.
-#[derive(Drop)]
+#[derive(Clone, Copy)]
 pub enum Taken {
     Trivia,
     Doc,
@@ -23,7 +23,7 @@ pub enum Taken {
 }
 
 // The loop ends.
-#[derive(Drop)]
+#[derive(Clone, Copy)]
 pub enum Closing {
     Eof,
     Terminator,
@@ -31,7 +31,7 @@ pub enum Closing {
     Item,
 }
 
-#[derive(Drop)]
+#[derive(Clone, Copy)]
 pub enum BlockArm {
     Takes(Taken),
     Closes(Closing),
@@ -39,7 +39,7 @@ pub enum BlockArm {
 }
 
 // The arm, and what is remembered of the lookahead behind doc comments.
-#[derive(Drop)]
+#[derive(Clone, Copy)]
 pub struct Seen {
     pub arm: BlockArm,
     pub known: Remembered,

@@ -17,7 +17,7 @@ use grammar::words::{DO, ELSE, IF, WHILE};
 use parser::cursor::Cursor;
 
 // Where a block begins, and which it is: the arguments of `block_from`, which a frame then holds in one place.
-#[derive(Drop)]
+#[derive(Clone, Copy)]
 struct Start {
     c: Cursor,
     place: BlockPlace,

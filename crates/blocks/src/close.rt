@@ -18,7 +18,7 @@ use parser::cursor::{Cursor, error_here, put};
 use parser::look::at_kind;
 
 // A block's end; `item` says that an item is known to start here.
-#[derive(Drop)]
+#[derive(Clone, Copy)]
 pub struct BlockEnd {
     pub c: Cursor,
     pub outcome: BlockParseOutcome,
@@ -26,7 +26,7 @@ pub struct BlockEnd {
 }
 
 // A form's end, and whether the file ended in it.
-#[derive(Drop)]
+#[derive(Clone, Copy)]
 pub struct Form {
     pub c: Cursor,
     pub eof: bool,

@@ -1,4 +1,6 @@
 // Blocks and the four control forms.
+#![tactic(auto)]
+
 pub mod arm;
 pub mod block;
 pub mod close;

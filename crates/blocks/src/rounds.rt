@@ -17,7 +17,7 @@ use parser::look::{Remembered, current};
 const MAX_CONTROL_FLOW_NESTING: usize = 256;
 
 // Which block it is, and how many forms it stands in. One small struct, since each frame of the cycle has one.
-#[derive(Drop)]
+#[derive(Clone, Copy)]
 pub struct BlockPlace {
     pub depth: u16,
     pub owner: BlockOwner,
@@ -25,7 +25,7 @@ pub struct BlockPlace {
 }
 
 // Where the rounds stop: at a form, whose keyword is `word`, or behind the block's closing event.
-#[derive(Drop)]
+#[derive(Clone, Copy)]
 pub struct Stopped {
     pub c: Cursor,
     pub control: bool,

@@ -15,7 +15,7 @@ const READING: usize = 1;
 const TREE: usize = 2;
 
 // How much of the buffer is used, and whether a frame was answered.
-#[derive(Drop)]
+#[derive(Clone, Copy)]
 pub struct Step {
     pub used: usize,
     pub more: bool,

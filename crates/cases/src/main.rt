@@ -1,5 +1,7 @@
 // Reads framed cases from standard input, and answers each: what the lexer, or the whole reading, leaves in its slices, or the text of
 // `tree`.
+#![tactic(auto)]
+
 use lexer::MAX_SOURCE;
 
 mod frame;

@@ -1,4 +1,6 @@
 // The reading of a source into lent slices: UTF-8, lexer, words, grammar, places.
+#![tactic(auto)]
+
 ghost use Rattle.std.specs.Prelude.{◌≡◌, ◌≤◌, length};
 ghost use Rattle.utf8.specs.WellFormed.{WellFormed};
 ghost use Rattle.lexer.specs.Tokens.{MAX_SOURCE};

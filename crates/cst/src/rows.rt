@@ -13,7 +13,7 @@ use answer::Answer;
 use marks::Refusal;
 use room::least;
 
-#[derive(Drop)]
+#[derive(Clone, Copy)]
 pub struct Counts {
     pub events: usize,
     pub diagnostics: usize,

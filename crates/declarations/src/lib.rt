@@ -1,4 +1,6 @@
 // The items that hold no block, and what a procedure has before its own.
+#![tactic(auto)]
+
 pub mod advice_map;
 pub mod attribute;
 pub mod constant;

@@ -21,7 +21,7 @@ use parser::nest::bump_nesting;
 use parser::sets::{EQUAL_OR_COLON, TYPE_WORDS};
 
 // Whether a type's body ends here, and what is remembered of the lookahead behind newlines.
-#[derive(Drop)]
+#[derive(Clone, Copy)]
 struct BodyEnd {
     ends: bool,
     known: Remembered,

@@ -133,7 +133,7 @@ fn open_behind(k: u16) -> u64
 }
 
 // Where the first tokens, which are plain, end; and the last of them.
-#[derive(Drop)]
+#[derive(Clone, Copy)]
 struct Lead {
     c: Cursor,
     previous: Significant,

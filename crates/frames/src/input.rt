@@ -3,7 +3,7 @@ ghost use Rattle.io.specs.Counts.{IsPrefixLen};
 
 use libc::STDIN_FILENO;
 
-#[derive(Drop)]
+#[derive(Clone, Copy)]
 pub struct Input {
     pub got: usize,
     pub failed: bool,

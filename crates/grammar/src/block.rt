@@ -1,5 +1,5 @@
 // Whose a block is, what closes it, what cuts it short, and how it ended.
-#[derive(Drop)]
+#[derive(Clone, Copy)]
 pub enum BlockOwner {
     Begin,
     Procedure,
@@ -11,20 +11,20 @@ pub enum BlockOwner {
 }
 
 // The terminator lists of parse_block: `end`; `else` and `end`; a bare `while`.
-#[derive(Drop)]
+#[derive(Clone, Copy)]
 pub enum Terminators {
     End,
     ElseEnd,
     While,
 }
 
-#[derive(Drop)]
+#[derive(Clone, Copy)]
 pub enum BlockRecoveryBoundary {
     Else,
     TopLevelItem,
 }
 
-#[derive(Drop)]
+#[derive(Clone, Copy)]
 pub enum BlockParseOutcome {
     FoundTerminator,
     RecoveredImplicitEnd,

@@ -1,4 +1,6 @@
 // The grammar of Miden Assembly: the enums and structs that its definitions and its code share.
+#![tactic(auto)]
+
 pub mod block;
 pub mod event;
 pub mod message;

@@ -6,7 +6,7 @@ ghost use Rattle.grammar.specs.Message.{number as number_of, Numbered};
 use crate::block::{BlockOwner, BlockRecoveryBoundary};
 use crate::nesting::Closer;
 
-#[derive(Drop)]
+#[derive(Clone, Copy)]
 pub enum ItemMessage {
     UnexpectedTopLevelToken,
     ExpectedNamespacePath,
@@ -24,7 +24,7 @@ pub enum ItemMessage {
     ExpectedPathSegment,
 }
 
-#[derive(Drop)]
+#[derive(Clone, Copy)]
 pub enum ProcedureMessage {
     ExpectedProc,
     ExpectedProcedureName,
@@ -37,7 +37,7 @@ pub enum ProcedureMessage {
     ExpectedResultType,
 }
 
-#[derive(Drop)]
+#[derive(Clone, Copy)]
 pub enum BlockMessage {
     DocCommentInBlock,
     UnexpectedTokenInBlock,
@@ -47,7 +47,7 @@ pub enum BlockMessage {
 }
 
 // Unreached: an expect at a keyword that is always there. It has no text, and is never reported.
-#[derive(Drop)]
+#[derive(Clone, Copy)]
 pub enum Message {
     Item(ItemMessage),
     Procedure(ProcedureMessage),

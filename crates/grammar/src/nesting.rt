@@ -5,14 +5,14 @@ ghost use Rattle.grammar.specs.Nesting.{close_brace, bump_by, NestingBelow};
 
 use lexer::syntax::{L_BRACE, L_BRACKET, L_PAREN, R_BRACE, R_BRACKET, R_PAREN};
 
-#[derive(Drop)]
+#[derive(Clone, Copy)]
 pub enum Closer {
     Paren,
     Bracket,
     Brace,
 }
 
-#[derive(Drop)]
+#[derive(Clone, Copy)]
 pub struct Nesting {
     pub parens: usize,
     pub brackets: usize,
@@ -20,14 +20,14 @@ pub struct Nesting {
 }
 
 // New counts, or the closer that has no opener.
-#[derive(Drop)]
+#[derive(Clone, Copy)]
 pub enum Bumped {
     Counts(Nesting),
     Refused(Closer),
 }
 
 // The kind of the last token that an instruction took, trivia aside.
-#[derive(Drop)]
+#[derive(Clone, Copy)]
 pub enum Significant {
     Nothing,
     Kind(u16),

@@ -8,7 +8,7 @@ use parser::kinds::is_regular_trivia;
 use parser::look::{current, declared};
 
 // The arms of parse_source_item.
-#[derive(Drop)]
+#[derive(Clone, Copy)]
 pub enum ItemArm {
     Doc,
     Trivia,

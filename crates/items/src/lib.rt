@@ -1,4 +1,6 @@
 // The items, and the whole file.
+#![tactic(auto)]
+
 pub mod arm;
 pub mod file;
 pub mod item;

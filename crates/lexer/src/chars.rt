@@ -5,7 +5,7 @@ ghost use Rattle.lexer.specs.Chars.{holds, within, blank, line_end, hex_letter, 
 
 // The predicates that lexer.rs hands to advance_while, but for the one of words; and those of bytes that a quote passes over,
 // while it is identifier-like and after.
-#[derive(Drop)]
+#[derive(Clone, Copy)]
 pub enum Run {
     Blank,
     InLine,

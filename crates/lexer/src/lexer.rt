@@ -20,7 +20,7 @@ use room::least;
 // The most bytes that a source may have.
 pub const MAX_SOURCE: usize = 1048576;
 
-#[derive(Drop)]
+#[derive(Clone, Copy)]
 pub struct Token {
     pub kind: u16,
     pub end: usize,

@@ -1,4 +1,6 @@
 // The lexer: kinds as in syntax.rs, tokens as in lexer.rs.
+#![tactic(auto)]
+
 mod chars;
 mod class;
 mod lexer;

@@ -8,14 +8,14 @@ use crate::lexer::Token;
 use crate::runs::advance_while;
 use crate::syntax::{ERROR, QUOTED_IDENT, QUOTED_STRING};
 
-#[derive(Drop)]
+#[derive(Clone, Copy)]
 pub enum Ending {
     Closed,
     Line,
     File,
 }
 
-#[derive(Drop)]
+#[derive(Clone, Copy)]
 pub struct Quoted {
     pub ending: Ending,
     pub at: usize,

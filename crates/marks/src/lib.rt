@@ -1,4 +1,6 @@
 // The tokens of a source as the grammar reads them: words are marked in the kinds, and the marks are taken off after the grammar.
+#![tactic(auto)]
+
 ghost use Rattle.std.specs.Prelude.{◌≡◌, map, ◌-◌, ◌≤◌, ◌<◌, length, take, drop};
 ghost use Rattle.lexer.specs.Tokens.{MAX_SOURCE};
 ghost use Rattle.grammar.specs.Words.{kind_of};
@@ -12,14 +14,14 @@ mod filter;
 mod word;
 
 // Where the first Ident `use` or `extern` starts, if there is one.
-#[derive(Drop)]
+#[derive(Clone, Copy)]
 pub enum Refusal {
     Nothing,
     At(usize),
 }
 
 // How many tokens there are, and what is refused of them.
-#[derive(Drop)]
+#[derive(Clone, Copy)]
 pub struct Read {
     pub count: usize,
     pub refusal: Refusal,

@@ -10,7 +10,7 @@ use grammar::words::MARK;
 use lexer::syntax::{ERROR, IDENT, WHITESPACE};
 use room::{set_u16, set_u32};
 
-#[derive(Drop)]
+#[derive(Clone, Copy)]
 pub struct Cursor {
     pub pos: usize,
     pub events: usize,
@@ -18,7 +18,7 @@ pub struct Cursor {
 }
 
 // A cursor and an answer.
-#[derive(Drop)]
+#[derive(Clone, Copy)]
 pub struct Flow {
     pub c: Cursor,
     pub ok: bool,

@@ -1,4 +1,6 @@
 // The lower half of the parser: the cursor, lookahead, the small steps and delimiter counts.
+#![tactic(auto)]
+
 pub mod bump;
 pub mod cursor;
 pub mod kinds;

@@ -20,7 +20,7 @@ use grammar::words::{ELSE, END, PUB, WHILE};
 use lexer::syntax::{DOT, L_PAREN, R_PAREN};
 
 // How far a lookahead over trivia went, and whether an item starts there: it holds of each place before `next`.
-#[derive(Drop)]
+#[derive(Clone, Copy)]
 pub struct Remembered {
     pub next: usize,
     pub starts: bool,

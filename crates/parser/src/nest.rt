@@ -7,7 +7,7 @@ use crate::cursor::{Cursor, error_here};
 use grammar::message::Message;
 use grammar::nesting::{Bumped, Nesting};
 
-#[derive(Drop)]
+#[derive(Clone, Copy)]
 pub struct Nested {
     pub c: Cursor,
     pub nesting: Nesting,

@@ -1,4 +1,6 @@
 // Diagnostics are written with the index of a token; here each index becomes the token's start and end in bytes.
+#![tactic(auto)]
+
 ghost use Rattle.std.specs.Prelude.{◌≡◌, ◌<◌, ◌^◌, length};
 ghost use Rattle.places.specs.Places.{start_of, stop_of, Places};
 

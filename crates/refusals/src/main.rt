@@ -1,4 +1,6 @@
 // Calls of `masm_parse_text` that the program `cases` does not make: counts of two words, and sources at the greatest length.
+#![tactic(auto)]
+
 ghost use Rattle.frames.specs.Ready.{Ready};
 
 use frames::output;

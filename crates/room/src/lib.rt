@@ -1,4 +1,6 @@
 // Writing while there is room.
+#![tactic(auto)]
+
 ghost use Rattle.std.specs.Prelude.{◌≡◌, min, set};
 
 // The room in two slices is the shorter length.

@@ -9,7 +9,7 @@ use frames::output;
 use room::least;
 
 // A place in the source, with its line and column.
-#[derive(Drop)]
+#[derive(Clone, Copy)]
 pub struct Spot {
     pub at: usize,
     pub line: usize,

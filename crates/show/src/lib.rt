@@ -1,4 +1,6 @@
 // The text of program `tree`, as document 01 has it.
+#![tactic(auto)]
+
 ghost use Rattle.frames.specs.Ready.{Ready};
 
 use answer::{FourNumbers, numbers};

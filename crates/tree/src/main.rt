@@ -1,4 +1,6 @@
 // Reads up to 2,048 bytes of standard input, and prints their reading, or that they can't be read.
+#![tactic(auto)]
+
 use frames::input::read_input;
 use frames::output;
 use libc::STDOUT_FILENO;

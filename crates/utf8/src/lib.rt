@@ -1,4 +1,6 @@
 // UTF-8: whether bytes are well formed, and else where their longest well-formed start ends.
+#![tactic(auto)]
+
 ghost use Rattle.std.specs.Prelude.{◌≡◌, ◌+◌, ◌≤◌, min, length};
 ghost use Rattle.utf8.specs.Width.{width};
 ghost use Rattle.utf8.specs.Validate.{validate};
@@ -9,7 +11,7 @@ mod last;
 
 pub use last::last_char;
 
-#[derive(Drop)]
+#[derive(Clone, Copy)]
 pub enum Utf8 {
     Valid,
     At(usize),
