@@ -71,7 +71,7 @@ parse-control-flow-requires t c κs =
     let c₃ = after-first-rounds-from-at-loop t c₂ in
     let c₄ = start t c₃ in
     let begun = c₃.first-rounds.ensures in
-    let rounds = c₂.loop.inv.on _ begun.rounds in
+    let rounds = c₂.loop.invariant.on _ begun.rounds in
     let here = rounds.form c₁.loop-test.taken in
     let control = meant c₄.args.start.place.terminators _ BlockArm.Control refl here.arm in
     (omega (arith, c₄.pre, begun.wrote.pos, rounds.onward), (here.first, control, omega (arith, here.below)))
@@ -86,7 +86,7 @@ returns t c =
     let c₅ = after-first-rounds-from-at-loop t c₄ in
     let c₆ = start t c₅ in
     let begun = c₅.first-rounds.ensures in
-    let here = (c₄.loop.inv.on _ begun.rounds).form c₃.loop-test.taken in
+    let here = (c₄.loop.invariant.on _ begun.rounds).form c₃.loop-test.taken in
     let form = deeper c₆.args.start.place.depth c₂.parse_control_flow.ensures.ran in
     let rest = bind_to _ form (on_to _ c₁.if1.taken (gives c.before.before.ended-file.ensures.1)) in
     let inside = here.on _ _ (round c₆.args.start.place.owner c₆.args.start.place.terminators c₆.args.start.place.depth BlockArm.Control (sym here.arm) refl (off_to _ (lt-leb limit c₆.args.start.place.depth here.below) rest)) in
@@ -113,7 +113,7 @@ loop-again t c =
     let c₅ = c₄.before in
     let c₆ = start t (after-first-rounds-from-at-loop t c₅) in
     let form = deeper c₆.args.start.place.depth c₃.parse_control_flow.ensures.ran in
-    let i = c₅.loop.inv in
+    let i = c₅.loop.invariant in
     record {
       on = λ w r.
           let rounds = i.on w r in

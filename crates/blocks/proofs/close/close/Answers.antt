@@ -1,0 +1,47 @@
+-- `blocks::close::close`: an arm that ends the loop, and the closing event. Assumes nothing.
+use mathlib.Core.Bool.{false≢true}
+use mathlib.Core.Path.{refl, ◌∙◌}
+use native.Mathlib.Omega.{arith}
+use borrow.Author.Rules.{rules}
+use Rattle.blocks.specs.Arms.{block_ending}
+use Rattle.grammar.specs.Block.{recover}
+use Rattle.grammar.specs.declared.block.BlockParseOutcome.{BlockParseOutcome}
+use Rattle.blocks.proofs.Laws.{closed}
+use Rattle.parser.proofs.Kit.{done_to, ◌then_to◌}
+use Rattle.blocks.proofs.close.close.Goals as goal
+
+pub returns-in-Eof : goal.returns-in-Eof
+unfolding block_ending recover
+returns-in-Eof c =
+    closed c.in-Eof.is
+    (λ F. c.error_here-a.ensures.ran F _ then_to done_to BlockParseOutcome.ReachedEof)
+    (λ F. c.put-b.ensures.wrote F _ _)
+    (c.put-b.ensures.pos ∙ c.error_here-a.ensures.pos)
+    (λ h. absurd (false≢true h))
+
+pub returns-in-Terminator : goal.returns-in-Terminator
+unfolding block_ending recover
+returns-in-Terminator c =
+    closed c.in-Terminator.is
+    (λ F. done_to BlockParseOutcome.FoundTerminator)
+    (λ F. c.put-b-in-Terminator.ensures.wrote F _ _)
+    c.put-b-in-Terminator.ensures.pos
+    (λ h. absurd (false≢true h))
+
+pub returns-in-StrayElse : goal.returns-in-StrayElse
+unfolding block_ending recover
+returns-in-StrayElse c =
+    closed c.in-StrayElse.is
+    (λ F. c.recover-a.ensures.ran F then_to done_to BlockParseOutcome.RecoveredImplicitEnd)
+    (λ F. c.put-b-in-StrayElse.ensures.wrote F _ _)
+    (c.put-b-in-StrayElse.ensures.pos ∙ c.recover-a.ensures.pos)
+    (λ h. absurd (false≢true h))
+
+pub returns-in-Item : goal.returns-in-Item
+unfolding block_ending recover
+returns-in-Item c =
+    closed c.in-Item.is
+    (λ F. c.recover-a-in-Item.ensures.ran F then_to done_to BlockParseOutcome.RecoveredImplicitEnd)
+    (λ F. c.put-b-in-Item.ensures.wrote F _ _)
+    (c.put-b-in-Item.ensures.pos ∙ c.recover-a-in-Item.ensures.pos)
+    (λ h. refl)

@@ -1,0 +1,7 @@
+-- `blocks::close::ended_file`: the event, and a struct. Assumes nothing.
+use mathlib.Core.List.{[]}
+use mathlib.Core.Path.{refl}
+use Rattle.blocks.proofs.close.ended_file.Goals as goal
+
+pub returns : goal.returns
+returns c = (c.put-c.ensures, refl, refl)

@@ -1,0 +1,13 @@
+-- `blocks::close::recover`: the steps of its callees. Assumes nothing.
+use mathlib.Core.List.{[]}
+use mathlib.Core.Path.{◌∙◌}
+use native.Mathlib.Omega.{arith}
+use Rattle.parser.proofs.Kit.{node}
+use Rattle.blocks.proofs.close.recover.Goals as goal
+
+pub returns : goal.returns
+returns c =
+    record {
+      ran = λ F. node _ (c.put-a.ensures.wrote F _ _) (c.error_here-b.ensures.ran F _) (c.put.ensures.wrote F _ _);
+      pos = c.put.ensures.pos ∙ c.error_here-b.ensures.pos ∙ c.put-a.ensures.pos;
+    }

@@ -1,0 +1,22 @@
+-- `blocks::header::keyword_line`: the steps of its callees. Assumes nothing.
+use native.Mathlib.Omega.{arith}
+use Rattle.grammar.specs.Laws.LiveLine.{eats_expect}
+use Rattle.grammar.specs.declared.message.Message.{Message}
+use Rattle.parser.proofs.Kit.{◌farther◌}
+use Rattle.parser.proofs.Laws.{past_here}
+use Rattle.blocks.proofs.header.keyword_line.Goals as goal
+
+pub expect-b-requires : goal.expect-b-requires
+expect-b-requires c =
+    c.requires.1
+
+pub returns : goal.returns
+returns c =
+    let moved = past_here c.expect-b.ensures.ran ((eats_expect c.args.keyword c.requires.1 Message.Unreached).eats _ c.requires.0) in
+    record {
+      mid = _;
+      key = c.expect-b.ensures.ran;
+      line = c.parse_line_tail.ensures;
+      onward = c.expect-b.ensures.ran.onward farther c.parse_line_tail.ensures.onward;
+      past = record { on = omega (arith, moved, c.parse_line_tail.ensures.onward); within = moved.within };
+    }

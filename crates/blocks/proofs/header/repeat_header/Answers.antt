@@ -1,0 +1,14 @@
+-- `blocks::header::repeat_header`: what header says. Assumes nothing.
+use mathlib.Core.Path.{refl}
+use native.Mathlib.Omega.{arith}
+use Rattle.grammar.specs.Look.{one_of}
+use Rattle.blocks.proofs.header.repeat_header.Goals as goal
+
+pub header-requires : goal.header-requires
+unfolding one_of
+header-requires c =
+    (c.requires, refl)
+
+pub returns : goal.returns
+returns c =
+    c.header.ensures

@@ -1,0 +1,18 @@
+-- `blocks::rounds::first_rounds`: the event, and the rounds. Assumes nothing.
+use native.Mathlib.Omega.{arith}
+use Rattle.parser.proofs.Kit.{◌farther◌}
+use Rattle.blocks.proofs.Laws.{no_item}
+use Rattle.blocks.proofs.rounds.first_rounds.Goals as goal
+
+pub rounds-requires : goal.rounds-requires
+rounds-requires c =
+    no_item
+
+pub returns : goal.returns
+returns c =
+    record {
+      mid = _;
+      wrote = c.put-c.ensures.wrote c.args.kinds.now _ _;
+      onward = (c.put-c.ensures.wrote c.args.kinds.now _ _).onward farther c.rounds.ensures.onward;
+      rounds = c.rounds.ensures;
+    }

@@ -1,0 +1,73 @@
+-- `blocks::rounds::rounds`: its loop, round by round. Assumes nothing.
+use mathlib.Core.Path.{sym, ap, ◌∙◌}
+use native.Mathlib.Omega.{arith}
+use lib.ListN.{drop, length}
+use borrow.Author.Rules.{rules}
+use Rattle.grammar.specs.Look.{at_top_level_form_starter_in_block}
+use Rattle.blocks.specs.declared.arm.BlockArm.{BlockArm}
+use Rattle.blocks.specs.declared.arm.Closing.{Closing}
+use Rattle.blocks.specs.Arms.{by_block_arm}
+use Rattle.blocks.proofs.Laws.{meant, takes, round, absorbs, no_item, from_here}
+use Rattle.parser.proofs.Ahead.{remembers_none, remembers_later}
+use Rattle.parser.proofs.Kit.{stays, ◌farther◌, ◌then_to◌, begins, goes_on, Leads}
+use Rattle.parser.proofs.Laws.{past_here}
+use Prim.Native.Nat.{◌-◌}
+use Rattle.grammar.specs.Block.{MAX_CONTROL_FLOW_NESTING as limit, block_in}
+use Rattle.parser.specs.Rep.{Onward, world}
+use Rattle.parser.specs.Ahead.{DocKnown}
+use Rattle.blocks.specs.Shapes.{ItemAt}
+use mathlib.Core.Bool.{false≢true}
+use Rattle.blocks.proofs.rounds.rounds.Goals as goal
+
+pub overflow_cast-depth : goal.overflow_cast-depth
+overflow_cast-depth c = omega (arith, c.struct_known-1.given)
+
+pub loop-t-init : goal.loop-t-init
+loop-t-init c =
+    (begins, stays, remembers_none (omega arith), c.requires)
+
+pub block_arm_here-seen-requires : goal.block_arm_here-seen-requires
+block_arm_here-seen-requires c = (c.loop-t.invariant.2, c.loop-t.invariant.3)
+
+pub loop-t-smaller : goal.loop-t-smaller
+loop-t-smaller c =
+    let moved = past_here c.take-d.ensures (takes _ _ (meant c.args.place.terminators _ (BlockArm.Takes _) c.block_arm_here-seen.ensures.0 c.in-Takes.is)) in
+    omega (arith, moved, c.bump_regular_trivia-c.ensures.onward)
+
+pub loop-t-preserved : goal.loop-t-preserved
+unfolding by_block_arm
+loop-t-preserved c =
+    let i = c.loop-t.invariant.0 in
+    let t = c.take-d in
+    let v = c.bump_regular_trivia-c in
+    let p = c.args.place in (
+      goes_on i (λ w' r k.
+          round p.owner p.terminators p.depth (BlockArm.Takes _) c.block_arm_here-seen.ensures.0 c.in-Takes.is
+          (t.ensures then_to absorbs limit p.owner p.terminators p.depth v.ensures k)),
+      c.loop-t.invariant.1 farther t.ensures.onward farther v.ensures.onward,
+      remembers_later _ (omega (arith, t.ensures.onward, v.ensures.onward)) c.block_arm_here-seen.ensures.1,
+      no_item,
+    )
+
+pub returns-in-Closes : goal.returns-in-Closes
+unfolding by_block_arm
+returns-in-Closes c =
+    let told = c.in-Closes.is in
+    record {
+      onward = c.loop-t.invariant.1 farther c.close-e.ensures.onward;
+      form = λ h. absurd (false≢true h);
+      over = λ h. record {
+        mid = _;
+        ran = c.loop-t.invariant.0.on _ _ (round c.args.place.owner c.args.place.terminators c.args.place.depth (BlockArm.Closes _) c.block_arm_here-seen.ensures.0 told (c.close-e.ensures.ran c.args.kinds.now));
+        wrote = c.close-e.ensures.wrote c.args.kinds.now;
+        here = record {
+          starts = λ i. ap (λ p. at_top_level_form_starter_in_block (drop p c.args.kinds.now)) c.close-e.ensures.pos
+              ∙ meant c.args.place.terminators _ (BlockArm.Closes Closing.Item) c.block_arm_here-seen.ensures.0 (told ∙ ap BlockArm.Closes (c.close-e.ensures.at_item i));
+        };
+      };
+    }
+
+pub returns-in-Control : goal.returns-in-Control
+returns-in-Control c =
+    let here = c.form_here.ensures.of c.args.place.owner c.args.place.terminators (sym c.block_arm_here-seen.ensures.0 ∙ c.in-Control.is) in
+    from_here c.loop-t.invariant.0 c.loop-t.invariant.1 here

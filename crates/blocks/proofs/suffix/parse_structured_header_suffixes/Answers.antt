@@ -1,0 +1,40 @@
+-- `blocks::suffix::parse_structured_header_suffixes`: `loop`: a round that goes on takes a token. Assumes nothing.
+use mathlib.Core.Bool.{false}
+use mathlib.Core.Path.{◌∙◌}
+use Prim.Native.Nat.{◌-◌}
+use native.Mathlib.Omega.{arith}
+use lib.ListN.{length}
+use borrow.Author.Tests.{not-true, not-false}
+use Rattle.grammar.specs.Block.{suffix_round, parse_structured_header_suffixes}
+use Rattle.grammar.specs.Laws.LiveLine.{truly_suffix_round}
+use Rattle.grammar.specs.Run.{pure, pick, loop}
+use Rattle.grammar.specs.Theorems.NoFuel.{suffixes_eq}
+use Rattle.parser.specs.Rep.{world}
+use Rattle.blocks.proofs.Laws.{round}
+use Rattle.parser.proofs.Kit.{like_to, on_to, off_to, done_to, bind_to, begins, goes_on, Leads}
+use Rattle.parser.proofs.Laws.{past_here}
+use Rattle.blocks.proofs.suffix.parse_structured_header_suffixes.Goals as goal
+
+pub loop-sc-init : goal.loop-sc-init
+loop-sc-init c = begins
+
+pub returns-then-not-s : goal.returns-then-not-s
+unfolding parse_structured_header_suffixes
+returns-then-not-s c =
+    let over = c.if-not-s.true in
+    let round = like_to _ (suffixes_eq _) (bind_to (λ c. pick c (loop suffix_round) (pure false)) c.suffix_round-s.ensures (off_to (loop suffix_round) over (done_to false))) in
+    (c.loop-sc.invariant.on _ _ round).ran
+
+pub loop-sc-smaller : goal.loop-sc-smaller
+loop-sc-smaller c =
+    let more = c.if-not-s.false in
+    let moved = past_here c.suffix_round-s.ensures.ran (truly_suffix_round.truly _ (c.suffix_round-s.ensures.val ∙ more)) in
+    omega (arith, moved)
+
+pub loop-sc-preserved : goal.loop-sc-preserved
+unfolding parse_structured_header_suffixes
+loop-sc-preserved c =
+    let i = c.loop-sc.invariant in
+    let more = c.if-not-s.false in
+    goes_on i (λ w' r k.
+    like_to _ (suffixes_eq _) (bind_to (λ c. pick c (loop suffix_round) (pure false)) c.suffix_round-s.ensures (on_to (pure false) more k)))

@@ -1,0 +1,17 @@
+-- `cases::frame::cut_output` keeps the buffer ready. Assumes nothing.
+use mathlib.Core.Path.{sym}
+use lib.Seq.{length-take-le}
+use borrow.Author.Rules.{rules}
+use Rattle.cases.proofs.frame.cut_output.Goals as goal
+
+pub slice_bounds-body-end-2 : goal.slice_bounds-body-end-2
+slice_bounds-body-end-2 c = sym (length-take-le _ _ (search rules))
+
+pub slice_bounds-body-end-4 : goal.slice_bounds-body-end-4
+slice_bounds-body-end-4 c = sym (length-take-le _ _ (search rules))
+
+pub slice_bounds-body-end-6 : goal.slice_bounds-body-end-6
+slice_bounds-body-end-6 c = sym (length-take-le _ _ (search rules))
+
+pub slice_bounds-body-end-8 : goal.slice_bounds-body-end-8
+slice_bounds-body-end-8 c = sym (length-take-le _ _ (search rules))

@@ -1,0 +1,29 @@
+-- `declarations::attribute::attributes`: `loop`: a round that goes on takes a token. Assumes nothing.
+use Prim.Native.Nat.{◌-◌}
+use native.Mathlib.Omega.{arith}
+use lib.ListN.{length}
+use borrow.Author.Tests.{not-true, not-false}
+use Rattle.grammar.specs.Item.{attribute_round}
+use Rattle.grammar.specs.Laws.LiveItem.{truly_attribute_round}
+use Rattle.grammar.specs.Run.{loop}
+use Rattle.parser.specs.Rep.{world}
+use Rattle.declarations.proofs.Steps.{round_last, round_more, round_moves}
+use Rattle.parser.proofs.Kit.{begins, goes_on, Leads, answers}
+use Rattle.declarations.proofs.attribute.attributes.Goals as goal
+
+pub loop-sc-init : goal.loop-sc-init
+loop-sc-init c = begins
+
+pub returns-then-not-s : goal.returns-then-not-s
+returns-then-not-s c =
+    (c.loop-sc.invariant.on _ _ (round_last attribute_round truly_attribute_round.truly (answers c.attribute_round-s.ensures c.if-not-s.true))).ran
+
+pub loop-sc-smaller : goal.loop-sc-smaller
+loop-sc-smaller c =
+    let m = round_moves attribute_round truly_attribute_round.truly (answers c.attribute_round-s.ensures c.if-not-s.false) in
+    omega (arith, m)
+
+pub loop-sc-preserved : goal.loop-sc-preserved
+loop-sc-preserved c =
+    let h = answers c.attribute_round-s.ensures c.if-not-s.false in
+    goes_on c.loop-sc.invariant (λ w' r k. round_more attribute_round truly_attribute_round.truly h k)

@@ -1,0 +1,7 @@
+-- `declarations::parts::keyword_and_name`: the steps of its callees. Assumes nothing.
+use Rattle.parser.proofs.Kit.{◌then◌}
+use Rattle.declarations.proofs.parts.keyword_and_name.Goals as goal
+
+pub returns : goal.returns
+returns c =
+    c.expect_kind-a.ensures.ran then c.bump_regular_trivia-b.ensures then c.expect_name.ensures

@@ -1,0 +1,21 @@
+-- `declarations::signature::parse_signature`: its node, with and without results. Assumes nothing.
+use mathlib.Core.Bool.{true}
+use mathlib.Core.Path.{ap, ◌∙◌}
+use Rattle.grammar.specs.Item.{parse_signature}
+use Rattle.grammar.specs.Look.{at}
+use Rattle.grammar.specs.Words.{is}
+use Rattle.lexer.specs.Syntax.{RArrow}
+use Rattle.parser.proofs.Kit.{yes, no, node, done, ◌then◌}
+use Rattle.declarations.proofs.signature.parse_signature.Goals as goal
+
+pub returns-then-at_kind : goal.returns-then-at_kind
+unfolding parse_signature
+returns-then-at_kind c =
+    let a = c.at_kind.ensures ∙ ap (at (is RArrow)) c.peek_after_non_comment_trivia-next.ensures.is in
+    node _ (c.put-a.ensures.wrote c.args.kinds.now _ _) (c.parse_balanced_group-b.ensures then yes _ _ a c.if-at_kind.true c.parse_results-d.ensures) (c.put.ensures.wrote c.args.kinds.now _ _)
+
+pub returns : goal.returns
+unfolding parse_signature
+returns c =
+    let a = c.at_kind.ensures ∙ ap (at (is RArrow)) c.peek_after_non_comment_trivia-next.ensures.is in
+    node _ (c.put-a.ensures.wrote c.args.kinds.now _ _) (c.parse_balanced_group-b.ensures then no _ _ a c.if-at_kind.false (done true)) (c.put-2.ensures.wrote c.args.kinds.now _ _)

@@ -1,0 +1,10 @@
+-- `declarations::submodule::parse_submodule`: its node around the steps of its callees. Assumes nothing.
+use Rattle.grammar.specs.Item.{parse_submodule}
+use Rattle.declarations.proofs.Steps.{three, steps}
+use Rattle.parser.proofs.Kit.{node, ◌then◌}
+use Rattle.declarations.proofs.submodule.parse_submodule.Goals as goal
+
+pub returns : goal.returns
+unfolding parse_submodule
+returns c =
+    node _ (c.put-a.ensures.wrote c.args.kinds.now _ _) (c.optional_visibility-b.ensures then steps (three _ _ _ _) (c.keyword_and_name-d.ensures then c.parse_line_tail-e.ensures)) (c.put.ensures.wrote c.args.kinds.now _ _)

@@ -1,0 +1,9 @@
+-- `declarations::type_decl::parse_type_body`: its node around the loop. Assumes nothing.
+use Rattle.grammar.specs.Line.{parse_type_body}
+use Rattle.parser.proofs.Kit.{node}
+use Rattle.declarations.proofs.type_decl.parse_type_body.Goals as goal
+
+pub returns : goal.returns
+unfolding parse_type_body
+returns c =
+    node _ (c.put-a.ensures.wrote c.args.kinds.now _ _) c.type_tokens-b.ensures (c.put.ensures.wrote c.args.kinds.now _ _)

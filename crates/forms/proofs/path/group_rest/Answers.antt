@@ -1,0 +1,87 @@
+-- `forms::path::group_rest`: `scan` with a local, the number of open delimiters, which is no more than the tokens taken and 1. Assumes nothing.
+use mathlib.Core.Bool.{Bool, true, false, cond}
+use mathlib.Core.List.{List}
+use mathlib.Core.Path.{◌≡◌, refl, sym, ◌∙◌}
+use Prim.Native.Nat.{ℕ, suc, pred, ◌+◌, ◌-◌, ◌≤◌}
+use native.Mathlib.Nat.{pred-le}
+use native.Mathlib.Omega.{arith}
+use lib.ListN.{length}
+use borrow.Author.Tests.{eq-eqb, ne_eqb, not-true, not-false}
+use Rattle.forms.specs.Path.{group_step, group_rest}
+use Rattle.grammar.specs.Bump.{error_here}
+use Rattle.grammar.specs.Look.{eof, current}
+use Rattle.grammar.specs.Path.{group_round}
+use Rattle.grammar.specs.Run.{go, stop, scan}
+use Rattle.grammar.specs.Words.{File, Sym, is}
+use Rattle.grammar.specs.declared.message.Message.{Message}
+use Rattle.parser.specs.Rep.{World, world, Ran, RanTo}
+use Rattle.parser.proofs.Kit.{on, off, done, bind, begins, goes_on, scan_stop, scan_end, scan_go, Leads}
+use Rattle.parser.proofs.Laws.{eof_within, at_token}
+use Rattle.forms.proofs.path.group_rest.Goals as goal
+
+module _ (opener closer : Sym) (depth : ℕ) (r : List Sym) where
+  round_ends : 0 ≡ depth → group_round opener closer depth r ≡ stop
+  unfolding group_round
+  round_ends e = rw (eq-eqb 0 depth e)
+
+  round_goes : (depth' : ℕ) (k : Sym) → eof r ≡ false → (0 ≡ depth → ⊥) → k ≡ current r → depth' ≡ group_step opener closer depth k → group_round opener closer depth r ≡ go depth'
+  unfolding group_round group_step
+  round_goes depth' k z n c e = rw (ne_eqb 0 depth n, at_token (is opener) r z, at_token (is closer) r z, ← c, ← e)
+
+step_up : (opener closer depth k : ℕ) → group_step opener closer depth k ≤ depth + 1
+unfolding group_step
+step_up opener closer depth k = by_tests (is opener k) (is closer k)
+  where
+    by_tests : (t u : Bool) → cond t (suc depth) (cond u (pred depth) depth) ≤ depth + 1
+    by_tests true u = omega arith
+    by_tests false true = omega (arith, pred-le depth)
+    by_tests false false = omega arith
+
+-- how the loop ends
+module _ (opener closer : Sym) (missing : Message) {F : File} {w₀ w : World} {depth : ℕ} (h : RanTo F (scan (group_round opener closer) 1) w₀ w depth) where
+  closes : 0 ≡ depth → Ran F (group_rest opener closer missing) w₀ w
+  unfolding group_rest
+  closes e = bind _ h (on _ (eq-eqb 0 depth e) (done true))
+
+  lacks : {w' : World} → (0 ≡ depth → ⊥) → Ran F (error_here missing) w w' → Ran F (group_rest opener closer missing) w₀ w'
+  unfolding group_rest
+  lacks n s = bind _ h (off _ (ne_eqb 0 depth n) s)
+
+pub loop-missing-init : goal.loop-missing-init
+loop-missing-init c = (begins, omega arith)
+
+pub returns-then-depth-eq0 : goal.returns-then-depth-eq0
+returns-then-depth-eq0 c =
+    closes c.args.opener c.args.closer c.args.missing (c.loop-missing.invariant.0.on _ _ (scan_stop _ _ (round_ends _ _ _ _ c.if-depth-eq0.true))) c.if-depth-eq0.true
+
+pub group_depth-depth-requires : goal.group_depth-depth-requires
+group_depth-depth-requires c =
+    let h = eof_within c.args.kinds.now c.loop-missing.c.pos c.eof.ensures c.loop-missing-test.true in
+    omega (arith, c.if-depth-eq0.false, c.loop-missing.invariant.1, h, c.good.0.1)
+
+pub loop-missing-smaller : goal.loop-missing-smaller
+loop-missing-smaller c =
+    let h = eof_within c.args.kinds.now c.loop-missing.c.pos c.eof.ensures c.loop-missing-test.true in
+    omega (arith, h, c.bump-c.ensures.moved h)
+
+pub loop-missing-preserved : goal.loop-missing-preserved
+loop-missing-preserved c =
+    let i = c.loop-missing.invariant.0 in
+    let m = c.bump-c.ensures.moved (eof_within c.args.kinds.now _ c.eof.ensures c.loop-missing-test.true) in
+    let z = sym c.eof.ensures ∙ c.loop-missing-test.true in
+    let e = round_goes c.args.opener c.args.closer _ _ _ _ z c.if-depth-eq0.false c.current.ensures c.group_depth-depth.ensures in
+    let u = step_up c.args.opener c.args.closer c.loop-missing.depth c.current.result in (
+      goes_on i (λ w' r k.
+          scan_go (group_round c.args.opener c.args.closer) _ _ z e c.bump-c.ensures.ran k),
+      omega (arith, m, u, c.group_depth-depth.ensures, c.loop-missing.invariant.1),
+    )
+
+pub returns-then-depth-eq0-2 : goal.returns-then-depth-eq0-2
+returns-then-depth-eq0-2 c =
+    let z = sym c.eof.ensures ∙ c.loop-missing-test.false in
+    closes c.args.opener c.args.closer c.args.missing (c.loop-missing.invariant.0.on _ _ (scan_end _ _ z)) c.if-depth-eq0-2.true
+
+pub returns : goal.returns
+returns c =
+    let z = sym c.eof.ensures ∙ c.loop-missing-test.false in
+    lacks c.args.opener c.args.closer c.args.missing (c.loop-missing.invariant.0.on _ _ (scan_end _ _ z)) c.if-depth-eq0-2.false (c.error_here.ensures.ran c.args.kinds.now _)

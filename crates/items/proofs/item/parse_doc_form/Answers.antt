@@ -1,0 +1,7 @@
+-- `items::item::parse_doc_form`: its node around one token. Assumes nothing.
+use Rattle.parser.proofs.Kit.{node}
+use Rattle.items.proofs.item.parse_doc_form.Goals as goal
+
+pub returns : goal.returns
+returns c =
+    node _ (c.put-a.ensures.wrote c.args.kinds.now _ _) c.bump-b.ensures.ran (c.put.ensures.wrote c.args.kinds.now _ _)

@@ -1,0 +1,16 @@
+-- `items::procedure::closing`: one test of the outcome. Assumes nothing.
+use mathlib.Core.Bool.{true}
+use mathlib.Core.Path.{sym, ◌∙◌}
+use Rattle.grammar.specs.Block.{closing}
+use Rattle.parser.proofs.Kit.{on, off, done}
+use Rattle.items.proofs.procedure.closing.Goals as goal
+
+pub returns-then-found_terminator : goal.returns-then-found_terminator
+unfolding closing
+returns-then-found_terminator c =
+    on _ (sym c.found_terminator.ensures ∙ c.if-found_terminator.true) c.expect_kind-d.ensures.ran
+
+pub returns : goal.returns
+unfolding closing
+returns c =
+    off _ (sym c.found_terminator.ensures ∙ c.if-found_terminator.false) (done true)

@@ -1,0 +1,24 @@
+-- `items::procedure::parse_procedure`: its node, with and without a body. Assumes nothing.
+use mathlib.Core.Bool.{Bool, true, not}
+use Rattle.grammar.specs.Block.{MAX_CONTROL_FLOW_NESTING as limit, parse_block}
+use Rattle.grammar.specs.Bump.{nop}
+use Rattle.grammar.specs.Item.{procedure_body, parse_procedure}
+use Rattle.grammar.specs.Run.{pick, P}
+use Rattle.parser.specs.Ahead.{declared}
+use Rattle.declarations.proofs.Steps.{five, steps}
+use Rattle.parser.proofs.Kit.{on, off, node, done, bind}
+use Rattle.items.proofs.procedure.parse_procedure.Goals as goal
+
+-- behind what leads up to `proc`
+abbrev behind : Bool → P Bool
+behind declared = pick (not declared) nop (procedure_body (parse_block limit))
+
+pub returns-then-not-b : goal.returns-then-not-b
+unfolding parse_procedure
+returns-then-not-b c =
+    node _ (c.put-a.ensures.wrote c.args.kinds.now _ _) (steps (five _ _ _ _ _ _) (bind behind c.procedure_lead-b.ensures (on _ c.if-not-b.true (done true)))) (c.put.ensures.wrote c.args.kinds.now _ _)
+
+pub returns : goal.returns
+unfolding parse_procedure
+returns c =
+    node _ (c.put-a.ensures.wrote c.args.kinds.now _ _) (steps (five _ _ _ _ _ _) (bind behind c.procedure_lead-b.ensures (off _ c.if-not-b.false c.procedure_body-d.ensures))) (c.put-2.ensures.wrote c.args.kinds.now _ _)

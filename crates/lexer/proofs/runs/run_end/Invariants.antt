@@ -1,0 +1,16 @@
+-- `lexer::runs::run_end` meets its contract: each byte that surely goes on is one step. Assumes nothing.
+use Prim.Native.Nat.{ℕ, ◌+◌, ◌-◌}
+use mathlib.Core.Path.{refl, sym, ◌∙◌}
+use native.Mathlib.Omega.{arith}
+use borrow.Author.Rules.{rules}
+use borrow.Author.Tests.{not-false}
+use lib.ListN.{length}
+use Rattle.lexer.specs.Chars.{holds}
+use Rattle.lexer.proofs.Laws.{Reaches, reaches_next}
+use Rattle.lexer.proofs.runs.run_end.Given as goal
+
+abbrev pub invariant-loop-at : goal.invariant-loop-at
+invariant-loop-at l = Reaches (holds l.run) l.source l.from l.at
+
+abbrev pub decreases-loop-at : goal.decreases-loop-at
+decreases-loop-at l = length l.source - l.at

@@ -1,0 +1,53 @@
+-- `parser::bump::bump_while`: the loop is `scan`, a token at a time. Assumes nothing.
+use mathlib.Core.Bool.{true, cond}
+use mathlib.Core.List.{List, []}
+use mathlib.Core.Path.{◌≡◌, refl, sym, ap, ◌∙◌}
+use Prim.Native.Nat.{ℕ, ◌-◌}
+use native.Mathlib.Omega.{arith}
+use lib.ListN.{length}
+use Rattle.grammar.specs.Bump.{bump_while, while_round}
+use Rattle.grammar.specs.Run.{go, stop}
+use Rattle.parser.specs.Rep.{world}
+use Rattle.parser.specs.Sets.{trivia_to, trivia_own}
+use Rattle.parser.proofs.Kit.{Leads, begins, goes_on, scan_stop, scan_go}
+use Rattle.parser.proofs.Laws.{at_some, at_within, at_by, current_in}
+use Rattle.parser.proofs.bump.bump_while.Goals as goal
+
+pub loop-k-init : goal.loop-k-init
+loop-k-init c dm ds = begins
+
+pub bump_plain-c-requires : goal.bump_plain-c-requires
+unfolding trivia_to
+bump_plain-c-requires c =
+    let l = c.args.last in
+    let e = at_by (trivia_to l) _ refl c.is_trivia_to.ensures c.current.ensures in
+    let h = at_within c.args.kinds.now _ (trivia_to l) e c.loop-k-test.true in
+    let k = c.current.ensures ∙ sym (current_in _ _ h) in
+    let o = trivia_own l _ c.requires (ap (trivia_to l) (sym k) ∙ sym c.is_trivia_to.ensures ∙ c.loop-k-test.true) in
+    record { within = h; no_error = o.1; event = c.current-k.ensures ∙ sym (current_in _ _ h) ∙ o.0 }
+
+pub loop-k-smaller : goal.loop-k-smaller
+unfolding trivia_to
+loop-k-smaller c =
+    let l = c.args.last in
+    let e = at_by (trivia_to l) _ refl c.is_trivia_to.ensures c.current.ensures in
+    let h = at_within c.args.kinds.now c.loop-k.c.pos (trivia_to l) e c.loop-k-test.true in
+    omega (arith, h, (c.bump_plain-c.ensures.bumped [] []).moved h)
+
+pub loop-k-preserved : goal.loop-k-preserved
+unfolding bump_while while_round trivia_to
+loop-k-preserved c dm ds =
+    let l = c.args.last in
+    let i = c.loop-k.invariant in
+    let b = c.bump_plain-c in
+    let e = sym (at_by (trivia_to l) _ refl c.is_trivia_to.ensures c.current.ensures) ∙ c.loop-k-test.true in
+    goes_on (i dm ds) (λ w' r k.
+    scan_go (while_round (trivia_to l)) true true (at_some (trivia_to l) _ e) (ap (λ u. cond u (go true) stop) e) (b.ensures.bumped dm ds).ran k)
+
+pub returns : goal.returns
+unfolding bump_while while_round trivia_to
+returns c =
+    let l = c.args.last in
+    let i = c.loop-k.invariant in
+    let e = sym (at_by (trivia_to l) _ refl c.is_trivia_to.ensures c.current.ensures) ∙ c.loop-k-test.false in
+    record { ran = λ dm ds. ((i dm ds).on _ _ (scan_stop (while_round (trivia_to l)) true (ap (λ u. cond u (go true) stop) e))).ran }

@@ -1,0 +1,12 @@
+-- `parser::kinds::expects_continuation_operand` meets its contract: one computed test of the set's bits. Assumes nothing.
+use mathlib.Core.Path.{◌∙◌}
+use borrow.Author.Rules.{rules}
+use mathlib.Core.List.{[], ◌∷◌}
+use Rattle.lexer.specs.Syntax.{Dot, Equal, Comma, DotDot, DotDotDot, Colon, ColonColon, RArrow, Plus, Minus, Star, Slash, SlashSlash, LBracket, LParen, LBrace}
+use Rattle.grammar.specs.Look.{one_of}
+use Rattle.parser.specs.Sets.{bits_are}
+use Rattle.parser.proofs.kinds.expects_continuation_operand.Goals as goal
+
+pub returns : goal.returns
+unfolding one_of
+returns c = c.in_set.ensures ∙ bits_are _ (Dot ∷ Equal ∷ Comma ∷ DotDot ∷ DotDotDot ∷ Colon ∷ ColonColon ∷ RArrow ∷ Plus ∷ Minus ∷ Star ∷ Slash ∷ SlashSlash ∷ LBracket ∷ LParen ∷ LBrace ∷ []) c.args.k tt tt

@@ -1,0 +1,12 @@
+-- `parser::kinds::is_non_comment_trivia` meets its contract: one computed test of the run. Assumes nothing.
+use mathlib.Core.Path.{◌∙◌}
+use borrow.Author.Rules.{rules}
+use mathlib.Core.List.{[], ◌∷◌}
+use Rattle.lexer.specs.Syntax.{Whitespace, Newline}
+use Rattle.grammar.specs.Look.{one_of}
+use Rattle.parser.specs.Sets.{trivia_to, trivia_is}
+use Rattle.parser.proofs.kinds.is_non_comment_trivia.Goals as goal
+
+pub returns : goal.returns
+unfolding one_of trivia_to
+returns c = c.is_trivia_to.ensures ∙ trivia_is _ (Whitespace ∷ Newline ∷ []) c.args.k tt tt

@@ -1,0 +1,13 @@
+-- `refusals::main` is safe: its source has its length. Assumes nothing.
+use mathlib.Core.Path.{sym}
+use Prim.Native.Nat.{ℕ, ◌+◌}
+use lib.ListN.{length-replicate}
+use Rattle.lexer.specs.Tokens.{MAX_SOURCE}
+use borrow.Author.Rules.{rules}
+use Rattle.refusals.proofs.main.Goals as goal
+
+pub slice_bounds-put_calls-end : goal.slice_bounds-put_calls-end
+slice_bounds-put_calls-end c = sym (length-replicate {0} {A = ℕ} (MAX_SOURCE + 1) 32)
+
+pub slice_bounds-put_calls-end-4 : goal.slice_bounds-put_calls-end-4
+slice_bounds-put_calls-end-4 c = sym (length-replicate {0} {A = ℕ} 4096 0)

@@ -1,0 +1,14 @@
+-- `utf8::ascii::ascii_end` meets its contract: each block passed is 64 characters. Assumes nothing.
+use Prim.Native.Nat.{◌-◌}
+use native.Mathlib.Omega.{arith}
+use borrow.Author.Rules.{rules}
+use lib.ListN.{length}
+use Rattle.utf8.specs.Passes.{Passes}
+use Rattle.utf8.proofs.Laws.{passes_none, passes_both, passes_ascii}
+use Rattle.utf8.proofs.ascii.ascii_end.Given as goal
+
+abbrev pub invariant-loop-at : goal.invariant-loop-at
+invariant-loop-at l = Passes l.source l.from l.at
+
+abbrev pub decreases-loop-at : goal.decreases-loop-at
+decreases-loop-at l = length l.source - l.at
