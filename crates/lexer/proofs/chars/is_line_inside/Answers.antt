@@ -1,7 +1,6 @@
 -- `lexer::chars::is_line_inside` meets its contract. Assumes nothing.
 use mathlib.Core.Path.{ap}
 use mathlib.Core.Bool.{not}
-use borrow.Author.Rules.{rules}
 use Rattle.lexer.proofs.Tests.{and_yes, and_no}
 use Rattle.lexer.proofs.chars.is_line_inside.Goals as goal
 

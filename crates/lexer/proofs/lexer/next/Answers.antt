@@ -9,7 +9,6 @@ use Rattle.lexer.specs.Chars.{class}
 use Rattle.lexer.specs.Lexer.{arm, next}
 use Rattle.lexer.specs.Code.{placed}
 use Rattle.lexer.proofs.Laws.{one_here}
-use borrow.Author.Rules.{rules}
 use Rattle.lexer.proofs.lexer.next.Goals as goal
 
 -- the arm of the class that the table gives
