@@ -1,7 +1,7 @@
 -- What it means that the code, a cursor and the slices, stands for a state of the definition; and the forms of the contracts over it.
 -- Assumes nothing: these are definitions.
 use Rattle.std.specs.Prelude.{◌≡◌, List, map, ℕ, ◌+◌, ◌≤◌, ◌<◌, ◌^◌, length, get_or}
-use denote.MutBor.{MutBor}
+use Rattle.std.specs.Borrow.{MutBor}
 use denote.Triple.Both.{Both}
 use Rattle.room.specs.Over.{over}
 use Rattle.lexer.specs.Syntax
