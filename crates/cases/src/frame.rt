@@ -4,8 +4,9 @@ ghost use Rattle.frames.specs.Ready.{Ready};
 
 use crate::{lexing, reading};
 use frames::header::frame_number;
+use frames::input::read_input;
 use frames::output;
-use libc::STDIN_FILENO;
+use std::io::Read;
 
 // The parts: the lexer alone, the whole reading, and the text of `tree`.
 const LEXER: usize = 0;
@@ -23,6 +24,7 @@ pub struct Step {
 
 // Answers a source.
 fn answer(
+    rt: &impl Print,
     part: usize,
     source: &[u8],
     kinds: &mut [u16],
@@ -38,20 +40,22 @@ fn answer(
     ensures { Ready result out.new }
 {
     if part == LEXER {
-        return lexing::put_lexing(source, kinds, ends, out, used);
+        return lexing::put_lexing(rt, source, kinds, ends, out, used);
     }
     if part == READING {
         return reading::put_reading(
-            source, kinds, ends, events, messages, starts, stops, out, used,
+            rt, source, kinds, ends, events, messages, starts, stops, out, used,
         );
     }
     show::put_tree(
-        source, kinds, ends, events, messages, starts, stops, out, used,
+        rt, source, kinds, ends, events, messages, starts, stops, out, used,
     )
 }
 
 // Reads the source and answers it.
 fn body(
+    rt: &impl Print,
+    from: &mut impl Read,
     part: usize,
     source: &mut [u8],
     kinds: &mut [u16],
@@ -66,18 +70,20 @@ fn body(
     requires { Ready used out.old }
     ensures { Ready result.used out.new }
 {
-    let got = io::read_full(STDIN_FILENO, source);
+    let got = read_input(from, source).got;
     if got < source.len() {
         return Step { used, more: false };
     }
     let used = answer(
-        part, source, kinds, ends, events, messages, starts, stops, out, used,
+        rt, part, source, kinds, ends, events, messages, starts, stops, out, used,
     );
     Step { used, more: true }
 }
 
 // Cuts the slices of events and diagnostics to what the header asks for.
 fn cut_output(
+    rt: &impl Print,
+    from: &mut impl Read,
     head: &[u8],
     source: &mut [u8],
     kinds: &mut [u16],
@@ -101,6 +107,8 @@ fn cut_output(
         return Step { used, more: false };
     }
     body(
+        rt,
+        from,
         part,
         source,
         kinds,
@@ -116,6 +124,8 @@ fn cut_output(
 
 // Cuts the source and the slices of tokens.
 fn cut_tokens(
+    rt: &impl Print,
+    from: &mut impl Read,
     head: &[u8],
     source: &mut [u8],
     kinds: &mut [u16],
@@ -137,6 +147,8 @@ fn cut_tokens(
         return Step { used, more: false };
     }
     cut_output(
+        rt,
+        from,
         head,
         &mut source[..n],
         &mut kinds[..k],
@@ -152,6 +164,8 @@ fn cut_tokens(
 
 // One frame, or none where the input ends, there is no such part, or a number is too large.
 fn frame(
+    rt: &impl Print,
+    from: &mut impl Read,
     source: &mut [u8],
     kinds: &mut [u16],
     ends: &mut [u32],
@@ -166,17 +180,19 @@ fn frame(
     ensures { Ready result.used out.new }
 {
     let mut head = [0u8; 32];
-    let got = io::read_full(STDIN_FILENO, &mut head);
+    let got = read_input(from, &mut head).got;
     if got < 32 || TREE < frame_number(&head, 0) {
         return Step { used, more: false };
     }
     cut_tokens(
-        &head, source, kinds, ends, events, messages, starts, stops, out, used,
+        rt, from, &head, source, kinds, ends, events, messages, starts, stops, out, used,
     )
 }
 
 // All frames; how much of the buffer is used at the end. The count makes the loop end, and no input has as many frames.
 fn frames(
+    rt: &impl Print,
+    from: &mut impl Read,
     source: &mut [u8],
     kinds: &mut [u16],
     ends: &mut [u32],
@@ -192,7 +208,7 @@ fn frames(
     let mut used = 0;
     for i in 0usize..1000000000000 {
         let step = frame(
-            source, kinds, ends, events, messages, starts, stops, out, used,
+            rt, from, source, kinds, ends, events, messages, starts, stops, out, used,
         );
         used = step.used;
         if !step.more {
@@ -203,6 +219,8 @@ fn frames(
 }
 
 pub fn run_cases(
+    rt: &impl Print,
+    from: &mut impl Read,
     source: &mut [u8],
     kinds: &mut [u16],
     ends: &mut [u32],
@@ -214,6 +232,8 @@ pub fn run_cases(
 )
     requires { Ready 0 out.old }
 {
-    let used = frames(source, kinds, ends, events, messages, starts, stops, out);
-    output::flush(out, used);
+    let used = frames(
+        rt, from, source, kinds, ends, events, messages, starts, stops, out,
+    );
+    output::flush(rt, out, used);
 }

@@ -7,17 +7,18 @@ use lexer::MAX_SOURCE;
 use utf8::Utf8;
 
 // The first line of an answer.
-fn put_status(out: &mut [u8], used: usize, status: usize, value: usize) -> usize
+fn put_status(rt: &impl Print, out: &mut [u8], used: usize, status: usize, value: usize) -> usize
     requires { Ready used out.old }
     ensures { Ready result out.new }
 {
-    let first = output::put_entry(out, used, 0, status);
-    let second = output::put_entry(out, first, 1, value);
-    output::put_byte(out, second, b'\n')
+    let first = output::put_entry(rt, out, used, 0, status);
+    let second = output::put_entry(rt, out, first, 1, value);
+    output::put_byte(rt, out, second, b'\n')
 }
 
 // 1 where the source is too long, 2 and the offset where it is not UTF-8, else 0 and the number of tokens.
 fn tokenize(
+    rt: &impl Print,
     source: &[u8],
     kinds: &mut [u16],
     ends: &mut [u32],
@@ -28,19 +29,20 @@ fn tokenize(
     ensures { Ready result out.new }
 {
     if MAX_SOURCE < source.len() {
-        return put_status(out, used, 1, 0);
+        return put_status(rt, out, used, 1, 0);
     }
     match utf8::validate(source) {
-        Utf8::At(n) => put_status(out, used, 2, n),
+        Utf8::At(n) => put_status(rt, out, used, 2, n),
         Utf8::Valid => {
             let t = lexer::tokenize(source, kinds, ends);
-            put_status(out, used, 0, t)
+            put_status(rt, out, used, 0, t)
         }
     }
 }
 
 // The three lines of an answer.
 pub fn put_lexing(
+    rt: &impl Print,
     source: &[u8],
     kinds: &mut [u16],
     ends: &mut [u32],
@@ -52,7 +54,7 @@ pub fn put_lexing(
 {
     fill_u16(kinds);
     fill_u32(ends);
-    let first = tokenize(source, kinds, ends, out, used);
-    let second = output::put_u16(out, first, kinds);
-    output::put_u32(out, second, ends)
+    let first = tokenize(rt, source, kinds, ends, out, used);
+    let second = output::put_u16(rt, out, first, kinds);
+    output::put_u32(rt, out, second, ends)
 }

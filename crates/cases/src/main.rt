@@ -9,7 +9,7 @@ mod lexing;
 mod reading;
 
 // The slices stand on the stack, all together in less than the 8 MiB that a process is given.
-fn main() {
+fn main(rt: HostRuntime) {
     let mut source = [0u8; MAX_SOURCE + 1];
     let mut kinds = [0u16; 262144];
     let mut ends = [0u32; 262144];
@@ -19,6 +19,8 @@ fn main() {
     let mut stops = [0u32; 262144];
     let mut out = [0u8; 65536];
     frame::run_cases(
+        &rt,
+        &mut rt.stdin(),
         &mut source,
         &mut kinds,
         &mut ends,

@@ -6,20 +6,21 @@ use frames::fill::{fill_u16, fill_u32};
 use frames::output;
 
 // The four numbers of document 01's answer.
-fn put_answer(out: &mut [u8], used: usize, answer: Answer) -> usize
+fn put_answer(rt: &impl Print, out: &mut [u8], used: usize, answer: Answer) -> usize
     requires { Ready used out.old }
     ensures { Ready result out.new }
 {
     let row = numbers(answer);
-    let first = output::put_entry(out, used, 0, row.status as usize);
-    let second = output::put_entry(out, first, 1, row.first as usize);
-    let third = output::put_entry(out, second, 2, row.second as usize);
-    let last = output::put_entry(out, third, 3, row.third as usize);
-    output::put_byte(out, last, b'\n')
+    let first = output::put_entry(rt, out, used, 0, row.status as usize);
+    let second = output::put_entry(rt, out, first, 1, row.first as usize);
+    let third = output::put_entry(rt, out, second, 2, row.second as usize);
+    let last = output::put_entry(rt, out, third, 3, row.third as usize);
+    output::put_byte(rt, out, last, b'\n')
 }
 
 // The lines of the slices of tokens and events.
 fn put_tree_slices(
+    rt: &impl Print,
     out: &mut [u8],
     used: usize,
     kinds: &[u16],
@@ -29,13 +30,14 @@ fn put_tree_slices(
     requires { Ready used out.old }
     ensures { Ready result out.new }
 {
-    let first = output::put_u16(out, used, kinds);
-    let second = output::put_u32(out, first, ends);
-    output::put_u16(out, second, events)
+    let first = output::put_u16(rt, out, used, kinds);
+    let second = output::put_u32(rt, out, first, ends);
+    output::put_u16(rt, out, second, events)
 }
 
 // The lines of the slices of diagnostics.
 fn put_diagnostic_slices(
+    rt: &impl Print,
     out: &mut [u8],
     used: usize,
     messages: &[u16],
@@ -45,9 +47,9 @@ fn put_diagnostic_slices(
     requires { Ready used out.old }
     ensures { Ready result out.new }
 {
-    let first = output::put_u16(out, used, messages);
-    let second = output::put_u32(out, first, starts);
-    output::put_u32(out, second, stops)
+    let first = output::put_u16(rt, out, used, messages);
+    let second = output::put_u32(rt, out, first, starts);
+    output::put_u32(rt, out, second, stops)
 }
 
 // Fills the slices.
@@ -69,6 +71,7 @@ fn fill(
 
 // The seven lines of an answer.
 pub fn put_reading(
+    rt: &impl Print,
     source: &[u8],
     kinds: &mut [u16],
     ends: &mut [u32],
@@ -84,7 +87,7 @@ pub fn put_reading(
 {
     fill(kinds, ends, events, messages, starts, stops);
     let answer = cst::parse_text(source, kinds, ends, events, messages, starts, stops);
-    let first = put_answer(out, used, answer);
-    let second = put_tree_slices(out, first, kinds, ends, events);
-    put_diagnostic_slices(out, second, messages, starts, stops)
+    let first = put_answer(rt, out, used, answer);
+    let second = put_tree_slices(rt, out, first, kinds, ends, events);
+    put_diagnostic_slices(rt, out, second, messages, starts, stops)
 }

@@ -1,7 +1,7 @@
 // Standard input as far as a buffer has room, and whether a read failed.
-ghost use Rattle.io.specs.Counts.{IsPrefixLen};
+ghost use Rattle.frames.specs.Prefix.{IsPrefixLen};
 
-use libc::STDIN_FILENO;
+use std::io::Read;
 
 #[derive(Clone, Copy)]
 pub struct Input {
@@ -10,27 +10,28 @@ pub struct Input {
 }
 
 // Reads until the buffer is full, the input ends or a read fails.
-pub fn read_input(buf: &mut [u8]) -> Input
+pub fn read_input(from: &mut impl Read, buf: &mut [u8]) -> Input
     ensures { IsPrefixLen result.got buf.new }
 {
     let mut done = 0;
     while done < buf.len() {
-        let rest = &mut buf[done..];
-        let more = libc::read(STDIN_FILENO, rest);
-        if more < 0 {
-            return Input {
-                got: done,
-                failed: true,
-            };
+        match from.read(&mut buf[done..]) {
+            Err(_) => {
+                return Input {
+                    got: done,
+                    failed: true,
+                };
+            }
+            Ok(n) => {
+                if n == 0 {
+                    return Input {
+                        got: done,
+                        failed: false,
+                    };
+                }
+                done += n;
+            }
         }
-        let n = io::count(more, rest);
-        if n == 0 {
-            return Input {
-                got: done,
-                failed: false,
-            };
-        }
-        done += n;
     }
     Input {
         got: done,

@@ -7,21 +7,27 @@ use frames::output;
 use lexer::MAX_SOURCE;
 
 // The counts, behind the status.
-fn put_counts(out: &mut [u8], used: usize, counts: &[u64]) -> usize
+fn put_counts(rt: &impl Print, out: &mut [u8], used: usize, counts: &[u64]) -> usize
     requires { Ready used out.old }
     ensures { Ready result out.new }
 {
     let mut at = used;
     let mut i = 0;
     while i < counts.len() {
-        at = output::put_entry(out, at, 1, counts[i] as usize);
+        at = output::put_entry(rt, out, at, 1, counts[i] as usize);
         i += 1;
     }
-    output::put_byte(out, at, b'\n')
+    output::put_byte(rt, out, at, b'\n')
 }
 
 // One call: its status and counts, then the slices of tokens and events, each a line.
-fn put_call(source: &[u8], counts: &mut [u64], out: &mut [u8], used: usize) -> usize
+fn put_call(
+    rt: &impl Print,
+    source: &[u8],
+    counts: &mut [u64],
+    out: &mut [u8],
+    used: usize,
+) -> usize
     requires { Ready used out.old }
     ensures { Ready result out.new }
 {
@@ -41,15 +47,21 @@ fn put_call(source: &[u8], counts: &mut [u64], out: &mut [u8], used: usize) -> u
         &mut stops,
         counts,
     );
-    let first = output::put_number(out, used, status as usize);
-    let second = put_counts(out, first, counts);
-    let third = output::put_u16(out, second, &kinds);
-    let fourth = output::put_u32(out, third, &ends);
-    output::put_u16(out, fourth, &events)
+    let first = output::put_number(rt, out, used, status as usize);
+    let second = put_counts(rt, out, first, counts);
+    let third = output::put_u16(rt, out, second, &kinds);
+    let fourth = output::put_u32(rt, out, third, &ends);
+    output::put_u16(rt, out, fourth, &events)
 }
 
 // The call on all of a source but its last byte.
-fn put_shorter(source: &[u8], counts: &mut [u64], out: &mut [u8], used: usize) -> usize
+fn put_shorter(
+    rt: &impl Print,
+    source: &[u8],
+    counts: &mut [u64],
+    out: &mut [u8],
+    used: usize,
+) -> usize
     requires { Ready used out.old }
     ensures { Ready result out.new }
 {
@@ -57,23 +69,23 @@ fn put_shorter(source: &[u8], counts: &mut [u64], out: &mut [u8], used: usize) -
         return used;
     }
     let most = source.len() - 1;
-    put_call(&source[..most], counts, out, used)
+    put_call(rt, &source[..most], counts, out, used)
 }
 
 // The three calls: counts of two words, the whole source, and all of it but one byte.
-fn put_calls(source: &mut [u8], two: &mut [u64], three: &mut [u64], out: &mut [u8])
+fn put_calls(rt: &impl Print, source: &mut [u8], two: &mut [u64], three: &mut [u64], out: &mut [u8])
     requires { Ready 0 out.old }
 {
-    let first = put_call(source, two, out, 0);
-    let second = put_call(source, three, out, first);
-    let third = put_shorter(source, three, out, second);
-    output::flush(out, third);
+    let first = put_call(rt, source, two, out, 0);
+    let second = put_call(rt, source, three, out, first);
+    let third = put_shorter(rt, source, three, out, second);
+    output::flush(rt, out, third);
 }
 
-fn main() {
+fn main(rt: HostRuntime) {
     let mut source = [32u8; MAX_SOURCE + 1];
     let mut two = [7u64; 2];
     let mut three = [7u64; 3];
     let mut out = [0u8; 4096];
-    put_calls(&mut source, &mut two, &mut three, &mut out);
+    put_calls(&rt, &mut source, &mut two, &mut three, &mut out);
 }

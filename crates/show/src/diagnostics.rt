@@ -68,6 +68,7 @@ fn advance(source: &[u8], spot: Spot, to: usize) -> Spot
 
 // The bytes from `start` to `end`, as far as they are in the source, behind the message.
 fn put_said(
+    rt: &impl Print,
     out: &mut [u8],
     used: usize,
     source: &[u8],
@@ -84,10 +85,11 @@ fn put_said(
     if source.len() < end {
         return used;
     }
-    put_message(out, used, message, &source[start..end])
+    put_message(rt, out, used, message, &source[start..end])
 }
 
 fn put_diagnostic(
+    rt: &impl Print,
     source: &[u8],
     spot: Spot,
     message: usize,
@@ -99,18 +101,19 @@ fn put_diagnostic(
     requires { Ready used out.old }
     ensures { Ready result out.new }
 {
-    let head = output::put_text(out, used, b"!");
-    let first = output::put_entry(out, head, 1, spot.line);
-    let second = output::put_entry(out, first, 2, spot.column);
-    let third = output::put_entry(out, second, 3, start);
-    let fourth = output::put_entry(out, third, 4, end);
-    let space = output::put_byte(out, fourth, b' ');
-    let last = put_said(out, space, source, message, start, end);
-    output::put_byte(out, last, b'\n')
+    let head = output::put_text(rt, out, used, b"!");
+    let first = output::put_entry(rt, out, head, 1, spot.line);
+    let second = output::put_entry(rt, out, first, 2, spot.column);
+    let third = output::put_entry(rt, out, second, 3, start);
+    let fourth = output::put_entry(rt, out, third, 4, end);
+    let space = output::put_byte(rt, out, fourth, b' ');
+    let last = put_said(rt, out, space, source, message, start, end);
+    output::put_byte(rt, out, last, b'\n')
 }
 
 // Diagnostics stand in the order of their places, so the source is gone through once.
 pub fn put_diagnostics(
+    rt: &impl Print,
     source: &[u8],
     messages: &[u16],
     starts: &[u32],
@@ -133,7 +136,7 @@ pub fn put_diagnostics(
         let start = at_u32(starts, i);
         let end = at_u32(stops, i);
         spot = advance(source, spot, start);
-        at = put_diagnostic(source, spot, message, start, end, out, at);
+        at = put_diagnostic(rt, source, spot, message, start, end, out, at);
         i += 1;
     }
     at

@@ -14,32 +14,45 @@ const ERROR_TOKEN: u16 = 60;
 const ERROR: u16 = 1;
 
 // `= kind start end`.
-fn put_token(out: &mut [u8], used: usize, event: u16, start: usize, end: usize) -> usize
+fn put_token(
+    rt: &impl Print,
+    out: &mut [u8],
+    used: usize,
+    event: u16,
+    start: usize,
+    end: usize,
+) -> usize
     requires { Ready used out.old }
     ensures { Ready result out.new }
 {
     let kind = if event == ERROR_TOKEN { ERROR } else { event };
-    let head = output::put_text(out, used, b"=");
-    let first = output::put_entry(out, head, 1, kind as usize);
-    let second = output::put_entry(out, first, 2, start);
-    let third = output::put_entry(out, second, 3, end);
-    output::put_byte(out, third, b'\n')
+    let head = output::put_text(rt, out, used, b"=");
+    let first = output::put_entry(rt, out, head, 1, kind as usize);
+    let second = output::put_entry(rt, out, first, 2, start);
+    let third = output::put_entry(rt, out, second, 3, end);
+    output::put_byte(rt, out, third, b'\n')
 }
 
 // `-`, or `+ kind`.
-fn put_node(out: &mut [u8], used: usize, event: u16) -> usize
+fn put_node(rt: &impl Print, out: &mut [u8], used: usize, event: u16) -> usize
     requires { Ready used out.old }
     ensures { Ready result out.new }
 {
     if event == CLOSE {
-        return output::put_text(out, used, b"-\n");
+        return output::put_text(rt, out, used, b"-\n");
     }
-    let head = output::put_text(out, used, b"+");
-    let at = output::put_entry(out, head, 1, event as usize);
-    output::put_byte(out, at, b'\n')
+    let head = output::put_text(rt, out, used, b"+");
+    let at = output::put_entry(rt, out, head, 1, event as usize);
+    output::put_byte(rt, out, at, b'\n')
 }
 
-pub fn put_events(ends: &[u32], events: &[u16], out: &mut [u8], used: usize) -> usize
+pub fn put_events(
+    rt: &impl Print,
+    ends: &[u32],
+    events: &[u16],
+    out: &mut [u8],
+    used: usize,
+) -> usize
     requires { Ready used out.old }
     ensures { Ready result out.new }
 {
@@ -51,11 +64,11 @@ pub fn put_events(ends: &[u32], events: &[u16], out: &mut [u8], used: usize) -> 
         let event = events[i];
         i += 1;
         if event < FIRST_TOKEN {
-            at = put_node(out, at, event);
+            at = put_node(rt, out, at, event);
             continue;
         }
         let end = at_u32(ends, token);
-        at = put_token(out, at, event, start, end);
+        at = put_token(rt, out, at, event, start, end);
         start = end;
         token += 1;
     }

@@ -16,7 +16,7 @@ mod message;
 const LONGEST: usize = 2048;
 
 // `ok` T E D, or `no` and the four numbers.
-fn put_row(out: &mut [u8], used: usize, row: FourNumbers) -> usize
+fn put_row(rt: &impl Print, out: &mut [u8], used: usize, row: FourNumbers) -> usize
     requires { Ready used out.old }
     ensures { Ready result out.new }
 {
@@ -24,26 +24,27 @@ fn put_row(out: &mut [u8], used: usize, row: FourNumbers) -> usize
     let first = row.first as usize;
     let second = row.second as usize;
     let third = row.third as usize;
-    let head = put_status(out, used, status);
-    let one = output::put_entry(out, head, 1, first);
-    let two = output::put_entry(out, one, 2, second);
-    let three = output::put_entry(out, two, 3, third);
-    output::put_byte(out, three, b'\n')
+    let head = put_status(rt, out, used, status);
+    let one = output::put_entry(rt, out, head, 1, first);
+    let two = output::put_entry(rt, out, one, 2, second);
+    let three = output::put_entry(rt, out, two, 3, third);
+    output::put_byte(rt, out, three, b'\n')
 }
 
-fn put_status(out: &mut [u8], used: usize, status: usize) -> usize
+fn put_status(rt: &impl Print, out: &mut [u8], used: usize, status: usize) -> usize
     requires { Ready used out.old }
     ensures { Ready result out.new }
 {
     if status == 0 {
-        return output::put_text(out, used, b"ok");
+        return output::put_text(rt, out, used, b"ok");
     }
-    let at = output::put_text(out, used, b"no ");
-    output::put_number(out, at, status)
+    let at = output::put_text(rt, out, used, b"no ");
+    output::put_number(rt, out, at, status)
 }
 
 // The first `e` events and `d` diagnostics, as far as the slices go.
 fn put_lists(
+    rt: &impl Print,
     source: &[u8],
     ends: &[u32],
     events: &[u16],
@@ -60,12 +61,13 @@ fn put_lists(
 {
     let e = least(e, events.len());
     let d = least(d, messages.len());
-    let at = events::put_events(ends, &events[..e], out, used);
-    diagnostics::put_diagnostics(source, &messages[..d], starts, stops, out, at)
+    let at = events::put_events(rt, ends, &events[..e], out, used);
+    diagnostics::put_diagnostics(rt, source, &messages[..d], starts, stops, out, at)
 }
 
 // What `tree` prints for a source, the slices being its room.
 pub fn put_tree(
+    rt: &impl Print,
     source: &[u8],
     kinds: &mut [u16],
     ends: &mut [u32],
@@ -80,15 +82,17 @@ pub fn put_tree(
     ensures { Ready result out.new }
 {
     if LONGEST < source.len() {
-        return output::put_text(out, used, b"long\n");
+        return output::put_text(rt, out, used, b"long\n");
     }
     let answer = cst::parse_text(source, kinds, ends, events, messages, starts, stops);
     let row = numbers(answer);
-    let at = put_row(out, used, row);
+    let at = put_row(rt, out, used, row);
     if row.status == 0 || row.status == 5 {
         let e = row.second as usize;
         let d = row.third as usize;
-        return put_lists(source, ends, events, messages, starts, stops, e, d, out, at);
+        return put_lists(
+            rt, source, ends, events, messages, starts, stops, e, d, out, at,
+        );
     }
     at
 }

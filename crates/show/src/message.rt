@@ -21,7 +21,7 @@ fn line_end(text: &[u8], from: usize) -> usize
 }
 
 // The line that has `n` lines before it.
-fn put_line(out: &mut [u8], used: usize, text: &[u8], n: usize) -> usize
+fn put_line(rt: &impl Print, out: &mut [u8], used: usize, text: &[u8], n: usize) -> usize
     requires { Ready used out.old }
     ensures { Ready result out.new }
 {
@@ -30,11 +30,11 @@ fn put_line(out: &mut [u8], used: usize, text: &[u8], n: usize) -> usize
         from = least(line_end(text, from) + 1, text.len());
     }
     let to = line_end(text, from);
-    put_text(out, used, &text[from..to])
+    put_text(rt, out, used, &text[from..to])
 }
 
 // A missing closer, by its owner: messages 1 to 7.
-fn put_missing(out: &mut [u8], used: usize, n: usize) -> usize
+fn put_missing(rt: &impl Print, out: &mut [u8], used: usize, n: usize) -> usize
     requires { Ready used out.old }
     ensures { Ready result out.new }
 {
@@ -46,23 +46,23 @@ fn put_missing(out: &mut [u8], used: usize, n: usize) -> usize
         expected `while` to close `do` block\n\
         expected `end` to close `do`..`while` loop\n\
         expected `end` to close `repeat`";
-    put_line(out, used, text, n)
+    put_line(rt, out, used, text, n)
 }
 
 // A recovery, by owner and boundary: messages 8 to 21.
-fn put_recovery(out: &mut [u8], used: usize, n: usize) -> usize
+fn put_recovery(rt: &impl Print, out: &mut [u8], used: usize, n: usize) -> usize
     requires { Ready used out.old }
     ensures { Ready result out.new }
 {
-    let at = put_missing(out, used, n / 2);
+    let at = put_missing(rt, out, used, n / 2);
     if n % 2 == 0 {
-        return put_text(out, at, b" before `else`");
+        return put_text(rt, out, at, b" before `else`");
     }
-    put_text(out, at, b" before top-level item")
+    put_text(rt, out, at, b" before top-level item")
 }
 
 // Of items: messages 22 to 35.
-fn put_item(out: &mut [u8], used: usize, n: usize) -> usize
+fn put_item(rt: &impl Print, out: &mut [u8], used: usize, n: usize) -> usize
     requires { Ready used out.old }
     ensures { Ready result out.new }
 {
@@ -81,11 +81,11 @@ fn put_item(out: &mut [u8], used: usize, n: usize) -> usize
         expected `)` to close advice-map key\n\
         expected `=` in advice-map declaration\n\
         expected a path segment after `::`";
-    put_line(out, used, text, n)
+    put_line(rt, out, used, text, n)
 }
 
 // Of procedures: messages 36 to 44.
-fn put_procedure(out: &mut [u8], used: usize, n: usize) -> usize
+fn put_procedure(rt: &impl Print, out: &mut [u8], used: usize, n: usize) -> usize
     requires { Ready used out.old }
     ensures { Ready result out.new }
 {
@@ -99,11 +99,11 @@ fn put_procedure(out: &mut [u8], used: usize, n: usize) -> usize
         expected `)` to close procedure parameters\n\
         expected `)` to close procedure results\n\
         expected a result type after `->` in procedure signature";
-    put_line(out, used, text, n)
+    put_line(rt, out, used, text, n)
 }
 
 // Of blocks and tokens: messages 45 to 53.
-fn put_block(out: &mut [u8], used: usize, n: usize) -> usize
+fn put_block(rt: &impl Print, out: &mut [u8], used: usize, n: usize) -> usize
     requires { Ready used out.old }
     ensures { Ready result out.new }
 {
@@ -117,11 +117,11 @@ fn put_block(out: &mut [u8], used: usize, n: usize) -> usize
         unexpected closing delimiter `)`\n\
         unexpected closing delimiter `]`\n\
         unexpected closing delimiter `}`";
-    put_line(out, used, text, n)
+    put_line(rt, out, used, text, n)
 }
 
 // The text of message n. An unrecognized token follows between backticks.
-pub fn put_message(out: &mut [u8], used: usize, n: usize, token: &[u8]) -> usize
+pub fn put_message(rt: &impl Print, out: &mut [u8], used: usize, n: usize, token: &[u8]) -> usize
     requires { Ready used out.old }
     ensures { Ready result out.new }
 {
@@ -129,29 +129,29 @@ pub fn put_message(out: &mut [u8], used: usize, n: usize, token: &[u8]) -> usize
         return used;
     }
     if n < 8 {
-        return put_missing(out, used, n - 1);
+        return put_missing(rt, out, used, n - 1);
     }
     if n < 22 {
-        return put_recovery(out, used, n - 8);
+        return put_recovery(rt, out, used, n - 8);
     }
     if n < 36 {
-        return put_item(out, used, n - 22);
+        return put_item(rt, out, used, n - 22);
     }
     if n < 45 {
-        return put_procedure(out, used, n - 36);
+        return put_procedure(rt, out, used, n - 36);
     }
-    let at = put_block(out, used, n - 45);
+    let at = put_block(rt, out, used, n - 45);
     if n == 50 {
-        return put_quoted(out, at, token);
+        return put_quoted(rt, out, at, token);
     }
     at
 }
 
-fn put_quoted(out: &mut [u8], used: usize, token: &[u8]) -> usize
+fn put_quoted(rt: &impl Print, out: &mut [u8], used: usize, token: &[u8]) -> usize
     requires { Ready used out.old }
     ensures { Ready result out.new }
 {
-    let first = put_text(out, used, b" `");
-    let second = put_text(out, first, token);
-    put_text(out, second, b"`")
+    let first = put_text(rt, out, used, b" `");
+    let second = put_text(rt, out, first, token);
+    put_text(rt, out, second, b"`")
 }

@@ -3,9 +3,8 @@
 
 use frames::input::read_input;
 use frames::output;
-use libc::STDOUT_FILENO;
 
-fn main() {
+fn main(rt: HostRuntime) {
     let mut source = [0u8; 2049];
     let mut kinds = [0u16; 2048];
     let mut ends = [0u32; 2048];
@@ -14,13 +13,14 @@ fn main() {
     let mut starts = [0u32; 2048];
     let mut stops = [0u32; 2048];
     let mut out = [0u8; 4096];
-    let input = read_input(&mut source);
+    let input = read_input(&mut rt.stdin(), &mut source);
     if input.failed {
-        io::write_all(STDOUT_FILENO, b"unread\n");
+        let _ = rt.write_all(b"unread\n");
         return;
     }
     let got = input.got;
     let used = show::put_tree(
+        &rt,
         &source[..got],
         &mut kinds,
         &mut ends,
@@ -31,5 +31,5 @@ fn main() {
         &mut out,
         0,
     );
-    output::flush(&out, used);
+    output::flush(&rt, &out, used);
 }

@@ -1,9 +1,7 @@
 -- `frames::fill::fill_u16` is safe and ends. Assumes nothing.
 use mathlib.Core.Path.{◌≡◌}
 use Prim.Native.Nat.{◌-◌}
-use native.Mathlib.Omega.{arith}
-use borrow.Author.Rules.{rules}
-use lib.ListN.{length, length-set}
+use lib.ListN.{length}
 use Rattle.frames.proofs.fill.fill_u16.Given as goal
 
 abbrev pub invariant-loop-i : goal.invariant-loop-i

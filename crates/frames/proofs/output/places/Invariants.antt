@@ -1,6 +1,5 @@
 -- `frames::output::places` ends, with 20 or less. Assumes nothing.
 use Prim.Native.Nat.{◌≤◌, ◌-◌}
-use borrow.Author.Rules.{rules}
 use Rattle.frames.proofs.output.places.Given as goal
 
 abbrev pub invariant-loop-rest : goal.invariant-loop-rest

@@ -1,8 +1,6 @@
 -- `frames::output::put_digits` is safe and ends. Assumes nothing.
-use mathlib.Core.Path.{◌≡◌}
-use Prim.Native.Nat.{◌≤◌}
 use borrow.Author.Rules.{rules}
-use lib.ListN.{length, length-set}
+use lib.ListN.{length-set}
 use Rattle.frames.proofs.output.put_digits.Goals as goal
 
 pub loop-left-preserved : goal.loop-left-preserved

@@ -1,8 +1,7 @@
 -- `frames::output::put_digits` is safe and ends. Assumes nothing.
 use mathlib.Core.Path.{◌≡◌}
 use Prim.Native.Nat.{◌≤◌}
-use borrow.Author.Rules.{rules}
-use lib.ListN.{length, length-set}
+use lib.ListN.{length}
 use Rattle.frames.proofs.output.put_digits.Given as goal
 
 abbrev pub invariant-loop-left : goal.invariant-loop-left

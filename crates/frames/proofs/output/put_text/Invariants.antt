@@ -1,13 +1,12 @@
 -- `frames::output::put_text` keeps the buffer ready. Assumes nothing.
 use mathlib.Core.Path.{◌≡◌}
 use Prim.Native.Nat.{◌≤◌, ◌-◌}
-use borrow.Author.Rules.{rules}
 use lib.ListN.{length}
 use Rattle.frames.specs.Ready.{Ready}
 use Rattle.frames.proofs.output.put_text.Given as goal
 
 abbrev pub invariant-loop-i : goal.invariant-loop-i
-invariant-loop-i l = Ready l.at l.out × (length l.out ≡ length l.initial.out) × (l.i ≤ length l.text)
+invariant-loop-i g l = Ready l.at l.out × (length l.out ≡ length l.initial.out) × (l.i ≤ length l.text)
 
 abbrev pub decreases-loop-i : goal.decreases-loop-i
-decreases-loop-i l = length l.text - l.i
+decreases-loop-i g l = length l.text - l.i
