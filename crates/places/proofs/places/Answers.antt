@@ -16,9 +16,6 @@ loop-i-init c = record {
   stops_done = refl;
 }
 
-pub overflow_cast-token : goal.overflow_cast-token
-overflow_cast-token c = omega (arith, c.slice_known-in-loop-i-1.given c.loop-i.i)
-
 pub loop-i-preserved : goal.loop-i-preserved
 loop-i-preserved c = goes_on c.loop-i.invariant c.loop-i-test.true _ _ c.start_of.ensures c.stop_of.ensures
 
