@@ -1,9 +1,7 @@
 -- `places::places` meets its contract. Assumes nothing.
-use Prim.Native.Nat.{◌-◌}
 use mathlib.Core.Path.{refl}
 use native.Mathlib.Omega.{arith}
-use borrow.Author.Rules.{rules}
-use Rattle.places.proofs.Going.{Going, goes_on, ended}
+use Rattle.places.proofs.Going.{goes_on, ended}
 use Rattle.places.proofs.places.Goals as goal
 
 pub loop-i-init : goal.loop-i-init
