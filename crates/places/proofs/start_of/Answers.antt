@@ -1,6 +1,5 @@
 -- `places::start_of` meets its contract. Assumes nothing.
 use mathlib.Core.Path.{sym}
-use borrow.Author.Rules.{rules}
 use Rattle.places.specs.Laws.{start_behind, start_first, start_later}
 use Rattle.places.proofs.start_of.Goals as goal
 
