@@ -87,59 +87,59 @@ inner_block-returns t c =
 
 pub parse_control_flow-parse_if-requires : goal.parse_control_flow-parse_if-requires
 parse_control_flow-parse_if-requires t c =
-    (omega (arith, c.requires), (at_here IF _ refl c.requires.1.0 c.if-k-eq-IF.true, omega (arith, c.requires)))
+    (omega (arith, c.requires), (at_here IF _ refl c.requires.0 c.if-k-eq-IF.true, omega (arith, c.requires)))
 
 pub parse_control_flow-returns-then-k-eq-IF : goal.parse_control_flow-returns-then-k-eq-IF
 unfolding parse_control_flow
 parse_control_flow-returns-then-k-eq-IF t c =
     record {
-      ran = yes_to _ _ refl (at_here IF _ refl c.requires.1.0 c.if-k-eq-IF.true) c.parse_if.ensures.ran;
+      ran = yes_to _ _ refl (at_here IF _ refl c.requires.0 c.if-k-eq-IF.true) c.parse_if.ensures.ran;
       past = c.parse_if.ensures.past;
       here = c.parse_if.ensures.here;
     }
 
 pub parse_control_flow-parse_do_while-requires : goal.parse_control_flow-parse_do_while-requires
 parse_control_flow-parse_do_while-requires t c =
-    (omega (arith, c.requires), (at_here DO _ refl c.requires.1.0 c.if-k-eq-DO.true, omega (arith, c.requires)))
+    (omega (arith, c.requires), (at_here DO _ refl c.requires.0 c.if-k-eq-DO.true, omega (arith, c.requires)))
 
 pub parse_control_flow-returns-then-k-eq-DO : goal.parse_control_flow-returns-then-k-eq-DO
 unfolding parse_control_flow
 parse_control_flow-returns-then-k-eq-DO t c =
-    let no-if = at_not IF _ refl c.requires.1.0 c.if-k-eq-IF.false in
+    let no-if = at_not IF _ refl c.requires.0 c.if-k-eq-IF.false in
     record {
-      ran = no_to _ _ refl no-if (yes_to _ _ refl (at_here DO _ refl c.requires.1.0 c.if-k-eq-DO.true) c.parse_do_while.ensures.ran);
+      ran = no_to _ _ refl no-if (yes_to _ _ refl (at_here DO _ refl c.requires.0 c.if-k-eq-DO.true) c.parse_do_while.ensures.ran);
       past = c.parse_do_while.ensures.past;
       here = c.parse_do_while.ensures.here;
     }
 
 pub parse_control_flow-parse_while-requires : goal.parse_control_flow-parse_while-requires
 parse_control_flow-parse_while-requires t c =
-    (omega (arith, c.requires), (at_here WHILE _ refl c.requires.1.0 c.if-k-eq-WHILE.true, omega (arith, c.requires)))
+    (omega (arith, c.requires), (at_here WHILE _ refl c.requires.0 c.if-k-eq-WHILE.true, omega (arith, c.requires)))
 
 pub parse_control_flow-returns-then-k-eq-WHILE : goal.parse_control_flow-returns-then-k-eq-WHILE
 unfolding parse_control_flow
 parse_control_flow-returns-then-k-eq-WHILE t c =
-    let no-if = at_not IF _ refl c.requires.1.0 c.if-k-eq-IF.false in
-    let no-do = at_not DO _ refl c.requires.1.0 c.if-k-eq-DO.false in
+    let no-if = at_not IF _ refl c.requires.0 c.if-k-eq-IF.false in
+    let no-do = at_not DO _ refl c.requires.0 c.if-k-eq-DO.false in
     record {
-      ran = no_to _ _ refl no-if (no_to _ _ refl no-do (yes_to _ _ refl (at_here WHILE _ refl c.requires.1.0 c.if-k-eq-WHILE.true) c.parse_while.ensures.ran));
+      ran = no_to _ _ refl no-if (no_to _ _ refl no-do (yes_to _ _ refl (at_here WHILE _ refl c.requires.0 c.if-k-eq-WHILE.true) c.parse_while.ensures.ran));
       past = c.parse_while.ensures.past;
       here = c.parse_while.ensures.here;
     }
 
 pub parse_control_flow-parse_repeat-requires : goal.parse_control_flow-parse_repeat-requires
 parse_control_flow-parse_repeat-requires t c =
-    let no-if = at_not IF _ refl c.requires.1.0 c.if-k-eq-IF.false in
-    let no-do = at_not DO _ refl c.requires.1.0 c.if-k-eq-DO.false in
-    let no-while = at_not WHILE _ refl c.requires.1.0 c.if-k-eq-WHILE.false in
-    (omega (arith, c.requires), (repeat_here _ c.requires.1.1 no-if no-do no-while, omega (arith, c.requires)))
+    let no-if = at_not IF _ refl c.requires.0 c.if-k-eq-IF.false in
+    let no-do = at_not DO _ refl c.requires.0 c.if-k-eq-DO.false in
+    let no-while = at_not WHILE _ refl c.requires.0 c.if-k-eq-WHILE.false in
+    (omega (arith, c.requires), (repeat_here _ c.requires.1 no-if no-do no-while, omega (arith, c.requires)))
 
 pub parse_control_flow-returns : goal.parse_control_flow-returns
 unfolding parse_control_flow
 parse_control_flow-returns t c =
-    let no-if = at_not IF _ refl c.requires.1.0 c.if-k-eq-IF.false in
-    let no-do = at_not DO _ refl c.requires.1.0 c.if-k-eq-DO.false in
-    let no-while = at_not WHILE _ refl c.requires.1.0 c.if-k-eq-WHILE.false in
+    let no-if = at_not IF _ refl c.requires.0 c.if-k-eq-IF.false in
+    let no-do = at_not DO _ refl c.requires.0 c.if-k-eq-DO.false in
+    let no-while = at_not WHILE _ refl c.requires.0 c.if-k-eq-WHILE.false in
     record {
       ran = no_to _ _ refl no-if (no_to _ _ refl no-do (no_to _ _ refl no-while c.parse_repeat.ensures.ran));
       past = c.parse_repeat.ensures.past;
@@ -147,7 +147,7 @@ parse_control_flow-returns t c =
     }
 
 pub parse_do_while-do_header-h-requires : goal.parse_do_while-do_header-h-requires
-parse_do_while-do_header-h-requires t c = c.requires.1.0
+parse_do_while-do_header-h-requires t c = c.requires.0
 
 pub parse_do_while-inner_block-b-requires : goal.parse_do_while-inner_block-b-requires
 parse_do_while-inner_block-b-requires t c =
@@ -189,7 +189,7 @@ parse_do_while-returns t c =
     formed _ (do_condition (parse_block limit) depth) c.do_header-h.ensures c.inner_block-b.ensures.ran end rest
 
 pub parse_if-if_header-h-requires : goal.parse_if-if_header-h-requires
-parse_if-if_header-h-requires t c = c.requires.1.0
+parse_if-if_header-h-requires t c = c.requires.0
 
 pub parse_if-inner_block-b-requires : goal.parse_if-inner_block-b-requires
 parse_if-inner_block-b-requires t c =
@@ -231,7 +231,7 @@ parse_if-returns t c =
     formed _ (else_part (parse_block limit) depth) c.if_header-h.ensures c.inner_block-b.ensures.ran end rest
 
 pub parse_repeat-repeat_header-h-requires : goal.parse_repeat-repeat_header-h-requires
-parse_repeat-repeat_header-h-requires t c = c.requires.1.0
+parse_repeat-repeat_header-h-requires t c = c.requires.0
 
 pub parse_repeat-inner_block-b-requires : goal.parse_repeat-inner_block-b-requires
 parse_repeat-inner_block-b-requires t c =
@@ -247,7 +247,7 @@ parse_repeat-returns t c =
     formed _ (λ o. ended BlockOwner.Repeat o) c.repeat_header-h.ensures c.inner_block-b.ensures.ran end end.ran
 
 pub parse_while-while_header-h-requires : goal.parse_while-while_header-h-requires
-parse_while-while_header-h-requires t c = c.requires.1.0
+parse_while-while_header-h-requires t c = c.requires.0
 
 pub parse_while-inner_block-b-requires : goal.parse_while-inner_block-b-requires
 parse_while-inner_block-b-requires t c =
