@@ -50,7 +50,7 @@ pub fn parse_block(
 }
 
 // A block: parse_block calls this from outside the cycle, inner_block from inside.
-#[cycle(block_from_inner_block_parse_control_flow_parse_do_while_parse_if_parse_repeat_parse_while)]
+#[cycle(forms)]
 fn block_from(
     kinds: &[u16],
     ev: &mut [u16],
@@ -85,7 +85,7 @@ fn block_from(
 }
 
 // The form that starts here; k is its keyword.
-#[cycle(block_from_inner_block_parse_control_flow_parse_do_while_parse_if_parse_repeat_parse_while)]
+#[cycle(forms)]
 fn parse_control_flow(
     kinds: &[u16],
     ev: &mut [u16],
@@ -114,7 +114,7 @@ fn parse_control_flow(
 
 // A block inside a form. All calls of the forms go through here, so that a frame has room for the arguments of one; parse_block has
 // the same body, since a call of this from outside would make the frame larger.
-#[cycle(block_from_inner_block_parse_control_flow_parse_do_while_parse_if_parse_repeat_parse_while)]
+#[cycle(forms)]
 fn inner_block(
     kinds: &[u16],
     ev: &mut [u16],
@@ -141,7 +141,7 @@ fn inner_block(
     block_from(kinds, ev, dm, ds, start)
 }
 
-#[cycle(block_from_inner_block_parse_control_flow_parse_do_while_parse_if_parse_repeat_parse_while)]
+#[cycle(forms)]
 fn parse_if(
     kinds: &[u16],
     ev: &mut [u16],
@@ -184,7 +184,7 @@ fn parse_if(
     finish(kinds, ev, dm, ds, b, BlockOwner::If)
 }
 
-#[cycle(block_from_inner_block_parse_control_flow_parse_do_while_parse_if_parse_repeat_parse_while)]
+#[cycle(forms)]
 fn parse_while(
     kinds: &[u16],
     ev: &mut [u16],
@@ -211,7 +211,7 @@ fn parse_while(
     finish(kinds, ev, dm, ds, b, BlockOwner::While)
 }
 
-#[cycle(block_from_inner_block_parse_control_flow_parse_do_while_parse_if_parse_repeat_parse_while)]
+#[cycle(forms)]
 fn parse_do_while(
     kinds: &[u16],
     ev: &mut [u16],
@@ -254,7 +254,7 @@ fn parse_do_while(
     finish(kinds, ev, dm, ds, b, BlockOwner::DoWhile)
 }
 
-#[cycle(block_from_inner_block_parse_control_flow_parse_do_while_parse_if_parse_repeat_parse_while)]
+#[cycle(forms)]
 fn parse_repeat(
     kinds: &[u16],
     ev: &mut [u16],

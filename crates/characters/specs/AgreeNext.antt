@@ -1,6 +1,6 @@
 -- `next` over bytes goes by the class of its byte, over characters by the match of lexer.rs: they say the same.
 -- Assumes nothing.
-use Rattle.std.specs.Prelude.{ℕ, suc, pred, ◌≤◌, ◌<◌, ◌≡◌, refl, Bool, true, false, ◌||◌, cond, List, [], ◌++◌, eqb, length, take}
+use Rattle.std.specs.Prelude.{ℕ, suc, pred, ◌≤◌, ◌<◌, ◌≡◌, refl, Bool, true, false, ◌||◌, cond, List, ◌++◌, eqb, length, take}
 use Rattle.std.proofs.Common.{sym, ap, ◌∙◌, true≢false, arith, eqb-true}
 use Rattle.std.proofs.Math.Seq.{take-append_seam}
 use Rattle.utf8.specs.Width.{width, width_one}

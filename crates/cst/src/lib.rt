@@ -64,7 +64,6 @@ pub fn parse_text(
 }
 
 // The unit's call: the status, and the other three numbers in the first words of `counts`.
-#[unsafe(no_mangle)]
 pub extern "C" fn masm_parse_text(
     source: &[u8],
     kinds: &mut [u16],

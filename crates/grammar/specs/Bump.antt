@@ -5,7 +5,7 @@ use Rattle.std.specs.Prelude.{Bool, true, false, cond, List}
 use Rattle.lexer.specs.Syntax.{Whitespace}
 use Rattle.grammar.specs.Words.{Sym, is}
 use Rattle.grammar.specs.Look.{at, at_kind, at_name_like, regular_trivia, non_comment_trivia}
-use Rattle.grammar.specs.Run.{Error, P, pure, in_node, ◌>>=◌, ◌>>◌, if◌then◌else◌, take_token, err, Round, stop, go, scan}
+use Rattle.grammar.specs.Run.{Error, P, pure, in_node, ◌>>◌, if◌then◌else◌, take_token, err, Round, stop, go, scan}
 use Rattle.grammar.specs.Message.{Message, number}
 
 abbrev pub bump : P Bool

@@ -1,7 +1,7 @@
 -- What it means that the code, a cursor and the slices, stands for a state of the definition; and the forms of the contracts over it.
 -- Assumes nothing: these are definitions.
 use Rattle.std.specs.Prelude.{◌≡◌, List, map, ℕ, ◌+◌, ◌≤◌, ◌<◌, ◌^◌, length, get_or}
-use Rattle.std.specs.Borrow.{Bor}
+use Rattle.std.specs.Borrow.{MutBor}
 use denote.Triple.Both.{Both}
 use Rattle.room.specs.Over.{over}
 use Rattle.lexer.specs.Syntax
@@ -24,7 +24,7 @@ world ev dm ds c = record { ev = ev; dm = dm; ds = ds; c = c }
 
 -- in a contract: the world at entry, and at exit
 abbrev pub Lent : Type 0
-Lent = Both (Bor (List ℕ)) (Bor (List ℕ))
+Lent = Both (MutBor (List ℕ)) (MutBor (List ℕ))
 
 abbrev pub entry : Lent → Lent → Lent → Cursor → World
 entry ev dm ds c = world ev.entry.now dm.entry.now ds.entry.now c

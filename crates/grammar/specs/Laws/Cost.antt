@@ -277,7 +277,7 @@ module _ {p : Price} {c : ℕ} {f : P Bool} (F : Rounds p c f) (E : Truly f) whe
 module _ (p : Price) (k : Sym) (m : Message) (e : ℕ) (h : (s : Sym) → is k s ≡ true → p.of_leaf s + e ≤ p.pay) where
   pub expect_true : (r : List Sym) → (expect_kind k m r).val ≡ true → weigh p (expect_kind k m r).out + p.pay * length (expect_kind k m r).rest + e ≤ p.pay * length r
   unfolding expect_kind ◌>>=◌ peek at take_token err pure
-  expect_true r i = c (bump_while regular_trivia r).rest ((cost_while regular_trivia).cost r refl) i
+  expect_true r i = c (bump_while regular_trivia r).rest ((cost_while {p = p} regular_trivia).cost r refl) i
     where
       key : List Sym → Res Bool
       key l = pick (at (is k) l) (take_token >> pure true) (err (number m) >> pure false) l

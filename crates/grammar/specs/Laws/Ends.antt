@@ -1,17 +1,17 @@
 -- A procedure or begin block whose `end` is the last token but a newline does the same in a file that goes on.
 -- Assumes nothing.
-use Rattle.std.specs.Prelude.{ℕ, ◌≡◌, Bool, cond, ◌&&◌}
+use Rattle.std.specs.Prelude.{ℕ, ◌≡◌, Bool, cond, not, ◌&&◌}
 use Rattle.std.proofs.Math.Path.{refl}
 use Rattle.std.proofs.Common.{sym, ◌∙◌, ap, ap₂, subst, true≢false, arith}
 use Rattle.std.proofs.Math.Bool.{true, false, and-false}
 use Rattle.std.proofs.lemmas.Bool.{false≢true}
 use mathlib.Core.List.{List, [], ◌∷◌, ◌++◌}
 use Rattle.lexer.specs.Syntax.{Newline, DocComment, LParen, RParen}
-use Rattle.grammar.specs.Words.{Sym, is, ADV_MAP, BEGIN, CONST, END, ENUM, MOD, NAMESPACE, TYPE}
+use Rattle.grammar.specs.Words.{Sym, is, ADV_MAP, BEGIN, CONST, END, ENUM, MOD, NAMESPACE, PROC, TYPE}
 use Rattle.grammar.specs.Look.{one_of, regular_trivia, at, next_relevant_top_level_token}
 use Rattle.grammar.specs.Run.{Kind, Block, Procedure, BeginBlock, Doc, nil, leaf, leaves, Res, P, pure, peek, in_node, pick, ◌>>=◌, ◌>>◌, if◌then◌else◌, take_token, err, stop, go, turn, scan}
-use Rattle.grammar.specs.Message.{Message, number}
-use Rattle.grammar.specs.Bump.{while_round, bump_while, bump_regular_trivia, expect_kind, error_token}
+use Rattle.grammar.specs.Message.{Message, ExpectedProc, number}
+use Rattle.grammar.specs.Bump.{nop, while_round, bump_while, bump_regular_trivia, expect_kind, error_token}
 use Rattle.grammar.specs.Block.{BlockOwner, Terminators, BlockParseOutcome, closing, parse_block}
 use Rattle.grammar.specs.Item.{procedure_body, parse_procedure, parse_begin_block, parse_namespace, parse_submodule, parse_constant, parse_type_decl, parse_advice_map, at_declaration, at_procedure, parse_source_item}
 use Rattle.grammar.specs.Laws.Ahead.{Tail, here, Cond, more}
@@ -189,10 +189,11 @@ module _ (b : List Sym) (side : at (is RParen) (next_relevant_top_level_token b)
       (ends_bind (good_while _) (λ a. ends
       (ends_bind good_visibility (λ a. ends
       (ends_bind (good_while _) (λ a. ends
-      (ends_bind (good_expect _ _) (λ declared. elim declared [
-        | true ↦ ends ends_body
-        | false ↦ never (good_pure true) (λ r e q. expect_fails _ _ r refl e q)
-      ]))))))))))
+      (ends_bind (good_expect _ _) (λ declared. behind declared))))))))))
+    where
+      behind : (u : Bool) → Then b (expect_kind PROC (Message.Procedure ExpectedProc)) u (pick (not u) nop (procedure_body (parse_block lim))) (pick (not u) nop (procedure_body (parse_block lim)))
+      behind true = ends ends_body
+      behind false = never (good_pure true) (λ r e q. expect_fails _ _ r refl e q)
 
   pub closes_item : Closes b (parse_source_item (parse_block lim)) (parse_source_item (parse_block lim))
   unfolding parse_source_item parse_namespace parse_submodule parse_constant parse_type_decl parse_advice_map error_token in_node take_token

@@ -9,7 +9,7 @@ use Rattle.std.proofs.Common.{arith}
 use Rattle.lexer.specs.Syntax.{DocComment}
 use Rattle.grammar.specs.Words.{Sym, is, DO, IF, REPEAT, WHILE}
 use Rattle.grammar.specs.Look.{one_of, regular_trivia, control_flow, starts_instruction, at, at_terminator, at_stray_else, at_bare_while, at_top_level_form_starter_in_block}
-use Rattle.grammar.specs.Run.{Block, P, pure, in_node, pick, ◌>>=◌, err, stop}
+use Rattle.grammar.specs.Run.{Block, P, pure, in_node, pick, ◌>>=◌, err}
 use Rattle.grammar.specs.Message.{Message}
 use Rattle.grammar.specs.Block.{BlockOwner, Terminators, BlockRecoveryBoundary, BlockParseOutcome, Blocks, all_round, reject_excessive_control_flow_nesting, closing, ended, parse_if, parse_while, do_condition, parse_do_while, parse_repeat, parse_control_flow, recover, block_round, block_loop, block_in, parse_block}
 use Rattle.grammar.specs.Laws.Good.{Calm}

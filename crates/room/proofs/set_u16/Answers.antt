@@ -1,7 +1,6 @@
 -- `room::set_u16`: past the end `set` changes nothing. Assumes nothing.
 use mathlib.Core.Path.{sym}
 use lib.Seq.{set_out}
-use borrow.Author.Rules.{rules}
 use Rattle.room.proofs.set_u16.Goals as goal
 
 pub returns-else-i-l : goal.returns-else-i-l

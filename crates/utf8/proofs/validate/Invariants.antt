@@ -1,11 +1,7 @@
 -- `utf8::validate` meets its contract: what is left always comes to what the whole comes to. Assumes nothing.
-use mathlib.Core.Path.{sym, ◌∙◌}
 use Prim.Native.Nat.{◌-◌}
-use native.Mathlib.Omega.{arith}
-use borrow.Author.Rules.{rules}
 use lib.ListN.{length}
 use Rattle.utf8.specs.Passes.{Passes}
-use Rattle.utf8.proofs.Laws.{passes_none, passes_both, ends, stops_at}
 use Rattle.utf8.proofs.validate.Given as goal
 
 abbrev pub invariant-loop-at : goal.invariant-loop-at

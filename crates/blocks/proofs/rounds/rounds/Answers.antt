@@ -19,9 +19,6 @@ use Rattle.blocks.specs.Shapes.{ItemAt}
 use mathlib.Core.Bool.{false≢true}
 use Rattle.blocks.proofs.rounds.rounds.Goals as goal
 
-pub overflow_cast-depth : goal.overflow_cast-depth
-overflow_cast-depth c = omega (arith, c.struct_known-1.given)
-
 pub loop-t-init : goal.loop-t-init
 loop-t-init c =
     (begins, stays, remembers_none (omega arith), c.requires)

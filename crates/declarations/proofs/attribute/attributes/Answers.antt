@@ -16,14 +16,14 @@ loop-sc-init c = begins
 
 pub returns-then-not-s : goal.returns-then-not-s
 returns-then-not-s c =
-    (c.loop-sc.invariant.on _ _ (round_last attribute_round truly_attribute_round.truly (answers c.attribute_round-s.ensures c.if-not-s.true))).ran
+    (c.loop-sc.invariant.on _ _ (round_last attribute_round truly_attribute_round.truly (answers c.attribute_round-s.ensures (not-true _ c.if-not-s.true)))).ran
 
 pub loop-sc-smaller : goal.loop-sc-smaller
 loop-sc-smaller c =
-    let m = round_moves attribute_round truly_attribute_round.truly (answers c.attribute_round-s.ensures c.if-not-s.false) in
+    let m = round_moves attribute_round truly_attribute_round.truly (answers c.attribute_round-s.ensures (not-false _ c.if-not-s.false)) in
     omega (arith, m)
 
 pub loop-sc-preserved : goal.loop-sc-preserved
 loop-sc-preserved c =
-    let h = answers c.attribute_round-s.ensures c.if-not-s.false in
+    let h = answers c.attribute_round-s.ensures (not-false _ c.if-not-s.false) in
     goes_on c.loop-sc.invariant (λ w' r k. round_more attribute_round truly_attribute_round.truly h k)

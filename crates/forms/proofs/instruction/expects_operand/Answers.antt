@@ -4,6 +4,10 @@ use borrow.Author.Rules.{rules}
 use Rattle.grammar.specs.Instruction.{expects_operand}
 use Rattle.forms.proofs.instruction.expects_operand.Goals as goal
 
+pub returns-in-Nothing : goal.returns-in-Nothing
+unfolding expects_operand
+returns-in-Nothing c = sym (ap expects_operand c.in-Nothing.is)
+
 pub returns-in-Kind : goal.returns-in-Kind
 unfolding expects_operand
 returns-in-Kind c = c.expects_continuation_operand.ensures ∙ sym (ap expects_operand c.in-Kind.is)

@@ -19,7 +19,7 @@ use Rattle.forms.proofs.instruction.further_tokens.Given as goal
 abbrev pub invariant-loop-nesting : goal.invariant-loop-nesting
 invariant-loop-nesting l =
     Leads l.kinds (scan instruction_round (behind l.initial.previous)) (world l.initial.ev l.initial.dm l.initial.ds l.initial.c)
-    (scan instruction_round (record { l.nesting = l.nesting; l.previous = l.previous })) (world l.ev l.dm l.ds l.c)
+    (scan instruction_round (record { nesting = l.nesting; previous = l.previous })) (world l.ev l.dm l.ds l.c)
     × NestingBelow (l.c.pos + 1) l.nesting
 
 abbrev pub decreases-loop-nesting : goal.decreases-loop-nesting

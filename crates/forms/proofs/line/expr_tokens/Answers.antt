@@ -29,7 +29,7 @@ returns-then-at_expr_end c =
 pub bump_nesting-b-requires : goal.bump_nesting-b-requires
 bump_nesting-b-requires c =
     let h = eof_within c.args.kinds.now c.loop-nesting.c.pos c.eof.ensures c.loop-nesting-test.true in
-    below_le (omega (arith, h, c.good.0.1)) c.loop-nesting.invariant.1
+    below_le (omega (arith, h)) c.loop-nesting.invariant.1
 
 pub loop-nesting-smaller : goal.loop-nesting-smaller
 loop-nesting-smaller c =

@@ -26,13 +26,13 @@ loop-nesting-init c = (
 pub returns-then-at_line_end : goal.returns-then-at_line_end
 unfolding parse_signature_result_until_line_end result_end
 returns-then-at_line_end c =
-    let l : ResultType = record { nesting = c.loop-nesting.nesting; taken = c.loop-nesting.true } in
+    let l : ResultType = record { nesting = c.loop-nesting.nesting; taken = c.loop-nesting.taken } in
     bind _ (c.loop-nesting.invariant.0.on _ _ (scan_stop result_round l (result_stops l _ c.at_line_end.ensures c.if-at_line_end.true))) c.result_end.ensures
 
 pub bump_nesting-b-requires : goal.bump_nesting-b-requires
 bump_nesting-b-requires c =
     let h = eof_within c.args.kinds.now c.loop-nesting.c.pos c.eof.ensures c.loop-nesting-test.true in
-    below_le (omega (arith, h, c.good.0.1)) c.loop-nesting.invariant.1
+    below_le (omega (arith, h)) c.loop-nesting.invariant.1
 
 pub loop-nesting-smaller : goal.loop-nesting-smaller
 loop-nesting-smaller c =
@@ -42,7 +42,7 @@ loop-nesting-smaller c =
 
 pub loop-nesting-preserved : goal.loop-nesting-preserved
 loop-nesting-preserved c =
-    let l : ResultType = record { nesting = c.loop-nesting.nesting; taken = c.loop-nesting.true } in
+    let l : ResultType = record { nesting = c.loop-nesting.nesting; taken = c.loop-nesting.taken } in
     let h = eof_within c.args.kinds.now c.loop-nesting.c.pos c.eof.ensures c.loop-nesting-test.true in
     let m = c.bump-c.ensures.moved (omega (arith, h, c.bump_nesting-b.ensures.pos)) in
     let z = sym c.eof.ensures ∙ c.loop-nesting-test.true in

@@ -21,7 +21,7 @@ first = record { nesting = default; taken = false }
 
 abbrev pub invariant-loop-nesting : goal.invariant-loop-nesting
 invariant-loop-nesting l =
-    Leads l.kinds (scan result_round first) (world l.initial.ev l.initial.dm l.initial.ds l.initial.c) (scan result_round (record { l.nesting = l.nesting; l.taken = l.taken })) (world l.ev l.dm l.ds l.c)
+    Leads l.kinds (scan result_round first) (world l.initial.ev l.initial.dm l.initial.ds l.initial.c) (scan result_round (record { nesting = l.nesting; taken = l.taken })) (world l.ev l.dm l.ds l.c)
     × NestingBelow (l.c.pos + 1) l.nesting
 
 abbrev pub decreases-loop-nesting : goal.decreases-loop-nesting

@@ -57,7 +57,7 @@ returns-then-depth-eq0 c =
 pub group_depth-depth-requires : goal.group_depth-depth-requires
 group_depth-depth-requires c =
     let h = eof_within c.args.kinds.now c.loop-missing.c.pos c.eof.ensures c.loop-missing-test.true in
-    omega (arith, c.if-depth-eq0.false, c.loop-missing.invariant.1, h, c.good.0.1)
+    omega (arith, c.if-depth-eq0.false, c.loop-missing.invariant.1, h)
 
 pub loop-missing-smaller : goal.loop-missing-smaller
 loop-missing-smaller c =

@@ -9,11 +9,11 @@ use Rattle.forms.proofs.path.parse_balanced_group.Goals as goal
 pub returns-then-not-b : goal.returns-then-not-b
 unfolding parse_balanced_group group_rest
 returns-then-not-b c =
-    let o = c.if-not-b.true in
+    let o = (not-true _ c.if-not-b.true) in
     c.bump_regular_trivia-a.ensures then bind _ (answers c.expect_kind-b.ensures o) (done true)
 
 pub returns : goal.returns
 unfolding parse_balanced_group group_rest
 returns c =
-    let o = c.if-not-b.false in
+    let o = (not-false _ c.if-not-b.false) in
     c.bump_regular_trivia-a.ensures then bind _ (answers c.expect_kind-b.ensures o) c.group_rest.ensures

@@ -51,18 +51,18 @@ returns-then-not-at_kind c =
 pub returns-then-not-s : goal.returns-then-not-s
 returns-then-not-s c =
     let h = round_goes c.peek_after_non_comment_trivia-next.ensures c.at_kind.ensures c.if-not-at_kind.false
-    (answers c.path_segment-s.ensures c.if-not-s.true) in
+    (answers c.path_segment-s.ensures (not-true _ c.if-not-s.true)) in
     (c.loop-c.invariant.on _ _ (ends h)).ran
 
 pub loop-c-smaller : goal.loop-c-smaller
 loop-c-smaller c =
     let h = round_goes c.peek_after_non_comment_trivia-next.ensures c.at_kind.ensures c.if-not-at_kind.false
-    (answers c.path_segment-s.ensures c.if-not-s.false) in
+    (answers c.path_segment-s.ensures (not-false _ c.if-not-s.false)) in
     omega (arith, moves h)
 
 pub loop-c-preserved : goal.loop-c-preserved
 loop-c-preserved c =
     let h = round_goes c.peek_after_non_comment_trivia-next.ensures c.at_kind.ensures c.if-not-at_kind.false
-    (answers c.path_segment-s.ensures c.if-not-s.false) in
+    (answers c.path_segment-s.ensures (not-false _ c.if-not-s.false)) in
     let i = c.loop-c.invariant in
     goes_on i (λ w' r k. goes h k)

@@ -2,7 +2,6 @@
 use mathlib.Core.Path.{ap}
 use native.Mathlib.Omega.{arith}
 use Rattle.grammar.specs.Message.{recovery_number}
-use borrow.Author.Rules.{rules}
 use Rattle.grammar.proofs.message.recovery_number.Goals as goal
 
 -- src/message.rt:130:1

@@ -1,7 +1,6 @@
 -- `lexer::chars::goes_on` meets its contract, by cases of the run. Assumes nothing.
 use mathlib.Core.Path.{ap, sym, ◌∙◌}
 use mathlib.Core.Bool.{not}
-use borrow.Author.Rules.{rules}
 use Rattle.lexer.specs.declared.chars.Run.{Run}
 use Rattle.lexer.specs.Chars.{holds}
 use Rattle.lexer.proofs.chars.goes_on.Goals as goal

@@ -1,5 +1,4 @@
 -- `lexer::chars::is_graphic_inside` meets its contract. Assumes nothing.
-use borrow.Author.Rules.{rules}
 use Rattle.lexer.proofs.Tests.{and_yes, and_no}
 use Rattle.lexer.proofs.chars.is_graphic_inside.Goals as goal
 

@@ -1,5 +1,4 @@
 -- `lexer::chars::is_hex_letter` meets its contract. Assumes nothing.
-use borrow.Author.Rules.{rules}
 use Rattle.lexer.proofs.Tests.{or_yes, or_no}
 use Rattle.lexer.proofs.chars.is_hex_letter.Goals as goal
 

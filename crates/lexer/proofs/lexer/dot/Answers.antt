@@ -3,7 +3,6 @@ use mathlib.Core.Path.{sym, ◌∙◌}
 use Rattle.lexer.specs.Syntax.{Dot, DotDot, DotDotDot}
 use Rattle.lexer.specs.Lexer.{lex_one, follow}
 use Rattle.lexer.proofs.Laws.{placed_yes, placed_no, starts_within, one_here}
-use borrow.Author.Rules.{rules}
 use Rattle.lexer.proofs.lexer.dot.Goals as goal
 
 pub pair-requires : goal.pair-requires

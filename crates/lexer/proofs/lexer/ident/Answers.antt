@@ -1,7 +1,6 @@
 -- `lexer::lexer::ident` meets its contract. Assumes nothing.
 use Prim.Native.Nat.{ℕ}
 use mathlib.Core.Path.{ap}
-use borrow.Author.Rules.{rules}
 use Rattle.lexer.specs.Syntax.{Ident}
 use Rattle.lexer.specs.Lexer.{lex_while}
 use Rattle.lexer.proofs.lexer.ident.Goals as goal

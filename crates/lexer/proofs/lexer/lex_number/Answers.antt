@@ -1,6 +1,5 @@
 -- `lexer::lexer::lex_number` meets its contract. Assumes nothing.
 use borrow.Author.Tests.{eq-eqb, ne_eqb}
-use borrow.Author.Rules.{rules}
 use Rattle.lexer.proofs.lexer.lex_number.Goals as goal
 
 pub returns-then-b-eq48 : goal.returns-then-b-eq48

@@ -2,13 +2,13 @@
 use Prim.Native.Nat.{ℕ, ◌+◌}
 use mathlib.Core.Path.{◌≡◌, sym, ap, ◌∙◌}
 use mathlib.Core.List.{List}
+use native.Mathlib.Omega.{arith}
 use borrow.Author.Tests.{ne_eqb}
 use lib.ListN.{get_or, drop}
 use Rattle.lexer.specs.Chars.{class}
 use Rattle.lexer.specs.Lexer.{arm, next}
 use Rattle.lexer.specs.Code.{placed}
 use Rattle.lexer.proofs.Laws.{one_here}
-use borrow.Author.Rules.{rules}
 use Rattle.lexer.proofs.lexer.next.Goals as goal
 
 -- the arm of the class that the table gives
@@ -98,7 +98,6 @@ pub returns-in_default : goal.returns-in_default
 returns-in_default c =
     let a = c.args in
     let k = c.class_in-class.result in
-    let n = c.in_default.rest in
     one_here k (a.at + 1)
-    ∙ ap (placed (a.at + 1)) (sym (single k (get_or a.source.now a.at 0) (drop (a.at + 1) a.source.now) n.0.0.0.0.0.0.0.0.0.0.0.1 n.0.0.0.0.0.0.0.0.0.0.1 n.0.0.0.0.0.0.0.0.0.1 n.0.0.0.0.0.0.0.0.1 n.0.0.0.0.0.0.0.1 n.0.0.0.0.0.0.1 n.0.0.0.0.0.1 n.0.0.0.0.1 n.0.0.0.1 n.0.0.1 n.0.1 n.1))
+    ∙ ap (placed (a.at + 1)) (sym (single k (get_or a.source.now a.at 0) (drop (a.at + 1) a.source.now) (omega arith) (omega arith) (omega arith) (omega arith) (omega arith) (omega arith) (omega arith) (omega arith) (omega arith) (omega arith) (omega arith) (omega arith)))
     ∙ chosen a.source.now a.at k (sym c.class_in-class.ensures)

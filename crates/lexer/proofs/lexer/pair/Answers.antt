@@ -3,7 +3,6 @@ use mathlib.Core.Path.{ap, sym, ◌∙◌}
 use Rattle.lexer.specs.Lexer.{lex_one}
 use Rattle.lexer.specs.Code.{placed}
 use Rattle.lexer.proofs.Laws.{follow_yes, follow_no, one_here}
-use borrow.Author.Rules.{rules}
 use Rattle.lexer.proofs.lexer.pair.Goals as goal
 
 pub returns-then-current_is : goal.returns-then-current_is

@@ -2,7 +2,6 @@
 use mathlib.Core.Path.{sym}
 use native.Mathlib.Omega.{arith}
 use lib.Seq.{set_out}
-use borrow.Author.Rules.{rules}
 use Rattle.lexer.proofs.lexer.put_token.Goals as goal
 
 pub returns-else-n-kinds : goal.returns-else-n-kinds

@@ -2,7 +2,6 @@
 use mathlib.Core.Path.{ap}
 use Prim.Native.Nat.{ℕ}
 use Rattle.lexer.specs.Lexer.{lex_while}
-use borrow.Author.Rules.{rules}
 use Rattle.lexer.proofs.lexer.run.Goals as goal
 
 pub returns : goal.returns

@@ -11,7 +11,6 @@ use Rattle.lexer.specs.Chars.{word}
 use Rattle.lexer.specs.Lexer.{advance_while, same, kernel, exec, special}
 use Rattle.lexer.specs.Good.{advance_within}
 use Rattle.lexer.specs.Code.{placed}
-use borrow.Author.Rules.{rules}
 use Rattle.lexer.proofs.lexer.special.Goals as goal
 
 -- the token, by what its text was compared with

@@ -6,7 +6,6 @@ use lib.ListN.{drop, length-take, length-drop}
 use Rattle.utf8.specs.Width.{width, width_pos}
 use Rattle.lexer.specs.Syntax.{Error}
 use Rattle.lexer.specs.Lexer.{stray}
-use borrow.Author.Rules.{rules}
 use Rattle.lexer.proofs.lexer.stray.Goals as goal
 
 pub overflow_sub-more : goal.overflow_sub-more

@@ -1,12 +1,8 @@
 -- `lexer::lexer::tokens` meets its contract: for each token its kind is written. Assumes nothing.
-use Prim.Native.Nat.{◌-◌}
 use mathlib.Core.Path.{sym, ap, ◌∙◌}
 use native.Mathlib.Omega.{arith}
-use borrow.Author.Rules.{rules}
-use lib.ListN.{length}
 use Rattle.lexer.specs.declared.lexer.Token.{Token as Placed}
-use Rattle.lexer.specs.Tokens.{token_kind}
-use Rattle.lexer.proofs.Going.{Going, begins, ends_within, goes_on, ended}
+use Rattle.lexer.proofs.Going.{begins, ends_within, goes_on, ended}
 use Rattle.lexer.proofs.lexer.tokens.Goals as goal
 
 pub loop-at-init : goal.loop-at-init

@@ -4,7 +4,6 @@ use Rattle.lexer.specs.Syntax.{Number}
 use Rattle.lexer.specs.Chars.{decimal, hex, binary}
 use Rattle.lexer.specs.Lexer.{LexRule, lex_while, follow}
 use Rattle.lexer.proofs.Laws.{placed_yes, placed_no, starts_within}
-use borrow.Author.Rules.{rules}
 use Rattle.lexer.proofs.lexer.zero_led.Goals as goal
 
 -- what is asked once `x`, `X` and `b` are not there

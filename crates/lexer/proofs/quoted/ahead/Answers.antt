@@ -1,5 +1,4 @@
 -- `lexer::quoted::ahead` meets its contract: what is passed over changes nothing. Assumes nothing.
-use borrow.Author.Rules.{rules}
 use native.Mathlib.Omega.{arith}
 use lib.ListN.{drop, length-drop}
 use Rattle.lexer.specs.declared.chars.Run.TheVariants.{Graphic, Inside}

@@ -1,6 +1,5 @@
 -- `lexer::quoted::keeps` meets its contract. Assumes nothing.
 use mathlib.Core.Path.{refl}
-use borrow.Author.Rules.{rules}
 use Rattle.lexer.proofs.Tests.{and_yes, and_no}
 use Rattle.lexer.proofs.quoted.keeps.Goals as goal
 

@@ -5,7 +5,6 @@ use Rattle.lexer.specs.declared.lexer.Token.{Token}
 use Rattle.lexer.specs.declared.quoted.Quoted.{Quoted}
 use Rattle.lexer.specs.declared.quoted.Ending.{Ending}
 use Rattle.lexer.specs.Code.{Quote, quote_kind}
-use borrow.Author.Rules.{rules}
 use Rattle.lexer.proofs.quoted.lex_quoted.Goals as goal
 
 -- the token of a quote with a known ending

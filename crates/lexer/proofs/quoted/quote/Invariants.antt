@@ -1,20 +1,10 @@
 -- `lexer::quoted::quote` meets its contract: the quote is what its rest comes to, from the cursor and the flags. Assumes nothing.
-use Prim.Native.Nat.{ℕ, ◌≤◌, ◌<◌, ◌+◌, ◌-◌}
-use mathlib.Core.Path.{◌≡◌, sym, ap, ◌∙◌}
-use mathlib.Core.Bool.{Bool, true, false, cond}
-use mathlib.Core.List.{List}
-use native.Mathlib.Omega.{arith}
-use borrow.Author.Rules.{rules}
-use borrow.Author.Tests.{eq-eqb, ne_eqb}
-use lib.Dec.{eqb}
-use lib.ListN.{length, drop, get_or, drop_of_length-le}
-use Rattle.lexer.specs.declared.lexer.Token.{Token}
-use Rattle.lexer.specs.Syntax.{Error, QuotedIdent, QuotedString}
-use Rattle.lexer.specs.Chars.{line_end}
-use Rattle.lexer.specs.Lexer.{Lexeme, quoted}
-use Rattle.lexer.specs.Code.{placed, kept}
-use Rattle.lexer.proofs.Laws.{next_byte}
-use Rattle.lexer.proofs.Quotes.{moved}
+use Prim.Native.Nat.{◌≤◌, ◌-◌}
+use mathlib.Core.Path.{◌≡◌}
+use mathlib.Core.Bool.{true, false}
+use lib.ListN.{length, drop}
+use Rattle.lexer.specs.Lexer.{quoted}
+use Rattle.lexer.specs.Code.{placed}
 use Rattle.lexer.proofs.quoted.quote.Given as goal
 
 abbrev pub invariant-loop-at : goal.invariant-loop-at

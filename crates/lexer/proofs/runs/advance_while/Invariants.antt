@@ -1,11 +1,8 @@
 -- `lexer::runs::advance_while` meets its contract: what the run takes from its start is what it takes from the cursor on.
 use Prim.Native.Nat.{◌-◌}
-use mathlib.Core.Path.{refl, sym, ◌∙◌}
-use borrow.Author.Rules.{rules}
-use borrow.Author.Tests.{not-true, not-false}
 use lib.ListN.{length}
 use Rattle.lexer.specs.Chars.{holds}
-use Rattle.lexer.proofs.Laws.{Reaches, reaches_all, reaches_next, reaches_end}
+use Rattle.lexer.proofs.Laws.{Reaches}
 use Rattle.lexer.proofs.runs.advance_while.Given as goal
 
 abbrev pub invariant-loop-at : goal.invariant-loop-at

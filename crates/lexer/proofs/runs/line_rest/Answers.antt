@@ -1,12 +1,8 @@
 -- `lexer::runs::line_rest` meets its contract: a block with no line end is passed whole. Assumes nothing.
-use Prim.Native.Nat.{◌-◌}
 use mathlib.Core.Path.{refl, sym, ◌∙◌}
 use native.Mathlib.Omega.{arith}
 use borrow.Author.Rules.{rules}
-use borrow.Author.Tests.{not-false}
-use lib.ListN.{length}
-use Rattle.lexer.specs.Lexer.{in_line}
-use Rattle.lexer.proofs.Laws.{Reaches, reaches_over}
+use Rattle.lexer.proofs.Laws.{reaches_over}
 use Rattle.lexer.proofs.runs.line_rest.Goals as goal
 
 pub loop-at-init : goal.loop-at-init

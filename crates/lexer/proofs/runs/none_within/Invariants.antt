@@ -1,14 +1,7 @@
 -- `lexer::runs::none_within` meets its contract: while x was not met, it was not passed. Assumes nothing.
-use Prim.Native.Nat.{◌+◌, ◌-◌, ◌≤◌}
-use mathlib.Core.Path.{◌≡◌, sym, ap, ◌∙◌}
-use mathlib.Core.Bool.{true, false, not, false≢true}
-use mathlib.Core.Logic.{⊎_elim}
-use native.Mathlib.Nat.{not-suc-le-zero}
-use native.Mathlib.Omega.{arith}
-use borrow.Author.Count.{below_more}
-use borrow.Author.Rules.{rules}
-use borrow.Author.Tests.{ne_eqb}
-use lib.ListN.{get_or}
+use Prim.Native.Nat.{◌-◌, ◌≤◌}
+use mathlib.Core.Path.{◌≡◌}
+use mathlib.Core.Bool.{true}
 use Rattle.lexer.specs.Code.{other_than, AllHold}
 use Rattle.lexer.proofs.runs.none_within.Given as goal
 

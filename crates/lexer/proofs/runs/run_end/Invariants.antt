@@ -1,12 +1,8 @@
 -- `lexer::runs::run_end` meets its contract: each byte that surely goes on is one step. Assumes nothing.
-use Prim.Native.Nat.{ℕ, ◌+◌, ◌-◌}
-use mathlib.Core.Path.{refl, sym, ◌∙◌}
-use native.Mathlib.Omega.{arith}
-use borrow.Author.Rules.{rules}
-use borrow.Author.Tests.{not-false}
+use Prim.Native.Nat.{◌-◌}
 use lib.ListN.{length}
 use Rattle.lexer.specs.Chars.{holds}
-use Rattle.lexer.proofs.Laws.{Reaches, reaches_next}
+use Rattle.lexer.proofs.Laws.{Reaches}
 use Rattle.lexer.proofs.runs.run_end.Given as goal
 
 abbrev pub invariant-loop-at : goal.invariant-loop-at

@@ -1,14 +1,8 @@
 -- `lexer::runs::same` meets its contract: the texts are the same where what is left of them is. Assumes nothing.
-use Prim.Native.Nat.{ℕ, ◌≤◌, ◌<◌, ◌+◌, ◌-◌}
-use mathlib.Core.Path.{◌≡◌, refl, sym, ◌∙◌}
-use mathlib.Core.Bool.{Bool, true, false}
-use mathlib.Core.List.{List}
-use borrow.Author.Rules.{rules}
-use borrow.Author.Tests.{eq-eqb, ne_eqb, leb-true, leb-false}
-use lib.Dec.{leb}
-use lib.ListN.{length, get_or, drop, drop_of_length-le}
+use Prim.Native.Nat.{◌≤◌, ◌-◌}
+use mathlib.Core.Path.{◌≡◌}
+use lib.ListN.{length, drop}
 use Rattle.lexer.specs.Lexer.{same}
-use Rattle.lexer.proofs.Laws.{next_byte}
 use Rattle.lexer.proofs.runs.same.Given as goal
 
 abbrev pub invariant-loop-i : goal.invariant-loop-i

@@ -1,12 +1,8 @@
 -- `lexer::runs::word_end` meets its contract: each byte that goes on is one step. Assumes nothing.
-use Prim.Native.Nat.{ℕ, ◌+◌, ◌-◌}
-use mathlib.Core.Path.{refl, sym, ◌∙◌}
-use native.Mathlib.Omega.{arith}
-use borrow.Author.Rules.{rules}
-use borrow.Author.Tests.{not-true, not-false}
+use Prim.Native.Nat.{◌-◌}
 use lib.ListN.{length}
 use Rattle.lexer.specs.Chars.{word}
-use Rattle.lexer.proofs.Laws.{Reaches, reaches_next, reaches_end}
+use Rattle.lexer.proofs.Laws.{Reaches}
 use Rattle.lexer.proofs.runs.word_end.Given as goal
 
 abbrev pub invariant-loop-at : goal.invariant-loop-at

@@ -1,12 +1,8 @@
 -- `lexer::runs::word_tail` meets its contract, as `advance_while` does.
 -- Assumes nothing.
-use Prim.Native.Nat.{◌-◌}
 use mathlib.Core.Path.{refl, sym, ◌∙◌}
 use borrow.Author.Rules.{rules}
-use borrow.Author.Tests.{not-true, not-false}
-use lib.ListN.{length}
-use Rattle.lexer.specs.Chars.{word}
-use Rattle.lexer.proofs.Laws.{Reaches, reaches_all, reaches_next, reaches_end}
+use Rattle.lexer.proofs.Laws.{reaches_all, reaches_next, reaches_end}
 use Rattle.lexer.proofs.runs.word_tail.Goals as goal
 
 pub loop-at-init : goal.loop-at-init

@@ -1,11 +1,8 @@
 -- `lexer::runs::word_tail` meets its contract, as `advance_while` does.
 use Prim.Native.Nat.{◌-◌}
-use mathlib.Core.Path.{refl, sym, ◌∙◌}
-use borrow.Author.Rules.{rules}
-use borrow.Author.Tests.{not-true, not-false}
 use lib.ListN.{length}
 use Rattle.lexer.specs.Chars.{word}
-use Rattle.lexer.proofs.Laws.{Reaches, reaches_all, reaches_next, reaches_end}
+use Rattle.lexer.proofs.Laws.{Reaches}
 use Rattle.lexer.proofs.runs.word_tail.Given as goal
 
 abbrev pub invariant-loop-at : goal.invariant-loop-at

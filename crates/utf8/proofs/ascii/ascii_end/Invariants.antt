@@ -1,10 +1,7 @@
 -- `utf8::ascii::ascii_end` meets its contract: each block passed is 64 characters. Assumes nothing.
 use Prim.Native.Nat.{◌-◌}
-use native.Mathlib.Omega.{arith}
-use borrow.Author.Rules.{rules}
 use lib.ListN.{length}
 use Rattle.utf8.specs.Passes.{Passes}
-use Rattle.utf8.proofs.Laws.{passes_none, passes_both, passes_ascii}
 use Rattle.utf8.proofs.ascii.ascii_end.Given as goal
 
 abbrev pub invariant-loop-at : goal.invariant-loop-at

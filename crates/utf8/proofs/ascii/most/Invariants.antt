@@ -1,9 +1,5 @@
 -- `utf8::ascii::most` meets its contract: no byte passed exceeds what is held. Assumes nothing.
-use mathlib.Core.Logic.{⊎_elim}
 use Prim.Native.Nat.{ℕ, ◌+◌, ◌-◌, ◌≤◌, ◌<◌}
-use native.Mathlib.Omega.{arith}
-use borrow.Author.Count.{below_more}
-use borrow.Author.Rules.{rules}
 use lib.ListN.{get_or}
 use Rattle.utf8.proofs.ascii.most.Given as goal
 

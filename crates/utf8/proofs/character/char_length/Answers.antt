@@ -1,7 +1,6 @@
 -- `utf8::character::char_length` meets its contract: each arm is a row of the table. Assumes nothing.
 use mathlib.Core.Path.{sym, ◌∙◌}
 use native.Mathlib.Omega.{arith}
-use borrow.Author.Rules.{rules}
 use Rattle.utf8.specs.Table.{table_3_7}
 use Rattle.utf8.proofs.Laws.{row_length, no_length, ascii_length}
 use Rattle.utf8.proofs.character.char_length.Goals as goal

@@ -1,7 +1,5 @@
 -- `utf8::character::three` meets its contract. Assumes nothing.
 use mathlib.Core.Path.{sym, ◌∙◌}
-use borrow.Author.Rules.{rules}
-use borrow.Author.Tests.{not-true, not-false}
 use Rattle.utf8.proofs.Laws.{tail_then, tail_not}
 use Rattle.utf8.proofs.character.three.Goals as goal
 

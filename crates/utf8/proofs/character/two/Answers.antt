@@ -1,6 +1,5 @@
 -- `utf8::character::two` meets its contract. Assumes nothing.
 use mathlib.Core.Path.{sym, ◌∙◌}
-use borrow.Author.Rules.{rules}
 use Rattle.utf8.proofs.character.two.Goals as goal
 
 pub returns-then-byte_in : goal.returns-then-byte_in

@@ -1,11 +1,7 @@
 -- `utf8::character::walk` meets its contract. Assumes nothing.
-use mathlib.Core.Path.{sym, ◌∙◌}
 use Prim.Native.Nat.{◌-◌}
-use native.Mathlib.Omega.{arith}
-use borrow.Author.Rules.{rules}
 use lib.ListN.{length}
 use Rattle.utf8.specs.Passes.{Passes}
-use Rattle.utf8.proofs.Laws.{char_within, passes_none, passes_char, passes_both}
 use Rattle.utf8.proofs.character.walk.Given as goal
 
 abbrev pub invariant-loop-at : goal.invariant-loop-at

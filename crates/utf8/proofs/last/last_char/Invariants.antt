@@ -1,15 +1,8 @@
 -- `utf8::last::last_char` meets its contract: the bytes passed are all continuation bytes. Assumes nothing.
-use Prim.Native.Nat.{ℕ, ◌-◌, ◌≤◌, ◌<◌}
-use mathlib.Core.Path.{◌≡◌, refl, sym, subst, ◌∙◌}
-use mathlib.Core.Bool.{Bool, true, false}
+use Prim.Native.Nat.{ℕ, ◌≤◌, ◌<◌}
 use mathlib.Core.List.{List}
-use native.Mathlib.Omega.{arith}
-use borrow.Author.Rules.{rules}
-use borrow.Author.Tests.{eqb-true, eqb-false}
-use lib.Dec.{eqb}
 use lib.ListN.{length, get_or}
-use Rattle.utf8.specs.WellFormed.{WellFormed}
-use Rattle.utf8.specs.Last.{Continuation, last_char, last_is, last_none}
+use Rattle.utf8.specs.Last.{Continuation}
 use Rattle.utf8.proofs.last.last_char.Given as goal
 
 pub record Going (s : List ℕ) (at : ℕ) : Type 0 where

@@ -1,5 +1,4 @@
 -- `grammar::nesting::Nesting::bump` asks for each kind in turn. Assumes nothing.
-use borrow.Author.Rules.{rules}
 use borrow.Author.Tests.{eq-eqb, ne_eqb}
 use Rattle.grammar.specs.Nesting.{bump_by}
 use Rattle.grammar.proofs.nesting.Nesting.bump.Goals as goal

@@ -1,6 +1,5 @@
 -- `grammar::nesting::Nesting::close_bracket` meets its contract. Assumes nothing.
 use native.Mathlib.Numerals.{sub-one}
-use borrow.Author.Rules.{rules}
 use borrow.Author.Tests.{eq-eqb, ne_eqb}
 use Rattle.grammar.specs.Nesting.{close_bracket}
 use Rattle.grammar.proofs.nesting.Nesting.close_bracket.Goals as goal

@@ -1,5 +1,4 @@
 -- `grammar::nesting::Nesting::open_brace` meets its contract. Assumes nothing.
-use borrow.Author.Rules.{rules}
 use native.Mathlib.Numerals.{add-one}
 use Rattle.grammar.specs.Nesting.{open_brace}
 use Rattle.grammar.proofs.nesting.Nesting.open_brace.Goals as goal

@@ -1,5 +1,4 @@
 -- `grammar::nesting::Nesting::open_bracket` meets its contract. Assumes nothing.
-use borrow.Author.Rules.{rules}
 use native.Mathlib.Numerals.{add-one}
 use Rattle.grammar.specs.Nesting.{open_bracket}
 use Rattle.grammar.proofs.nesting.Nesting.open_bracket.Goals as goal

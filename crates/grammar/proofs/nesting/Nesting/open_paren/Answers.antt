@@ -1,5 +1,4 @@
 -- `grammar::nesting::Nesting::open_paren` meets its contract. Assumes nothing.
-use borrow.Author.Rules.{rules}
 use native.Mathlib.Numerals.{add-one}
 use Rattle.grammar.specs.Nesting.{open_paren}
 use Rattle.grammar.proofs.nesting.Nesting.open_paren.Goals as goal
