@@ -5,4 +5,4 @@ use lib.Seq.{length-take-le}
 use Rattle.refusals.proofs.put_shorter.Goals as goal
 
 pub slice_bounds-put_call-end : goal.slice_bounds-put_call-end
-slice_bounds-put_call-end c = sym (length-take-le _ _ (search rules))
+slice_bounds-put_call-end g c = sym (length-take-le _ _ (search rules))

@@ -5,7 +5,7 @@ use borrow.Author.Rules.{rules}
 use Rattle.show.proofs.put_lists.Goals as goal
 
 pub slice_bounds-put_events-end : goal.slice_bounds-put_events-end
-slice_bounds-put_events-end c = sym (length-take-le _ _ (search rules))
+slice_bounds-put_events-end g c = sym (length-take-le _ _ (search rules))
 
 pub slice_bounds-put_diagnostics-end : goal.slice_bounds-put_diagnostics-end
-slice_bounds-put_diagnostics-end c = sym (length-take-le _ _ (search rules))
+slice_bounds-put_diagnostics-end g c = sym (length-take-le _ _ (search rules))

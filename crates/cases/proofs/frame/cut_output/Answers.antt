@@ -5,13 +5,13 @@ use borrow.Author.Rules.{rules}
 use Rattle.cases.proofs.frame.cut_output.Goals as goal
 
 pub slice_bounds-body-end-2 : goal.slice_bounds-body-end-2
-slice_bounds-body-end-2 c = sym (length-take-le _ _ (search rules))
+slice_bounds-body-end-2 g c = sym (length-take-le _ _ (search rules))
 
 pub slice_bounds-body-end-4 : goal.slice_bounds-body-end-4
-slice_bounds-body-end-4 c = sym (length-take-le _ _ (search rules))
+slice_bounds-body-end-4 g c = sym (length-take-le _ _ (search rules))
 
 pub slice_bounds-body-end-6 : goal.slice_bounds-body-end-6
-slice_bounds-body-end-6 c = sym (length-take-le _ _ (search rules))
+slice_bounds-body-end-6 g c = sym (length-take-le _ _ (search rules))
 
 pub slice_bounds-body-end-8 : goal.slice_bounds-body-end-8
-slice_bounds-body-end-8 c = sym (length-take-le _ _ (search rules))
+slice_bounds-body-end-8 g c = sym (length-take-le _ _ (search rules))

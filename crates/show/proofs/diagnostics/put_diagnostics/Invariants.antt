@@ -8,7 +8,7 @@ use Rattle.show.specs.Lines.{Marks}
 use Rattle.show.proofs.diagnostics.put_diagnostics.Given as goal
 
 abbrev pub invariant-loop-i : goal.invariant-loop-i
-invariant-loop-i l = Ready l.at l.out × (length l.out ≡ length l.initial.out) × Marks l.source l.spot × (l.i ≤ length l.messages)
+invariant-loop-i g l = Ready l.at l.out × (length l.out ≡ length l.initial.out) × Marks l.source l.spot × (l.i ≤ length l.messages)
 
 abbrev pub decreases-loop-i : goal.decreases-loop-i
-decreases-loop-i l = length l.messages - l.i
+decreases-loop-i g l = length l.messages - l.i

@@ -7,7 +7,7 @@ use Rattle.frames.specs.Ready.{Ready}
 use Rattle.show.proofs.events.put_events.Given as goal
 
 abbrev pub invariant-loop-i : goal.invariant-loop-i
-invariant-loop-i l = Ready l.at l.out × (length l.out ≡ length l.initial.out) × (l.i ≤ length l.events) × (l.token ≤ l.i)
+invariant-loop-i g l = Ready l.at l.out × (length l.out ≡ length l.initial.out) × (l.i ≤ length l.events) × (l.token ≤ l.i)
 
 abbrev pub decreases-loop-i : goal.decreases-loop-i
-decreases-loop-i l = length l.events - l.i
+decreases-loop-i g l = length l.events - l.i

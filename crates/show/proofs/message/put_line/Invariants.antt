@@ -5,7 +5,7 @@ use lib.ListN.{length}
 use Rattle.show.proofs.message.put_line.Given as goal
 
 abbrev pub invariant-loop : goal.invariant-loop
-invariant-loop l = l.from ≤ length l.text
+invariant-loop g l = l.from ≤ length l.text
 
 abbrev pub decreases-loop : goal.decreases-loop
-decreases-loop l = l.n - l.counter
+decreases-loop g l = l.n - l.counter
