@@ -16,7 +16,7 @@ use Rattle.grammar.specs.Bump.{bump, error_here, error_token}
 use Rattle.grammar.specs.Instruction.{parse_instruction}
 use Rattle.grammar.specs.Laws.Here.{if_arm}
 use Rattle.grammar.specs.Block.{Blocks, block_round, block_in, recover, reject_excessive_control_flow_nesting, parse_control_flow}
-use Rattle.grammar.specs.Theorems.NoFuel.{block_eq}
+use Rattle.grammar.proofs.Theorems.NoFuel.{block_eq}
 use Rattle.blocks.specs.declared.arm.Taken.{Taken}
 use Rattle.blocks.specs.declared.arm.Closing.{Closing}
 use Rattle.blocks.specs.declared.arm.BlockArm.{BlockArm}

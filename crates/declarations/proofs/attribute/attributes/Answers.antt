@@ -2,7 +2,7 @@
 use native.Mathlib.Omega.{arith}
 use borrow.Author.Tests.{not-true, not-false}
 use Rattle.grammar.specs.Item.{attribute_round}
-use Rattle.grammar.specs.Laws.LiveItem.{truly_attribute_round}
+use Rattle.grammar.proofs.Laws.LiveItem.{truly_attribute_round}
 use Rattle.declarations.proofs.Steps.{round_last, round_more, round_moves}
 use Rattle.parser.proofs.Kit.{begins, goes_on, answers}
 use Rattle.declarations.proofs.attribute.attributes.Goals as goal

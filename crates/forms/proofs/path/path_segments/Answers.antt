@@ -8,7 +8,7 @@ use Rattle.grammar.specs.Laws.LiveLine.{truly_path_round}
 use Rattle.grammar.specs.Look.{at, skip, non_comment_trivia}
 use Rattle.grammar.specs.Path.{path_segment, path_round}
 use Rattle.grammar.specs.Run.{pure, pick, loop, ◌>>=◌, P}
-use Rattle.grammar.specs.Theorems.NoFuel.{path_eq}
+use Rattle.grammar.proofs.Theorems.NoFuel.{path_eq}
 use Rattle.grammar.specs.Words.{File, from, is}
 use Rattle.lexer.specs.Syntax.{ColonColon}
 use Rattle.parser.specs.Ahead.{Found}
