@@ -1,11 +1,11 @@
 -- A round of parse_block's loop by the token here: which arm it is, and what each arm does. That this is block-round is `round_is`.
 -- Assumes nothing.
-use Rattle.std.specs.Prelude.{ℕ, suc, ◌≡◌, refl, Bool, true, false, cond, List, leb}
+use Rattle.std.specs.Prelude.{ℕ, suc, ◌≡◌, refl, Bool, true, cond, List, leb}
 use Rattle.std.proofs.Common.{sym, ◌∙◌, ap}
 use Rattle.lexer.specs.Syntax.{DocComment}
 use Rattle.grammar.specs.Words.{Sym}
 use Rattle.grammar.specs.Look.{eof, at_kind, at_regular_trivia, at_terminator, at_stray_else, at_top_level_form_starter_in_block, at_control_flow_operation, can_start_instruction}
-use Rattle.grammar.specs.Run.{Res, P, Block, pure, peek, in_node, pick, ◌>>=◌, ◌>>◌, if◌then◌else◌}
+use Rattle.grammar.specs.Run.{Res, P, Block, pure, in_node, pick, ◌>>=◌, ◌>>◌}
 use Rattle.grammar.specs.declared.message.Message.{Message}
 use Rattle.grammar.specs.declared.message.BlockMessage.TheVariants.{DocCommentInBlock, UnexpectedTokenInBlock}
 use Rattle.grammar.specs.declared.block.BlockOwner.{BlockOwner}
