@@ -22,7 +22,7 @@ returns-then-depth-ge-MAX_CONTROL_FLOW_NESTING c =
         form = λ h. absurd (false≢true h);
         over = λ h. record {
           mid = _;
-          ran = round owner t c.args.depth BlockArm.Control (sym e) refl (on_to _ (le-leb limit c.args.depth c.if-depth-ge-MAX_CONTROL_FLOW_NESTING.true) (c.reject_excessive_control_flow_nesting-d.ensures then_to done_to BlockParseOutcome.ReachedEof));
+          ran = round owner t c.args.depth BlockArm.Control (sym e) refl (on_to _ (le-leb limit c.args.depth (omega arith)) (c.reject_excessive_control_flow_nesting-d.ensures then_to done_to BlockParseOutcome.ReachedEof));
           wrote = c.put-e.ensures.wrote c.args.kinds.now _ _;
           here = no_item;
         };
