@@ -12,7 +12,7 @@ use Rattle.lexer.specs.Syntax.{DocComment}
 use Rattle.grammar.specs.Bump.{bump_while, while_round}
 use Rattle.grammar.specs.Laws.Here.{is_not}
 use Rattle.grammar.specs.Look.{one_of, at, eof, regular_trivia}
-use Rattle.grammar.specs.Run.{leaf, pure, peek, take_token, scan, ◌>>=◌, ◌>>◌, if◌then◌else◌, P}
+use Rattle.grammar.specs.Run.{leaf, pure, peek, take_token, scan, ◌>>=◌, ◌>>◌, when◌then◌else◌, P}
 use Rattle.grammar.proofs.Theorems.NoFuel.{items_eq}
 use Rattle.grammar.proofs.Theorems.Rounds.{round_takes}
 use Rattle.grammar.specs.Words.{File, from, Sym, is}
