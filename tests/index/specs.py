@@ -6,7 +6,7 @@ from common import read
 SIGNATURE = re.compile(r"\s*(?:(abbrev|unfoldable) )?(pub )?([^\s(){}]+) :(?: (.*)|$)")
 TYPE = re.compile(r"\s*(pub )?(record|data) (\S+) ?(.*) : [^:]*Type 0 where")
 NEITHER = re.compile(r"\s*(--|use |pub use |pub mod |(pub )?ruleset )")
-OPERATORS = {">>=": "_>>=_", ">>": "_>>_"}
+OPERATORS = {">>=": "◌>>=◌", ">>": "◌>>◌"}
 
 
 def modules(path):
@@ -89,7 +89,7 @@ def functions_of(words, defined, ways):
     if ">>=" in words or ">>" in words:
         way, pieces = OPERATORS[">>=" if ">>=" in words else ">>"], split(words, *OPERATORS)
     elif words[0] == "if":
-        way, pieces = "if_then_else_", split(words[1:], "then", "else")[1:]
+        way, pieces = "if◌then◌else◌", split(words[1:], "then", "else")[1:]
     elif isinstance(words[0], list):
         return functions_of(words[0], defined, ways)
     elif words[0] in ("take", "err", "pure", "peek") or words[0] not in ways:
