@@ -25,7 +25,7 @@ target/read: examples/read.c $(wildcard include/*.h) $(archive)
 ifneq ($(shell rt version 2>&1),$(shell cat target/staticlib/kit 2>&1))
 .PHONY: $(archive)
 endif
-$(archive): crates.txt $(shell find crates -name must-fail -prune -o -print)
+$(archive): crates.txt $(shell find crates \( -name must-fail -o -name out \) -prune -o -print)
 	@echo "proving the reader, some minutes from nothing: a line for each crate here, all that is said in target/archive.log"
 	@tools/progress target/archive.log tools/archive
 	@touch $@

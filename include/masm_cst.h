@@ -4,7 +4,7 @@
    their shape, to fold them; it checks no instruction, name, type or number of operands. After
    `const FEE = 10 * (2 + 3` all the rest of a file is the constant's, with no diagnostic.
 
-   `rt staticlib cst` writes the archive to link, target/staticlib/libcst.a. It has this call and no
+   tools/archive writes the archive to link, target/staticlib/libcst.a. It has this call and no
    other name, and needs nothing but `memset`.
 
    masm_names.h names kinds and statuses, masm_messages.h has the texts of the diagnostics, and

@@ -25,14 +25,14 @@ class Part:
 
     def place(self, file):
         """A law's file as the tables have it."""
-        return file.removeprefix("Laws/")
+        return file.removeprefix("../").replace("Laws/", "")
 
 
 def parts():
     lexer, grammar = "crates/lexer/specs", "crates/grammar/specs"
     others = ["Syntax", "Chars", "Lexer", "Tokens", "Code", "Examples"]
     lexed = [file for file in modules(f"{lexer}/Lib.antt") if file not in others]
-    parsed = [f"Laws/{file}" for file in modules(f"{grammar}/Laws.antt")]
+    parsed = [f"{laws}/{file}" for laws in ["Laws", "../proofs/Laws"] for file in modules(f"{grammar}/{laws}.antt")]
     definitions = ["Message", "Run", "Look", "Nesting", "Bump", "Path", "Line", "Instruction", "Block", "Item"]
     return [
         Part("Laws of the lexer", lexer, ["Chars", "Lexer", "Tokens"], lexed, "LexRule"),

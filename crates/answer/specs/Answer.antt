@@ -1,7 +1,7 @@
 -- What a reading answers and leaves in the slices: document 01's table, in its order.
 -- Assumes nothing: these are definitions.
 use Rattle.std.specs.Prelude.{ℕ, min, Bool, cond, ◌||◌, List, map, ltb, length}
-use Rattle.std.specs.Borrow.{Bor}
+use Rattle.std.specs.Borrow.{MutBor}
 use denote.Triple.Both.{Both}
 use Rattle.utf8.specs.declared.Utf8.{Utf8}
 use Rattle.utf8.specs.declared.Utf8.TheVariants.{Valid, At}
@@ -39,7 +39,7 @@ slices kinds ends events messages starts stops = record {
 
 -- in a contract: a lent slice, and the six of them at entry and at exit
 abbrev pub LentSlice : Type 0
-LentSlice = Both (Bor (List ℕ)) (Bor (List ℕ))
+LentSlice = Both (MutBor (List ℕ)) (MutBor (List ℕ))
 
 abbrev pub entry_slices : LentSlice → LentSlice → LentSlice → LentSlice → LentSlice → LentSlice → Slices
 entry_slices kinds ends events messages starts stops =

@@ -16,11 +16,12 @@ use Rattle.grammar.specs.Out.{kind, events, diags}
 use Rattle.grammar.specs.Source.{symbols}
 use Rattle.grammar.specs.Source
 use Rattle.grammar.specs.Joins.{leaf_events}
-use Rattle.grammar.specs.Laws.Premise.{leaf_events_of}
-use Rattle.grammar.specs.Theorems.AllTokens.{all_tokens}
-use Rattle.grammar.specs.Theorems.FewOpen.{peak, few_open}
-use Rattle.grammar.specs.Theorems.FewEvents.{few_events}
-use Rattle.grammar.specs.Theorems.FewDiagnostics.{few_diagnostics}
+use Rattle.grammar.proofs.Laws.Premise.{leaf_events_of}
+use Rattle.grammar.proofs.Theorems.AllTokens.{all_tokens}
+use Rattle.grammar.specs.Theorems.FewOpen.{peak}
+use Rattle.grammar.proofs.Theorems.FewOpen.{few_open}
+use Rattle.grammar.proofs.Theorems.FewEvents.{few_events}
+use Rattle.grammar.proofs.Theorems.FewDiagnostics.{few_diagnostics}
 use Rattle.grammar.specs.Theorems.InOrder.{NeverFalling}
 use Rattle.grammar.specs.Block.{MAX_CONTROL_FLOW_NESTING as limit}
 use Rattle.marks.specs.Laws.{NotRefused, none_refused, source_unmarked}

@@ -17,8 +17,8 @@ use Rattle.grammar.specs.Source.{syms, symbols}
 use Rattle.grammar.specs.Source
 use Rattle.grammar.specs.Joins.{shift}
 use Rattle.grammar.specs.Joins
-use Rattle.grammar.specs.Theorems.Joined.{end_follows, joined, joined_events}
-use Rattle.grammar.specs.Theorems.JoinedBytes.{joined_bytes}
+use Rattle.grammar.proofs.Theorems.Joined.{end_follows, joined, joined_events}
+use Rattle.grammar.proofs.Theorems.JoinedBytes.{joined_bytes}
 use Rattle.grammar.specs.Block.{MAX_CONTROL_FLOW_NESTING as limit}
 use Rattle.marks.specs.Laws.{join_syms, join_none_refused}
 use Rattle.answer.specs.Answer.{Slices, events_of, places_of}

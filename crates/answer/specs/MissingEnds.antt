@@ -17,7 +17,7 @@ use Rattle.grammar.specs.Out.{Diag, diags, Place, place, places}
 use Rattle.grammar.specs.Source.{symbols}
 use Rattle.grammar.specs.Source
 use Rattle.grammar.specs.Endings.{ending, endings, Endings}
-use Rattle.grammar.specs.Theorems.MissingEnds.{one_missing_end}
+use Rattle.grammar.proofs.Theorems.MissingEnds.{one_missing_end}
 use Rattle.answer.specs.Answer.{Slices, places_of}
 use Rattle.answer.specs.Call.{MasmParseText}
 use Rattle.answer.specs.Given.{given}

@@ -9,7 +9,7 @@ use Rattle.lexer.specs.Laws.{last}
 use Rattle.grammar.specs.Block.{MAX_CONTROL_FLOW_NESTING as limit}
 use Rattle.grammar.specs.Source.{symbols}
 use Rattle.grammar.specs.Joins.{shut_by}
-use Rattle.grammar.specs.Theorems.Joined.{end_follows}
+use Rattle.grammar.proofs.Theorems.Joined.{end_follows}
 use Rattle.grammar.specs.Compute.{bytes}
 use Rattle.lexer.specs.Kinds.{low_kinds}
 use Rattle.answer.specs.Answer.{Slices}

@@ -19,7 +19,7 @@ use Rattle.grammar.specs.Bump.{nop, bump_while, while_round}
 use Rattle.grammar.specs.Laws.Here.{is_not, none, one_of_not}
 use Rattle.grammar.specs.Laws.Live.{some, eats_take}
 use Rattle.grammar.specs.Laws.LiveLine.{eats_error_token, eats_instruction}
-use Rattle.grammar.specs.Laws.LiveBlock.{bare_while, repeat_left}
+use Rattle.grammar.proofs.Laws.LiveBlock.{bare_while, repeat_left}
 use Rattle.grammar.specs.Laws.Stops.{stops_block}
 use Rattle.parser.specs.Rep.{World, world, Onward, Past, Wrote, Ran, RanTo}
 use Rattle.parser.proofs.Kit.{Leads, ◌farther◌, answers, like_to, yes_to, no_to, done_to, bind_to, node_to, ◌then_to◌}

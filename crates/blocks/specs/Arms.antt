@@ -1,11 +1,11 @@
 -- A round of parse_block's loop by the token here: which arm it is, and what each arm does. That this is block-round is `round_is`.
 -- Assumes nothing.
-use Rattle.std.specs.Prelude.{ℕ, suc, ◌≡◌, refl, Bool, true, false, cond, List, leb}
+use Rattle.std.specs.Prelude.{ℕ, suc, ◌≡◌, refl, Bool, true, cond, List, leb}
 use Rattle.std.proofs.Common.{sym, ◌∙◌, ap}
 use Rattle.lexer.specs.Syntax.{DocComment}
 use Rattle.grammar.specs.Words.{Sym}
 use Rattle.grammar.specs.Look.{eof, at_kind, at_regular_trivia, at_terminator, at_stray_else, at_top_level_form_starter_in_block, at_control_flow_operation, can_start_instruction}
-use Rattle.grammar.specs.Run.{Res, P, Block, pure, peek, in_node, pick, ◌>>=◌, ◌>>◌, if◌then◌else◌}
+use Rattle.grammar.specs.Run.{Res, P, Block, pure, in_node, pick, ◌>>=◌, ◌>>◌}
 use Rattle.grammar.specs.declared.message.Message.{Message}
 use Rattle.grammar.specs.declared.message.BlockMessage.TheVariants.{DocCommentInBlock, UnexpectedTokenInBlock}
 use Rattle.grammar.specs.declared.block.BlockOwner.{BlockOwner}
@@ -16,7 +16,7 @@ use Rattle.grammar.specs.Bump.{bump, error_here, error_token}
 use Rattle.grammar.specs.Instruction.{parse_instruction}
 use Rattle.grammar.specs.Laws.Here.{if_arm}
 use Rattle.grammar.specs.Block.{Blocks, block_round, block_in, recover, reject_excessive_control_flow_nesting, parse_control_flow}
-use Rattle.grammar.specs.Theorems.NoFuel.{block_eq}
+use Rattle.grammar.proofs.Theorems.NoFuel.{block_eq}
 use Rattle.blocks.specs.declared.arm.Taken.{Taken}
 use Rattle.blocks.specs.declared.arm.Closing.{Closing}
 use Rattle.blocks.specs.declared.arm.BlockArm.{BlockArm}

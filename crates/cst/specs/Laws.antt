@@ -23,8 +23,8 @@ use Rattle.marks.specs.Marks.{first_refused}
 use Rattle.marks.specs.Code.{mark}
 use Rattle.marks.specs.Laws.{marks_unmarked}
 use Rattle.places.specs.Places.{Places}
-use Rattle.places.specs.Laws.{messages_of_places}
-use Rattle.places.specs.Writes.{places_over}
+use Rattle.places.proofs.Laws.{messages_of_places}
+use Rattle.places.proofs.Writes.{places_over}
 use Rattle.answer.specs.declared.Answer.TheVariants.{TokenRoom}
 use Rattle.answer.specs.Answer.{slices, Outcome, outcome, places_of, from_row_3, from_row_4, from_row_5}
 use Rattle.cst.specs.declared.rows.Counts.{Counts}

@@ -64,7 +64,7 @@ pub fn parse_text(
 }
 
 // The unit's call: the status, and the other three numbers in the first words of `counts`.
-pub extern "C" fn masm_parse_text(
+pub fn masm_parse_text(
     source: &[u8],
     kinds: &mut [u16],
     ends: &mut [u32],

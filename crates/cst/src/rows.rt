@@ -6,7 +6,7 @@ ghost use Rattle.lexer.specs.Tokens.{MAX_SOURCE, token_ends};
 ghost use Rattle.grammar.specs.Source.{symbols};
 ghost use Rattle.marks.specs.Marks.{first_refused};
 ghost use Rattle.answer.specs.declared.Answer.TheVariants.{OutputRoom, Accepted};
-ghost use Rattle.answer.specs.Answer.{entry_slices, exit_slices, outcome, from_row_3, from_row_5};
+ghost use Rattle.answer.specs.Answer.{slices, outcome, from_row_3, from_row_5};
 ghost use Rattle.cst.specs.Reading.{MarkedTokens, WriteReading};
 
 use answer::Answer;
@@ -74,8 +74,9 @@ fn parse_from_row_5(
     requires { (length source.now ≤ MAX_SOURCE) × (WellFormed source.now)
         × (t ≤ length kinds.now) × (take t kinds.now ≡ symbols source.now)
         × (t ≤ length ends.now) × (take t ends.now ≡ token_ends source.now) }
-    ensures { outcome result (exit_slices kinds ends events messages starts stops)
-        ≡ from_row_5 source.now (entry_slices kinds ends events messages starts stops) }
+    ensures { outcome result (slices kinds.now ends.now events.new messages.new starts.new stops.new)
+        ≡ from_row_5 source.now
+        (slices kinds.now ends.now events.old messages.old starts.old stops.old) }
 {
     let room = least(least(messages.len(), starts.len()), stops.len());
     let counts = write_reading(
@@ -106,8 +107,9 @@ pub fn parse_from_row_3(
 ) -> Answer
     requires { (length source.now ≤ MAX_SOURCE) × (WellFormed source.now)
         × (refusal ≡ first_refused 0 (tokenize source.now)) × (MarkedTokens source.now t kinds.now ends.now) }
-    ensures { outcome result (exit_slices kinds ends events messages starts stops)
-        ≡ from_row_3 source.now (entry_slices kinds ends events messages starts stops) }
+    ensures { outcome result (slices kinds.now ends.now events.new messages.new starts.new stops.new)
+        ≡ from_row_3 source.now
+        (slices kinds.now ends.now events.old messages.old starts.old stops.old) }
 {
     if least(kinds.len(), ends.len()) < t {
         return Answer::TokenRoom(t);

@@ -5,11 +5,10 @@ use Prim.Native.String.{String}
 use Rattle.lexer.specs.Syntax.{Error, Whitespace, Newline, Comment, Ident, Number, QuotedIdent, QuotedString, Dot, Equal, RParen}
 use Rattle.grammar.specs.Words.{words, word_of}
 use Rattle.grammar.specs.Block.{MAX_CONTROL_FLOW_NESTING as limit}
-use Rattle.grammar.specs.Joins.{here, there, shut_by, Joined}
-use Rattle.grammar.specs.Source.{symbols, source_events, source_places, Reading}
+use Rattle.grammar.specs.Joins.{shut_by}
+use Rattle.grammar.specs.Source.{source_events, source_places, Reading}
 use Rattle.grammar.specs.Compute.{bytes, ◌from◌to◌, again}
 use Rattle.grammar.specs.Theorems.FewOpen.{peak}
-use Rattle.grammar.specs.Theorems.Joined.{joined}
 
 -- Text as bytes: characters of one to four.
 text_bytes : bytes "aé€😀" ≡ 0x61 ∷ 0xC3 ∷ 0xA9 ∷ 0xE2 ∷ 0x82 ∷ 0xAC ∷ 0xF0 ∷ 0x9F ∷ 0x98 ∷ 0x80 ∷ []
@@ -222,7 +221,3 @@ ends_close :
     ≡ true ∷ true ∷ false ∷ false ∷ false ∷ false ∷ []
 unfolding again end_closes
 ends_close = refl
-
-joined_files : Joined limit (symbols (bytes "proc a pub ( end\n")) (symbols (bytes "proc b end"))
-unfolding again
-joined_files = joined limit (symbols (bytes "proc a pub ( end\n")) (symbols (bytes "proc b end")) (record { ends = there (there (there (there (there (there (there (there here))))))); closes = refl; starts = refl })

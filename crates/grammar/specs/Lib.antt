@@ -3,7 +3,7 @@
 -- Nesting: delimiter counts. Bump: small steps. Path: paths and groups. Line: line forms. Instruction, Block, Item.
 -- Out: events, diagnostics and their places. Source: all of it from a source's bytes. Joins: demand 3 over tokens.
 -- Endings: which block reports a missing closer. State: what a function does to what was written before.
--- Theorems has what is proved for all token lists and limits, Laws what the proofs rest on.
+-- Theorems has what is proved for all token lists and limits, Laws what the proofs rest on; both go on in proofs/.
 -- Compute: sources as text, and what computes. Examples: document 01's table and other examples.
 pub mod Words
 pub mod Look

@@ -1,17 +1,8 @@
--- The theorems, for all token lists and all limits.
--- AllTokens: the leaves are the tokens. Rounds: every round of the item loop takes a token, and every message has a number from 1 to 53.
--- FewOpen: at most 2 * limit + 4 nodes open. FewEvents: at most 7 * T + 2. FewDiagnostics: at most 2 * T.
--- InOrder: diagnostics stand in the order of their tokens. NoFuel: the loops without fuel.
--- HigherLimit: without the depth diagnostic the same at any higher limit. MissingEnds: which block reports a missing closer, and only it.
--- Joined, JoinedBytes: demand 3 over tokens and in bytes.
-pub mod AllTokens
+-- What is proved for all token lists and all limits; the theorems but InOrder are in proofs/Theorems, their definitions here.
+-- Rounds: every message has a number from 1 to 53. FewOpen: how many nodes are open. HigherLimit: no depth diagnostic.
+-- InOrder: diagnostics stand in the order of their tokens. Joined: diagnostics that stand at tokens of the first file.
 pub mod Rounds
 pub mod FewOpen
-pub mod FewEvents
-pub mod FewDiagnostics
 pub mod InOrder
-pub mod NoFuel
 pub mod HigherLimit
-pub mod MissingEnds
 pub mod Joined
-pub mod JoinedBytes

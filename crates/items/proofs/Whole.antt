@@ -13,9 +13,9 @@ use Rattle.grammar.specs.Run.{SourceFile, P, leaves, in_node}
 use Rattle.grammar.specs.Item.{items_in, parse}
 use Rattle.grammar.specs.Out.{Diag, ev, dg, events, diags}
 use Rattle.grammar.specs.State.{State, run}
-use Rattle.grammar.specs.Theorems.AllTokens.{all_tokens}
-use Rattle.grammar.specs.Theorems.FewEvents.{few_events}
-use Rattle.grammar.specs.Theorems.FewDiagnostics.{few_diagnostics}
+use Rattle.grammar.proofs.Theorems.AllTokens.{all_tokens}
+use Rattle.grammar.proofs.Theorems.FewEvents.{few_events}
+use Rattle.grammar.proofs.Theorems.FewDiagnostics.{few_diagnostics}
 use Rattle.grammar.specs.Block.{MAX_CONTROL_FLOW_NESTING as limit}
 use Rattle.parser.specs.Rep.{World, world, Rep, Small, Ran}
 use Rattle.items.specs.Entry.{start, Parse}

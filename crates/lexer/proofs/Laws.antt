@@ -56,6 +56,14 @@ module _ {p : ℕ → Bool} {s : List ℕ} {a at : ℕ} (g : Reaches p s a at) (
   pub reaches_end : p (get_or s at 0) ≡ false → at ≡ a + advance_while p (drop a s)
   reaches_end e = omega (arith, run_stop p s at h e)
 
+-- two and three bytes further
+module _ {p : ℕ → Bool} {s : List ℕ} {a at : ℕ} (g : Reaches p s a at) (h : at + 2 < length s) where
+  pub reaches_two : p (get_or s at 0) ≡ true → p (get_or s (at + 1) 0) ≡ true → Reaches p s a (at + 2)
+  reaches_two e f = reaches_next (reaches_next g (omega arith) refl e) (omega arith) (omega arith) f
+
+  pub reaches_three : p (get_or s at 0) ≡ true → p (get_or s (at + 1) 0) ≡ true → p (get_or s (at + 2) 0) ≡ true → Reaches p s a (at + 3)
+  reaches_three e f i = reaches_next (reaches_two e f) h (omega arith) i
+
 -- current_char, at the end and before it
 module _ (x : ℕ) (s : List ℕ) (at : ℕ) where
   pub starts_none : length s ≤ at → starts_with x (drop at s) ≡ false

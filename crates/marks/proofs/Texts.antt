@@ -24,12 +24,12 @@ Only n w t = cond (same w t) n 0 ≡ text_number t
 
 -- A byte with which no word starts, in the order of the match.
 abbrev pub Other : ℕ → Type 0
-Other b = ((((((((((((Unit {0} × (b ≡ 97 → ⊥)) × (b ≡ 98 → ⊥)) × (b ≡ 99 → ⊥)) × (b ≡ 100 → ⊥)) × (b ≡ 101 → ⊥)) × (b ≡ 105 → ⊥)) × (b ≡ 109 → ⊥)) × (b ≡ 110 → ⊥)) × (b ≡ 112 → ⊥)) × (b ≡ 114 → ⊥)) × (b ≡ 116 → ⊥)) × (b ≡ 117 → ⊥)) × (b ≡ 119 → ⊥)
+Other b = (b ≡ 97 → ⊥) × (b ≡ 98 → ⊥) × (b ≡ 99 → ⊥) × (b ≡ 100 → ⊥) × (b ≡ 101 → ⊥) × (b ≡ 105 → ⊥) × (b ≡ 109 → ⊥) × (b ≡ 110 → ⊥) × (b ≡ 112 → ⊥) × (b ≡ 114 → ⊥) × (b ≡ 116 → ⊥) × (b ≡ 117 → ⊥) × (b ≡ 119 → ⊥)
 
 none_led : (b : ℕ) (r : List ℕ) → Other b → 0 ≡ text_number (b ∷ r)
 unfolding text_number number_in words same
 none_led b r n =
-    rw (ne_eqb 97 b (λ e. n.0.0.0.0.0.0.0.0.0.0.0.0.1 (sym e)), ne_eqb 98 b (λ e. n.0.0.0.0.0.0.0.0.0.0.0.1 (sym e)), ne_eqb 99 b (λ e. n.0.0.0.0.0.0.0.0.0.0.1 (sym e)), ne_eqb 100 b (λ e. n.0.0.0.0.0.0.0.0.0.1 (sym e)), ne_eqb 101 b (λ e. n.0.0.0.0.0.0.0.0.1 (sym e)), ne_eqb 105 b (λ e. n.0.0.0.0.0.0.0.1 (sym e)), ne_eqb 109 b (λ e. n.0.0.0.0.0.0.1 (sym e)), ne_eqb 110 b (λ e. n.0.0.0.0.0.1 (sym e)), ne_eqb 112 b (λ e. n.0.0.0.0.1 (sym e)), ne_eqb 114 b (λ e. n.0.0.0.1 (sym e)), ne_eqb 116 b (λ e. n.0.0.1 (sym e)), ne_eqb 117 b (λ e. n.0.1 (sym e)), ne_eqb 119 b (λ e. n.1 (sym e)))
+    rw (ne_eqb 97 b (λ e. n.0 (sym e)), ne_eqb 98 b (λ e. n.1 (sym e)), ne_eqb 99 b (λ e. n.2 (sym e)), ne_eqb 100 b (λ e. n.3 (sym e)), ne_eqb 101 b (λ e. n.4 (sym e)), ne_eqb 105 b (λ e. n.5 (sym e)), ne_eqb 109 b (λ e. n.6 (sym e)), ne_eqb 110 b (λ e. n.7 (sym e)), ne_eqb 112 b (λ e. n.8 (sym e)), ne_eqb 114 b (λ e. n.9 (sym e)), ne_eqb 116 b (λ e. n.10 (sym e)), ne_eqb 117 b (λ e. n.11 (sym e)), ne_eqb 119 b (λ e. n.12 (sym e)))
 
 pub other : (t : List ℕ) → 0 < length t → Other (get_or t 0 0) → 0 ≡ text_number t
 other [] h o = absurd (omega arith)

@@ -8,7 +8,7 @@ use lib.ListN.{length, get_or, take, drop, set, length-set, length-take, length-
 use lib.Seq.{drop-cons, drop-set-lt, take-set-lt, get_or-take, length-take-le}
 use Rattle.room.specs.Over.{over, written}
 use Rattle.places.specs.Places.{start_of, stop_of, Places}
-use Rattle.places.specs.Laws.{less}
+use Rattle.places.proofs.Laws.{less}
 
 pub record Going (ends : List ℕ) (anchor n : ℕ) (starts₀ stops₀ starts stops : List ℕ) (i : ℕ) : Type 0 where
   pub room : n ≤ length starts₀

@@ -1,2 +1,4 @@
--- What the proof of `places` leans on.
+-- Laws of places, and what the proof of `places` leans on.
+pub mod Laws
+pub mod Writes
 pub mod Going

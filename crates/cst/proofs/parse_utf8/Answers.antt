@@ -39,4 +39,4 @@ returns c =
     let a = c.args in
     let k = c.mark_source-read.ensures in
     unmarked a.source.now a.kinds.now a.ends.now a.events.now a.messages.now a.starts.now a.stops.now _ _ _ k.fit
-    c.least-n.result (omega (arith, c.least-n.ensures, c.least.ensures, c.mark_source-read.kept)) c.unmark.ensures c.parse_from_row_3-answer.ensures
+    c.least-n.result (omega (arith, c.least-n.ensures, c.least.ensures)) c.unmark.ensures c.parse_from_row_3-answer.ensures

@@ -1,22 +1,20 @@
 -- Lookahead, paths, groups, line forms and instructions are Good.
 -- Assumes nothing.
-use Rattle.std.specs.Prelude.{ℕ, ◌≡◌, Bool, false}
+use Rattle.std.specs.Prelude.{ℕ, ◌≡◌, Bool}
 use Rattle.std.proofs.Math.Path.{refl}
 use Rattle.std.proofs.Common.{ap}
 use Rattle.std.proofs.Math.Bool.{true}
 use mathlib.Core.List.{List, [], ◌∷◌, ◌++◌, append-nil}
-use Rattle.lexer.specs.Syntax.{Whitespace, Newline, Comment, DocComment, LParen, RParen}
+use Rattle.lexer.specs.Syntax.{Whitespace, Newline, Comment, DocComment, LParen}
 use Rattle.grammar.specs.Words.{Sym, is, ELSE, END}
-use Rattle.grammar.specs.Look.{current, one_of, starts_instruction, control_flow, regular_trivia, non_comment_trivia, punctuation_continues_instruction, at, eof, skip, next_relevant_top_level_token, peek_after_non_comment_trivia, at_prefixed_keyword, at_top_level_form_starter_in_block, at_terminator, at_stray_else, at_block_recovery_boundary, can_start_operation, line_break_starts_new_top_level_item, space_before_top_level_item}
+use Rattle.grammar.specs.Look.{current, one_of, regular_trivia, non_comment_trivia, at, eof, skip, next_relevant_top_level_token, peek_after_non_comment_trivia, at_terminator, at_stray_else}
 use Rattle.grammar.specs.Run.{m_never, loop}
 use Rattle.grammar.specs.Message.{Message}
-use Rattle.grammar.specs.Nesting.{Nesting}
 use Rattle.grammar.specs.Bump.{while_round, bump_while, expect_kind, expect_name, error_token}
 use Rattle.grammar.specs.Path.{path_segment, path_round, parse_path_with_message, group_round, parse_balanced_group}
-use Rattle.grammar.specs.Line.{Expression, expr_round, parse_expr_until_line_end, type_round, parse_type_body, tail_round, parse_line_tail, ResultType, result_round, parse_signature_result_until_line_end}
-use Rattle.grammar.specs.Instruction.{Significant, Inst, should_continue_instruction_after_whitespace, should_stop_instruction_before, instruction_round, parse_instruction}
+use Rattle.grammar.specs.Line.{tail_round, parse_line_tail, ResultType, result_round, parse_signature_result_until_line_end}
 use Rattle.grammar.specs.declared.block.Terminators.{Terminators}
-use Rattle.grammar.specs.Laws.Ahead.{tail_nil, Cond, same, more, Alike, on, NotEnd, not_end_trivia, look_at, look_current, look_skip, look_bare_while, look_prefixed, look_starter_in_block, look_line_break, look_space}
+use Rattle.grammar.specs.Laws.Ahead.{tail_nil, Cond, same, more, Alike, on, NotEnd, not_end_trivia, look_at, look_current, look_skip, look_bare_while}
 use Rattle.grammar.specs.Laws.Good.{Good, good_pure, good_take, good_err, good_node, good_pick, good_bind, good_if, good_scan, good_loop}
 
 -- A lookahead that cannot tell such lists apart.
@@ -49,7 +47,7 @@ module _ {b : List Sym} where
   test_else Terminators.ElseEnd = λ r c. refl
   test_else Terminators.While = test_at (is ELSE)
 
-  test_skip : (p q : Sym → Bool) → NotEnd q → (r : List Sym) → Cond b r → at p (skip q (r ++ b)) ≡ at p (skip q r)
+  pub test_skip : (p q : Sym → Bool) → NotEnd q → (r : List Sym) → Cond b r → at p (skip q (r ++ b)) ≡ at p (skip q r)
   test_skip p q h = test (λ r. at p (skip q r)) (λ r r' l. look_at b p (look_skip b q h l))
 
   pub test_paren : (r : List Sym) → Cond b r → at (is LParen) (next_relevant_top_level_token (r ++ b)) ≡ at (is LParen) (next_relevant_top_level_token r)
@@ -117,44 +115,3 @@ module _ {b : List Sym} {bad : ℕ → Bool} where
   pub good_result : Good b bad parse_signature_result_until_line_end parse_signature_result_until_line_end
   unfolding parse_signature_result_until_line_end
   good_result = search (good·rules, good_scan b bad result_round test_result)
-
--- Where items may start: b's first token that is no regular trivia is no `)`.
-module _ (b : List Sym) (side : at (is RParen) (next_relevant_top_level_token b) ≡ false) where
-  pub test_starter : (r : List Sym) → Cond b r → at_top_level_form_starter_in_block (r ++ b) ≡ at_top_level_form_starter_in_block r
-  test_starter = test _ (λ r r' h. look_starter_in_block b side h)
-
-  pub test_prefixed : (ks : List Sym) (r : List Sym) → Cond b r → at_prefixed_keyword ks (r ++ b) ≡ at_prefixed_keyword ks r
-  test_prefixed ks = test _ (λ r r' h. look_prefixed b side ks h)
-
-  test_continue : (p : Significant) (n : Nesting) (r : List Sym) → Cond b r → should_continue_instruction_after_whitespace p n (r ++ b) ≡ should_continue_instruction_after_whitespace p n r
-  unfolding should_continue_instruction_after_whitespace one_of
-  test_continue p n r c = rw (test_skip punctuation_continues_instruction (is Whitespace) refl r c)
-
-  test_stop : (p : Significant) (n : Nesting) (r : List Sym) → Cond b r → should_stop_instruction_before p n (r ++ b) ≡ should_stop_instruction_before p n r
-  unfolding should_stop_instruction_before can_start_operation at_block_recovery_boundary
-  test_stop p n r c = rw (test_at punctuation_continues_instruction r c, test_terminator Terminators.ElseEnd r c, test_at starts_instruction r c, test_at control_flow r c, test_at (is ELSE) r c, test_starter r c)
-
-  test_instruction : (l : Inst) (r : List Sym) → Cond b r → instruction_round l (r ++ b) ≡ instruction_round l r
-  unfolding instruction_round
-  test_instruction l r c = rw (test_at (is Whitespace) r c, test_continue l.previous l.nesting r c, test_at (one_of (Newline ∷ Comment ∷ DocComment ∷ [])) r c, test_stop l.previous l.nesting r c, test_current r c)
-
-  test_expr : (l : Expression) (r : List Sym) → Cond b r → expr_round l (r ++ b) ≡ expr_round l r
-  unfolding expr_round
-  test_expr l r c = rw (test_at (one_of (Comment ∷ DocComment ∷ [])) r c, test_at (is Newline) r c, test_at (is Whitespace) r c, test space_before_top_level_item (λ r r' h. look_space b side h) r c, test_current r c)
-
-  test_type : (n : Nesting) (r : List Sym) → Cond b r → type_round n (r ++ b) ≡ type_round n r
-  unfolding type_round
-  test_type n r c = rw (test_at (is Newline) r c, test line_break_starts_new_top_level_item (λ r r' h. look_line_break b side h) r c, test_current r c)
-
-  module _ {bad : ℕ → Bool} where
-    pub good_instruction : Good b bad parse_instruction parse_instruction
-    unfolding parse_instruction
-    good_instruction = good_node _ (good_scan b bad instruction_round test_instruction _)
-
-    pub good_expr : Good b bad parse_expr_until_line_end parse_expr_until_line_end
-    unfolding parse_expr_until_line_end
-    good_expr = search (good·rules, good_while, good_scan b bad expr_round test_expr)
-
-    pub good_type_body : Good b bad parse_type_body parse_type_body
-    unfolding parse_type_body
-    good_type_body = good_node _ (good_scan b bad type_round test_type _)

@@ -1,54 +1,9 @@
--- Every round of the item loop takes at least one token. No loop runs out of fuel and no unreached message is said: each diagnostic has a
--- number from 1 to 53.
--- Assumes nothing.
-use Rattle.std.specs.Prelude.{ℕ, suc, ◌+◌, ◌≤◌, ◌<◌, ◌≡◌, refl, Bool, true, false, not, ◌&&◌, List, [], ◌∷◌, ◌++◌, leb, T, length}
-use Rattle.std.proofs.Common.{sym, subst, leb→le, arith}
-use Rattle.std.proofs.lemmas.Bool.{false≢true}
-use Rattle.lexer.specs.Syntax
-use Rattle.grammar.specs.Words.{Sym, is}
-use Rattle.grammar.specs.Run.{Forest, nil, leaf, node, say, leaves}
-use Rattle.grammar.specs.Message.{number}
-use Rattle.grammar.specs.Block.{parse_block}
-use Rattle.grammar.specs.Item.{parse_source_item, items_in, parse}
-use Rattle.grammar.specs.Out.{Diag, noted, dg, diags}
-use Rattle.grammar.specs.Laws.Good.{Calm}
-use Rattle.grammar.specs.Laws.Numbers.{no_message}
-use Rattle.grammar.specs.Laws.Live.{some}
-use Rattle.grammar.specs.Laws.LiveBlock.{live_block}
-use Rattle.grammar.specs.Laws.LiveItem.{eats_item, live_items}
-
-pub round_takes : (limit : ℕ) (s : Sym) (r : List Sym) → length (parse_source_item (parse_block limit) (s ∷ r)).rest < length (s ∷ r)
-unfolding some
-round_takes limit s r = (eats_item {n = 0} (live_block limit)).eats (s ∷ r) refl
+-- Diagnostics with a number from 1 to 53. Rounds in proofs/ shows that every file has such alone.
+-- Assumes nothing: this is a definition.
+use Rattle.std.specs.Prelude.{◌≤◌, List, [], ◌∷◌}
+use Rattle.grammar.specs.Out.{Diag}
 
 -- Every diagnostic has a message of docs/MESSAGES.md.
 abbrev pub AllNumbered : List Diag → Type 0
 AllNumbered [] = Unit {0}
 AllNumbered (d ∷ l) = (1 ≤ d.msg) × (d.msg ≤ 53) × AllNumbered l
-
-numbered_app : (l m : List Diag) → AllNumbered l → AllNumbered m → AllNumbered (l ++ m)
-numbered_app [] m h k = k
-numbered_app (d ∷ l) m h k = (h.0, h.1, numbered_app l m h.2 k)
-
-numbered_noted : (u : Bool) (i : ℕ) (l : List Diag) → AllNumbered l → AllNumbered (noted u i l)
-unfolding number
-numbered_noted true i l h = (omega arith, omega arith, h)
-numbered_noted false i l h = h
-
-in_range : (m : ℕ) → no_message m ≡ false → (1 ≤ m) × (m ≤ 53)
-in_range m e = c (leb 1 m) (leb m 53) refl refl e
-  where
-    c : (u v : Bool) → leb 1 m ≡ u → leb m 53 ≡ v → not (u && v) ≡ false → (1 ≤ m) × (m ≤ 53)
-    c true true p q e = (leb→le 1 m (subst T (sym p) tt), leb→le m 53 (subst T (sym q) tt))
-    c true false p q e = absurd (false≢true (sym e))
-    c false v p q e = absurd (false≢true (sym e))
-
-calm_numbered : (i : ℕ) (x : Forest) → Calm no_message x → AllNumbered (dg i x)
-calm_numbered i nil k = tt
-calm_numbered i (leaf s x) k = numbered_noted (is Syntax.Error s) i (dg (suc i) x) (calm_numbered (suc i) x k)
-calm_numbered i (node n c x) k = numbered_app (dg i c) (dg (i + length (leaves c)) x) (calm_numbered i c k.0) (calm_numbered (i + length (leaves c)) x k.1)
-calm_numbered i (say m x) k = let h = in_range m k.0 in (h.0, h.1, calm_numbered i x k.1)
-
-pub all_numbered : (limit : ℕ) (a : List Sym) → AllNumbered (diags limit a)
-unfolding diags parse items_in
-all_numbered limit a = calm_numbered 0 (parse limit a) ((live_items (suc (length a)) limit).calm a refl (omega arith))

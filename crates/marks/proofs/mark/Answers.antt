@@ -4,7 +4,6 @@ use mathlib.Core.Path.{◌≡◌, sym, ap, ◌∙◌}
 use mathlib.Core.Bool.{Bool, cond}
 use mathlib.Core.List.{List}
 use native.Mathlib.Omega.{arith}
-use borrow.Author.Rules.{rules}
 use borrow.Author.Tests.{eq-eqb, ne_eqb}
 use Rattle.lexer.specs.Syntax.{Ident}
 use Rattle.grammar.specs.Words.{MARK}
@@ -20,17 +19,17 @@ module _ (kind : ℕ) (text : List ℕ) where
   unfolding number_of
   ident e f = ap (λ (i : ℕ). kind + MARK * i) f ∙ sym (ap (λ (u : Bool). kind + MARK * cond u (text_number text) 0) (eq-eqb Ident kind (sym e)))
 
-few : (c : tie.After-number-of) → c.number_of.result ≤ 18
-few c = rw c.number_of.ensures (few_numbers _)
+few : {n : ℕ} (text : List ℕ) → n ≡ text_number text → n ≤ 18
+few text e = rw e (few_numbers text)
 
 pub returns-then-kind-ne-IDENT : goal.returns-then-kind-ne-IDENT
 returns-then-kind-ne-IDENT c = other _ _ c.if-kind-ne-IDENT.true
 
 pub overflow_mul-result : goal.overflow_mul-result
-overflow_mul-result c = omega (arith, few c)
+overflow_mul-result c = omega (arith, few _ c.number_of.ensures)
 
 pub overflow_add-result : goal.overflow_add-result
-overflow_add-result c = omega (arith, few c, c.if-kind-ne-IDENT.false)
+overflow_add-result c = omega (arith, few _ c.number_of.ensures, c.if-kind-ne-IDENT.false)
 
 pub returns : goal.returns
 returns c = ident _ _ c.if-kind-ne-IDENT.false c.number_of.ensures

@@ -1,7 +1,6 @@
 -- `marks::or_else` meets its contract, by what is refused so far. Assumes nothing.
 use Prim.Native.Nat.{ℕ, ◌≤◌, ◌<◌}
 use mathlib.Core.Path.{◌≡◌, refl, sym, ap, ◌∙◌}
-use borrow.Author.Rules.{rules}
 use borrow.Author.Tests.{lt-ltb, le-ltb}
 use Rattle.grammar.specs.Words.{key}
 use Rattle.marks.specs.declared.Refusal.{Refusal}

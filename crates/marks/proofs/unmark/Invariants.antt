@@ -1,14 +1,10 @@
 -- `marks::unmark` meets its contract: what is still to be written, over what has been written, is the whole. Assumes nothing.
-use Prim.Native.Nat.{ℕ, ◌+◌, ◌-◌, ◌≤◌, ◌<◌}
-use mathlib.Core.Path.{◌≡◌, refl, sym, ap, ◌∙◌}
+use Prim.Native.Nat.{ℕ, ◌-◌}
+use mathlib.Core.Path.{◌≡◌}
 use mathlib.Core.List.{List, map}
-use native.Mathlib.Omega.{arith}
-use borrow.Author.Rules.{rules}
-use lib.ListN.{length, get_or, drop, set, length-set, length-map, drop_of_length-le}
-use lib.Seq.{drop-set-lt}
-use Rattle.room.specs.Over.{over, over_all}
+use lib.ListN.{length, drop}
+use Rattle.room.specs.Over.{over}
 use Rattle.grammar.specs.Words.{kind_of}
-use Rattle.lexer.proofs.Laws.{next_byte}
 use Rattle.marks.proofs.unmark.Given as goal
 
 pub record Going (kinds₀ kinds : List ℕ) (i : ℕ) : Type 0 where

@@ -1,9 +1,7 @@
 -- `places::places` meets its contract. Assumes nothing.
-use Prim.Native.Nat.{◌-◌}
 use mathlib.Core.Path.{refl}
 use native.Mathlib.Omega.{arith}
-use borrow.Author.Rules.{rules}
-use Rattle.places.proofs.Going.{Going, goes_on, ended}
+use Rattle.places.proofs.Going.{goes_on, ended}
 use Rattle.places.proofs.places.Goals as goal
 
 pub loop-i-init : goal.loop-i-init
@@ -15,9 +13,6 @@ loop-i-init c = record {
   starts_done = refl;
   stops_done = refl;
 }
-
-pub overflow_cast-token : goal.overflow_cast-token
-overflow_cast-token c = omega (arith, c.slice_known-in-loop-i-1.given c.loop-i.i)
 
 pub loop-i-preserved : goal.loop-i-preserved
 loop-i-preserved c = goes_on c.loop-i.invariant c.loop-i-test.true _ _ c.start_of.ensures c.stop_of.ensures

@@ -1,9 +1,6 @@
 -- `places::places` meets its contract. Assumes nothing.
 use Prim.Native.Nat.{◌-◌}
-use mathlib.Core.Path.{refl}
-use native.Mathlib.Omega.{arith}
-use borrow.Author.Rules.{rules}
-use Rattle.places.proofs.Going.{Going, goes_on, ended}
+use Rattle.places.proofs.Going.{Going}
 use Rattle.places.proofs.places.Given as goal
 
 abbrev pub invariant-loop-i : goal.invariant-loop-i

@@ -1,7 +1,6 @@
 -- `places::start_of` meets its contract. Assumes nothing.
 use mathlib.Core.Path.{sym}
-use borrow.Author.Rules.{rules}
-use Rattle.places.specs.Laws.{start_behind, start_first, start_later}
+use Rattle.places.proofs.Laws.{start_behind, start_first, start_later}
 use Rattle.places.proofs.start_of.Goals as goal
 
 pub returns-then-ends-i : goal.returns-then-ends-i

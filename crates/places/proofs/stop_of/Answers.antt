@@ -1,7 +1,6 @@
 -- `places::stop_of` meets its contract. Assumes nothing.
 use mathlib.Core.Path.{sym}
-use borrow.Author.Rules.{rules}
-use Rattle.places.specs.Laws.{stop_at, stop_behind}
+use Rattle.places.proofs.Laws.{stop_at, stop_behind}
 use Rattle.places.proofs.stop_of.Goals as goal
 
 pub returns-then-i-ends : goal.returns-then-i-ends

@@ -1,6 +1,5 @@
 -- `blocks::arm::block_arm_here`: the tests of the definition, trivia first. Assumes nothing.
 use mathlib.Core.Path.{refl, sym, ◌∙◌}
-use borrow.Author.Rules.{rules}
 use Rattle.blocks.specs.Arms.{block_arm}
 use Rattle.grammar.specs.Look.{one_of, regular_trivia}
 use Rattle.blocks.proofs.Laws.{trivia_no_end, at_number, ident_arm}

@@ -1,6 +1,5 @@
 -- `blocks::arm::inner_arm`: the tests in their order, by the token's number. Assumes nothing.
 use mathlib.Core.Path.{refl, sym, ◌∙◌}
-use borrow.Author.Rules.{rules}
 use Rattle.blocks.specs.Arms.{inner_arm}
 use Rattle.grammar.specs.Look.{one_of, name_like, control_flow, starts_instruction}
 use Rattle.lexer.specs.Syntax.{DocComment}

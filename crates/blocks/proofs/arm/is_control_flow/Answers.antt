@@ -1,7 +1,6 @@
 -- `blocks::arm::is_control_flow`: one computed test of the words' bits. Assumes nothing.
 use mathlib.Core.List.{[], ◌∷◌}
 use mathlib.Core.Path.{◌∙◌}
-use borrow.Author.Rules.{rules}
 use Rattle.grammar.specs.Look.{one_of}
 use Rattle.parser.specs.Sets.{word_bits_are}
 use Rattle.blocks.proofs.arm.is_control_flow.Goals as goal

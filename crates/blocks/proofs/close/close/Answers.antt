@@ -1,8 +1,6 @@
 -- `blocks::close::close`: an arm that ends the loop, and the closing event. Assumes nothing.
 use mathlib.Core.Bool.{false≢true}
 use mathlib.Core.Path.{refl, ◌∙◌}
-use native.Mathlib.Omega.{arith}
-use borrow.Author.Rules.{rules}
 use Rattle.blocks.specs.Arms.{block_ending}
 use Rattle.grammar.specs.Block.{recover}
 use Rattle.grammar.specs.declared.block.BlockParseOutcome.{BlockParseOutcome}

@@ -1,5 +1,4 @@
 -- `blocks::close::ended_file`: the event, and a struct. Assumes nothing.
-use mathlib.Core.List.{[]}
 use mathlib.Core.Path.{refl}
 use Rattle.blocks.proofs.close.ended_file.Goals as goal
 

@@ -1,9 +1,7 @@
 -- `blocks::close::finish`: the form's `end` where its block was closed, and the closing event. Assumes nothing.
 use mathlib.Core.Bool.{true, false}
 use mathlib.Core.Path.{refl, ap, ◌∙◌}
-use native.Mathlib.Omega.{arith}
 use lib.ListN.{drop}
-use borrow.Author.Rules.{rules}
 use Rattle.grammar.specs.Block.{closing, ended}
 use Rattle.grammar.specs.Look.{one_of, at_top_level_form_starter_in_block}
 use Rattle.blocks.proofs.Laws.{finished, no_item}

@@ -1,6 +1,5 @@
 -- `blocks::close::found_terminator`: by its cases. Assumes nothing.
 use mathlib.Core.Path.{sym, ap}
-use borrow.Author.Rules.{rules}
 use Rattle.grammar.specs.Block.{found_terminator}
 use Rattle.blocks.proofs.close.found_terminator.Goals as goal
 

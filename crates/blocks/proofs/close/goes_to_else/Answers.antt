@@ -1,6 +1,4 @@
 -- `blocks::close::goes_to_else`: the two tests. Assumes nothing.
-use borrow.Author.Rules.{rules}
-use borrow.Author.Tests.{not-true, not-false}
 use Rattle.blocks.proofs.close.goes_to_else.Goals as goal
 
 pub returns-then-not-reached_eof : goal.returns-then-not-reached_eof

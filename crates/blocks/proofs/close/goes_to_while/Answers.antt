@@ -1,5 +1,4 @@
 -- `blocks::close::goes_to_while`: the two tests. Assumes nothing.
-use borrow.Author.Rules.{rules}
 use Rattle.blocks.proofs.close.goes_to_while.Goals as goal
 
 pub returns-then-found_terminator : goal.returns-then-found_terminator

@@ -1,6 +1,5 @@
 -- `blocks::close::reached_eof`: by its cases. Assumes nothing.
 use mathlib.Core.Path.{sym, ap}
-use borrow.Author.Rules.{rules}
 use Rattle.grammar.specs.Block.{reached_eof}
 use Rattle.blocks.proofs.close.reached_eof.Goals as goal
 

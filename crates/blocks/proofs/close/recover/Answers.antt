@@ -1,7 +1,5 @@
 -- `blocks::close::recover`: the steps of its callees. Assumes nothing.
-use mathlib.Core.List.{[]}
 use mathlib.Core.Path.{◌∙◌}
-use native.Mathlib.Omega.{arith}
 use Rattle.parser.proofs.Kit.{node}
 use Rattle.blocks.proofs.close.recover.Goals as goal
 

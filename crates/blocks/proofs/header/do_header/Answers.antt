@@ -1,6 +1,5 @@
 -- `blocks::header::do_header`: the opening event, and the line. Assumes nothing.
 use mathlib.Core.Path.{refl, ap, ◌∙◌}
-use native.Mathlib.Omega.{arith}
 use lib.ListN.{drop}
 use Rattle.grammar.specs.Words.{is, DO}
 use Rattle.grammar.specs.Look.{at, one_of}

@@ -1,6 +1,5 @@
 -- `blocks::header::while_header`: what header says. Assumes nothing.
 use mathlib.Core.Path.{refl}
-use native.Mathlib.Omega.{arith}
 use Rattle.grammar.specs.Look.{one_of}
 use Rattle.blocks.proofs.header.while_header.Goals as goal
 

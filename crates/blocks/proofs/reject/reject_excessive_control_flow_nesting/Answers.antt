@@ -1,14 +1,9 @@
 -- `blocks::reject::reject_excessive_control_flow_nesting`: the rest of the tokens, one at a time. Assumes nothing.
 use mathlib.Core.Bool.{true}
 use mathlib.Core.Path.{refl, sym, ◌∙◌}
-use Prim.Native.Nat.{◌-◌}
 use native.Mathlib.Omega.{arith}
-use lib.ListN.{length}
-use borrow.Author.Tests.{not-true, not-false}
 use Rattle.grammar.specs.Block.{all_round, reject_excessive_control_flow_nesting}
-use Rattle.grammar.specs.Run.{scan}
-use Rattle.parser.specs.Rep.{world}
-use Rattle.parser.proofs.Kit.{node, ◌then◌, begins, goes_on, scan_end, scan_go, Leads}
+use Rattle.parser.proofs.Kit.{node, ◌then◌, begins, goes_on, scan_end, scan_go}
 use Rattle.parser.proofs.Laws.{eof_within}
 use Rattle.blocks.proofs.reject.reject_excessive_control_flow_nesting.Goals as goal
 

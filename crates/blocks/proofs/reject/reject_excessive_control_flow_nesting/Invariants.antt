@@ -1,15 +1,11 @@
 -- `blocks::reject::reject_excessive_control_flow_nesting`: the rest of the tokens, one at a time. Assumes nothing.
 use mathlib.Core.Bool.{true}
-use mathlib.Core.Path.{refl, sym, ◌∙◌}
 use Prim.Native.Nat.{◌-◌}
-use native.Mathlib.Omega.{arith}
 use lib.ListN.{length}
-use borrow.Author.Tests.{not-true, not-false}
-use Rattle.grammar.specs.Block.{all_round, reject_excessive_control_flow_nesting}
+use Rattle.grammar.specs.Block.{all_round}
 use Rattle.grammar.specs.Run.{scan}
 use Rattle.parser.specs.Rep.{world}
-use Rattle.parser.proofs.Kit.{node, ◌then◌, begins, goes_on, scan_end, scan_go, Leads}
-use Rattle.parser.proofs.Laws.{eof_within}
+use Rattle.parser.proofs.Kit.{Leads}
 use Rattle.blocks.proofs.reject.reject_excessive_control_flow_nesting.Given as goal
 
 abbrev pub invariant-loop-ev : goal.invariant-loop-ev

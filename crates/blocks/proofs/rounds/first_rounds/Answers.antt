@@ -1,5 +1,4 @@
 -- `blocks::rounds::first_rounds`: the event, and the rounds. Assumes nothing.
-use native.Mathlib.Omega.{arith}
 use Rattle.parser.proofs.Kit.{◌farther◌}
 use Rattle.blocks.proofs.Laws.{no_item}
 use Rattle.blocks.proofs.rounds.first_rounds.Goals as goal

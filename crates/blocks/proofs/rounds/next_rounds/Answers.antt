@@ -1,4 +1,3 @@
-
 use Rattle.blocks.proofs.rounds.next_rounds.Goals as goal
 
 -- `blocks::rounds::next_rounds`: what rounds says. Assumes nothing.

@@ -1,5 +1,4 @@
 -- `blocks::step::take`: each case is a callee. Assumes nothing.
-use borrow.Author.Rules.{rules}
 use Rattle.blocks.specs.Arms.{taking}
 use Rattle.blocks.proofs.Laws.{silently, took}
 use Rattle.blocks.proofs.step.take.Goals as goal

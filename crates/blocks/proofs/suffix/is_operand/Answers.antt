@@ -1,7 +1,6 @@
 -- `blocks::suffix::is_operand`: a name, or one computed test of the kinds' bits. Assumes nothing.
 use mathlib.Core.List.{[], ◌∷◌}
 use mathlib.Core.Path.{sym, ◌∙◌}
-use borrow.Author.Rules.{rules}
 use Rattle.grammar.specs.Look.{one_of}
 use Rattle.lexer.specs.Syntax.{Number, QuotedString}
 use Rattle.parser.specs.Sets.{bits_are}

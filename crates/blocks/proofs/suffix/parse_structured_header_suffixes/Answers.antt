@@ -1,17 +1,13 @@
 -- `blocks::suffix::parse_structured_header_suffixes`: `loop`: a round that goes on takes a token. Assumes nothing.
 use mathlib.Core.Bool.{false}
 use mathlib.Core.Path.{◌∙◌}
-use Prim.Native.Nat.{◌-◌}
 use native.Mathlib.Omega.{arith}
-use lib.ListN.{length}
 use borrow.Author.Tests.{not-true, not-false}
 use Rattle.grammar.specs.Block.{suffix_round, parse_structured_header_suffixes}
 use Rattle.grammar.specs.Laws.LiveLine.{truly_suffix_round}
 use Rattle.grammar.specs.Run.{pure, pick, loop}
-use Rattle.grammar.specs.Theorems.NoFuel.{suffixes_eq}
-use Rattle.parser.specs.Rep.{world}
-use Rattle.blocks.proofs.Laws.{round}
-use Rattle.parser.proofs.Kit.{like_to, on_to, off_to, done_to, bind_to, begins, goes_on, Leads}
+use Rattle.grammar.proofs.Theorems.NoFuel.{suffixes_eq}
+use Rattle.parser.proofs.Kit.{like_to, on_to, off_to, done_to, bind_to, begins, goes_on}
 use Rattle.parser.proofs.Laws.{past_here}
 use Rattle.blocks.proofs.suffix.parse_structured_header_suffixes.Goals as goal
 

@@ -1,6 +1,5 @@
 -- `blocks::suffix::suffix_round`: the steps of its callees. Assumes nothing.
 use mathlib.Core.Bool.{false}
-use borrow.Author.Tests.{not-true, not-false}
 use Rattle.grammar.specs.Block.{suffix_round}
 use Rattle.parser.proofs.Kit.{yes_to, no_to, done_to, ◌then_to◌}
 use Rattle.blocks.proofs.suffix.suffix_round.Goals as goal

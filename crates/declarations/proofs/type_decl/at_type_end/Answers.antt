@@ -1,7 +1,5 @@
 -- `declarations::type_decl::at_type_end`: the tests of type-round. Assumes nothing.
 use mathlib.Core.Path.{sym, ◌∙◌}
-use borrow.Author.Rules.{rules}
-use borrow.Author.Tests.{not-true, not-false}
 use Rattle.declarations.specs.Parts.{type_ends}
 use Rattle.declarations.proofs.Rounds.{type_inside}
 use Rattle.declarations.proofs.type_decl.at_type_end.Goals as goal

@@ -1,19 +1,12 @@
 -- `declarations::type_decl::type_tokens`: `scan`, a token at a time; the counts are no more than the tokens taken. Assumes nothing.
-use mathlib.Core.Path.{refl, sym, ap, subst, ◌∙◌}
 use Prim.Native.Nat.{◌+◌, ◌-◌}
-use native.Mathlib.Omega.{arith}
 use lib.ListN.{length}
-use borrow.Author.Tests.{not-true, not-false}
 use Rattle.grammar.specs.Line.{type_round}
 use Rattle.grammar.specs.Nesting.{default, NestingBelow}
 use Rattle.grammar.specs.Run.{scan}
 use Rattle.parser.specs.Ahead.{BreakKnown}
 use Rattle.parser.specs.Rep.{world}
-use Rattle.declarations.proofs.Rounds.{type_stops, type_counts}
-use Rattle.parser.proofs.Ahead.{remembers_none, remembers_later}
-use Rattle.parser.proofs.Counts.{scan_counted, below_le, below_default}
-use Rattle.parser.proofs.Kit.{goes_on, scan_stop, scan_end, Leads, begins_as}
-use Rattle.parser.proofs.Laws.{eof_within}
+use Rattle.parser.proofs.Kit.{Leads}
 use Rattle.declarations.proofs.type_decl.type_tokens.Given as goal
 
 abbrev pub invariant-loop-nesting : goal.invariant-loop-nesting

@@ -1,6 +1,5 @@
 -- `forms::instruction::expects_operand`: meets its contract. Assumes nothing.
 use mathlib.Core.Path.{sym, ap, ◌∙◌}
-use borrow.Author.Rules.{rules}
 use Rattle.grammar.specs.Instruction.{expects_operand}
 use Rattle.forms.proofs.instruction.expects_operand.Goals as goal
 

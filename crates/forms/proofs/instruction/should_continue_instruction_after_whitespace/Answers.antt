@@ -1,6 +1,5 @@
 -- `forms::instruction::should_continue_instruction_after_whitespace`: the tests one after the other. Assumes nothing.
 use mathlib.Core.Path.{refl, sym, ap, ◌∙◌}
-use borrow.Author.Tests.{not-true, not-false}
 use Rattle.grammar.specs.Instruction.{should_continue_instruction_after_whitespace}
 use Rattle.grammar.specs.Look.{at, one_of, punctuation_continues_instruction}
 use Rattle.parser.proofs.Laws.{at_by}

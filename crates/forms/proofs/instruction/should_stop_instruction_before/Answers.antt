@@ -1,6 +1,5 @@
 -- `forms::instruction::should_stop_instruction_before`: the tests one after the other. Assumes nothing.
 use mathlib.Core.Path.{refl, sym, ◌∙◌}
-use borrow.Author.Tests.{not-true, not-false}
 use Rattle.forms.specs.Instruction.{starts_next}
 use Rattle.grammar.specs.Instruction.{should_stop_instruction_before}
 use Rattle.grammar.specs.Look.{one_of, punctuation_continues_instruction}

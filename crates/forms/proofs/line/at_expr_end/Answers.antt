@@ -1,7 +1,6 @@
 -- `forms::line::at_expr_end`: the tests one after the other. Assumes nothing.
 use mathlib.Core.Path.{refl, sym, ap, ◌∙◌}
 use native.Mathlib.Omega.{arith}
-use borrow.Author.Tests.{not-true, not-false}
 use Rattle.forms.specs.Line.{expr_ends}
 use Rattle.grammar.specs.Look.{skip, regular_trivia, space_before_top_level_item, is_top_level_starter}
 use Rattle.grammar.specs.Words.{is}

@@ -2,16 +2,13 @@
 use mathlib.Core.Bool.{true, false}
 use mathlib.Core.List.{List}
 use mathlib.Core.Path.{◌≡◌, refl, sym, ◌∙◌}
-use Prim.Native.Nat.{◌-◌}
 use native.Mathlib.Omega.{arith}
-use lib.ListN.{length}
 use Rattle.grammar.specs.Line.{tail_round, parse_line_tail}
 use Rattle.grammar.specs.Look.{at}
-use Rattle.grammar.specs.Run.{go, stop, scan}
+use Rattle.grammar.specs.Run.{go, stop}
 use Rattle.grammar.specs.Words.{Sym, is}
 use Rattle.lexer.specs.Syntax.{Whitespace, Comment}
-use Rattle.parser.specs.Rep.{world}
-use Rattle.parser.proofs.Kit.{begins, goes_on, scan_stop, scan_go, Leads}
+use Rattle.parser.proofs.Kit.{begins, goes_on, scan_stop, scan_go}
 use Rattle.parser.proofs.Laws.{at_some, at_within}
 use Rattle.forms.proofs.line.parse_line_tail.Goals as goal
 

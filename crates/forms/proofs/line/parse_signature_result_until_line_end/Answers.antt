@@ -1,20 +1,15 @@
 -- `forms::line::parse_signature_result_until_line_end`: `scan`, a token at a time; the counts are no more than the tokens taken. Assumes nothing.
 use mathlib.Core.Bool.{false}
 use mathlib.Core.Path.{refl, sym, ap, subst, ◌∙◌}
-use Prim.Native.Nat.{◌+◌, ◌-◌}
 use native.Mathlib.Omega.{arith}
-use lib.ListN.{length}
-use borrow.Author.Tests.{not-true, not-false}
 use Rattle.forms.specs.Line.{result_end}
 use Rattle.grammar.specs.Line.{ResultType, result_round, parse_signature_result_until_line_end}
-use Rattle.grammar.specs.Nesting.{default, NestingBelow}
+use Rattle.grammar.specs.Nesting.{NestingBelow}
 use Rattle.grammar.specs.Run.{scan}
-use Rattle.parser.specs.Rep.{world}
 use Rattle.forms.proofs.Rounds.{result_locals, result_stops, result_counts}
 use Rattle.parser.proofs.Counts.{scan_counted, below_le, below_default}
-use Rattle.parser.proofs.Kit.{bind, begins_as, goes_on, scan_stop, scan_end, Leads}
+use Rattle.parser.proofs.Kit.{bind, begins_as, goes_on, scan_stop, scan_end}
 use Rattle.parser.proofs.Laws.{eof_within}
-use Rattle.forms.proofs.line.parse_signature_result_until_line_end.Invariants.{first}
 use Rattle.forms.proofs.line.parse_signature_result_until_line_end.Goals as goal
 
 pub loop-nesting-init : goal.loop-nesting-init

@@ -1,6 +1,5 @@
 -- `forms::path::group_depth`: the opener, the closer, and any other token. Assumes nothing.
 use native.Mathlib.Numerals.{add-one, sub-one}
-use borrow.Author.Rules.{rules}
 use borrow.Author.Tests.{eq-eqb, ne_eqb}
 use Rattle.forms.specs.Path.{group_step}
 use Rattle.forms.proofs.path.group_depth.Goals as goal

@@ -1,21 +1,10 @@
 -- `forms::path::path_segments`: `loop`: a round that goes on takes a token. Assumes nothing.
-use mathlib.Core.Bool.{Bool, true, false}
-use mathlib.Core.Path.{◌≡◌, refl, ap, ◌∙◌}
-use Prim.Native.Nat.{ℕ, ◌-◌, ◌<◌}
-use native.Mathlib.Omega.{arith}
+use Prim.Native.Nat.{◌-◌}
 use lib.ListN.{length}
-use borrow.Author.Tests.{not-true, not-false}
-use Rattle.grammar.specs.Laws.LiveLine.{truly_path_round}
-use Rattle.grammar.specs.Look.{at, skip, non_comment_trivia}
-use Rattle.grammar.specs.Path.{path_segment, path_round}
-use Rattle.grammar.specs.Run.{pure, pick, loop, ◌>>=◌, P}
-use Rattle.grammar.specs.Theorems.NoFuel.{path_eq}
-use Rattle.grammar.specs.Words.{File, from, is}
-use Rattle.lexer.specs.Syntax.{ColonColon}
-use Rattle.parser.specs.Ahead.{Found}
-use Rattle.parser.specs.Rep.{Past, World, world, RanTo}
-use Rattle.parser.proofs.Kit.{like_to, yes_to, no_to, done_to, bind_to, begins, goes_on, Leads, answers}
-use Rattle.parser.proofs.Laws.{past_here}
+use Rattle.grammar.specs.Path.{path_round}
+use Rattle.grammar.specs.Run.{loop}
+use Rattle.parser.specs.Rep.{world}
+use Rattle.parser.proofs.Kit.{Leads}
 use Rattle.forms.proofs.path.path_segments.Given as goal
 
 abbrev pub invariant-loop-c : goal.invariant-loop-c

@@ -13,8 +13,8 @@ use Rattle.grammar.specs.Bump.{bump_while, while_round}
 use Rattle.grammar.specs.Laws.Here.{is_not}
 use Rattle.grammar.specs.Look.{one_of, at, eof, regular_trivia}
 use Rattle.grammar.specs.Run.{leaf, pure, peek, take_token, scan, ◌>>=◌, ◌>>◌, if◌then◌else◌, P}
-use Rattle.grammar.specs.Theorems.NoFuel.{items_eq}
-use Rattle.grammar.specs.Theorems.Rounds.{round_takes}
+use Rattle.grammar.proofs.Theorems.NoFuel.{items_eq}
+use Rattle.grammar.proofs.Theorems.Rounds.{round_takes}
 use Rattle.grammar.specs.Words.{File, from, Sym, is}
 use Rattle.parser.specs.Rep.{World, world, Ran, RanTo}
 use Rattle.parser.proofs.Kit.{like_to, yes_to, no_to, done_to, ◌then◌, ◌then_to◌, begins, goes_on, Leads}

@@ -1,10 +1,8 @@
 -- `lexer::runs::run_end` meets its contract: each byte that surely goes on is one step. Assumes nothing.
-use Prim.Native.Nat.{◌+◌}
 use mathlib.Core.Path.{refl, sym, ◌∙◌}
 use native.Mathlib.Omega.{arith}
 use borrow.Author.Rules.{rules}
-use Rattle.lexer.specs.Chars.{holds}
-use Rattle.lexer.proofs.Laws.{Reaches, reaches_next}
+use Rattle.lexer.proofs.Laws.{reaches_next, reaches_two, reaches_three}
 use Rattle.lexer.proofs.runs.run_end.Goals as goal
 
 pub loop-at-init : goal.loop-at-init
@@ -15,27 +13,22 @@ returns-then-not-surely c = c.advance_while.ensures ∙ sym c.loop-at.invariant.
 
 pub returns-then-not-surely-2 : goal.returns-then-not-surely-2
 returns-then-not-surely-2 c =
-    let one : Reaches (holds c.args.run) c.args.source.now c.args.from (c.loop-at.at + 1) = reaches_next c.loop-at.invariant (omega arith) (omega arith) (c.surely.ensures c.if-not-surely.false) in
+    let one = reaches_next c.loop-at.invariant (omega arith) refl (c.surely.ensures c.if-not-surely.false) in
     c.advance_while-then-not-surely-2.ensures ∙ sym one.goes
 
 pub returns-then-not-surely-3 : goal.returns-then-not-surely-3
 returns-then-not-surely-3 c =
-    let one : Reaches (holds c.args.run) c.args.source.now c.args.from (c.loop-at.at + 1) = reaches_next c.loop-at.invariant (omega arith) (omega arith) (c.surely.ensures c.if-not-surely.false) in
-    let two : Reaches (holds c.args.run) c.args.source.now c.args.from (c.loop-at.at + 2) = reaches_next one (omega arith) (omega arith) (c.surely-in-loop-at.ensures c.if-not-surely-2.false) in
+    let two = reaches_two c.loop-at.invariant (omega arith) (c.surely.ensures c.if-not-surely.false) (c.surely-in-loop-at.ensures c.if-not-surely-2.false) in
     c.advance_while-then-not-surely-3.ensures ∙ sym two.goes
 
 pub returns-then-not-surely-4 : goal.returns-then-not-surely-4
 returns-then-not-surely-4 c =
-    let one : Reaches (holds c.args.run) c.args.source.now c.args.from (c.loop-at.at + 1) = reaches_next c.loop-at.invariant (omega arith) (omega arith) (c.surely.ensures c.if-not-surely.false) in
-    let two : Reaches (holds c.args.run) c.args.source.now c.args.from (c.loop-at.at + 2) = reaches_next one (omega arith) (omega arith) (c.surely-in-loop-at.ensures c.if-not-surely-2.false) in
-    let three : Reaches (holds c.args.run) c.args.source.now c.args.from (c.loop-at.at + 3) = reaches_next two (omega arith) (omega arith) (c.surely-in-loop-at-2.ensures c.if-not-surely-3.false) in
+    let three = reaches_three c.loop-at.invariant (omega arith) (c.surely.ensures c.if-not-surely.false) (c.surely-in-loop-at.ensures c.if-not-surely-2.false) (c.surely-in-loop-at-2.ensures c.if-not-surely-3.false) in
     c.advance_while-then-not-surely-4.ensures ∙ sym three.goes
 
 pub loop-at-preserved : goal.loop-at-preserved
 loop-at-preserved c =
-    let one : Reaches (holds c.args.run) c.args.source.now c.args.from (c.loop-at.at + 1) = reaches_next c.loop-at.invariant (omega arith) (omega arith) (c.surely.ensures c.if-not-surely.false) in
-    let two : Reaches (holds c.args.run) c.args.source.now c.args.from (c.loop-at.at + 2) = reaches_next one (omega arith) (omega arith) (c.surely-in-loop-at.ensures c.if-not-surely-2.false) in
-    let three : Reaches (holds c.args.run) c.args.source.now c.args.from (c.loop-at.at + 3) = reaches_next two (omega arith) (omega arith) (c.surely-in-loop-at-2.ensures c.if-not-surely-3.false) in
+    let three = reaches_three c.loop-at.invariant (omega arith) (c.surely.ensures c.if-not-surely.false) (c.surely-in-loop-at.ensures c.if-not-surely-2.false) (c.surely-in-loop-at-2.ensures c.if-not-surely-3.false) in
     reaches_next three (omega arith) (omega arith) (c.surely-in-loop-at-3.ensures c.if-not-surely-4.false)
 
 pub returns : goal.returns

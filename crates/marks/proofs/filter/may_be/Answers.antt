@@ -1,5 +1,4 @@
 -- `marks::filter::may_be` meets its contract: a word passes, so what does not pass is none. Assumes nothing.
-use borrow.Author.Rules.{rules}
 use Rattle.marks.specs.Filter.{may_be, left_out}
 use Rattle.marks.proofs.filter.may_be.Goals as goal
 

@@ -1,5 +1,4 @@
 -- `marks::word::only` meets its contract. Assumes nothing.
-use borrow.Author.Rules.{rules}
 use Rattle.marks.proofs.Texts.{compared}
 use Rattle.marks.proofs.word.only.Goals as goal
 

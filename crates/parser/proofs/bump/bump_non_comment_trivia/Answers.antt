@@ -1,6 +1,5 @@
 -- `parser::bump::bump_non_comment_trivia`: one computed test of the run. Assumes nothing.
 use mathlib.Core.List.{[], ◌∷◌}
-use native.Mathlib.Omega.{arith}
 use Rattle.grammar.specs.Look.{one_of}
 use Rattle.lexer.specs.Syntax.{Whitespace, Newline}
 use Rattle.parser.specs.Sets.{trivia_to, trivia_is}

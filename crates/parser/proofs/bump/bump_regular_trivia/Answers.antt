@@ -1,6 +1,5 @@
 -- `parser::bump::bump_regular_trivia`: one computed test of the run. Assumes nothing.
 use mathlib.Core.List.{[], ◌∷◌}
-use native.Mathlib.Omega.{arith}
 use Rattle.grammar.specs.Look.{one_of}
 use Rattle.lexer.specs.Syntax.{Whitespace, Newline, Comment}
 use Rattle.parser.specs.Sets.{trivia_to, trivia_is}

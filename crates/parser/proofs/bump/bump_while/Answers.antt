@@ -1,15 +1,12 @@
 -- `parser::bump::bump_while`: the loop is `scan`, a token at a time. Assumes nothing.
 use mathlib.Core.Bool.{true, cond}
-use mathlib.Core.List.{List, []}
-use mathlib.Core.Path.{◌≡◌, refl, sym, ap, ◌∙◌}
-use Prim.Native.Nat.{ℕ, ◌-◌}
+use mathlib.Core.List.{[]}
+use mathlib.Core.Path.{refl, sym, ap, ◌∙◌}
 use native.Mathlib.Omega.{arith}
-use lib.ListN.{length}
 use Rattle.grammar.specs.Bump.{bump_while, while_round}
 use Rattle.grammar.specs.Run.{go, stop}
-use Rattle.parser.specs.Rep.{world}
 use Rattle.parser.specs.Sets.{trivia_to, trivia_own}
-use Rattle.parser.proofs.Kit.{Leads, begins, goes_on, scan_stop, scan_go}
+use Rattle.parser.proofs.Kit.{begins, goes_on, scan_stop, scan_go}
 use Rattle.parser.proofs.Laws.{at_some, at_within, at_by, current_in}
 use Rattle.parser.proofs.bump.bump_while.Goals as goal
 

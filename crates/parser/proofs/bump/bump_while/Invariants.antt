@@ -1,16 +1,11 @@
 -- `parser::bump::bump_while`: the loop is `scan`, a token at a time. Assumes nothing.
-use mathlib.Core.Bool.{true, cond}
-use mathlib.Core.List.{List, []}
-use mathlib.Core.Path.{◌≡◌, refl, sym, ap, ◌∙◌}
+use mathlib.Core.List.{List}
 use Prim.Native.Nat.{ℕ, ◌-◌}
-use native.Mathlib.Omega.{arith}
 use lib.ListN.{length}
-use Rattle.grammar.specs.Bump.{bump_while, while_round}
-use Rattle.grammar.specs.Run.{go, stop}
+use Rattle.grammar.specs.Bump.{bump_while}
 use Rattle.parser.specs.Rep.{world}
-use Rattle.parser.specs.Sets.{trivia_to, trivia_own}
-use Rattle.parser.proofs.Kit.{Leads, begins, goes_on, scan_stop, scan_go}
-use Rattle.parser.proofs.Laws.{at_some, at_within, at_by, current_in}
+use Rattle.parser.specs.Sets.{trivia_to}
+use Rattle.parser.proofs.Kit.{Leads}
 use Rattle.parser.proofs.bump.bump_while.Given as goal
 
 abbrev pub invariant-loop-k : goal.invariant-loop-k

@@ -1,5 +1,4 @@
 -- `parser::bump::expect_kind`: the token is here, or trivia is passed first. Assumes nothing.
-use borrow.Author.Rules.{rules}
 use Rattle.parser.proofs.Expect.{expected}
 use Rattle.parser.proofs.bump.expect_kind.Goals as goal
 

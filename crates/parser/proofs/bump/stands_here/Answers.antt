@@ -1,7 +1,6 @@
 -- `parser::bump::stands_here` meets its contract. Assumes nothing.
 use mathlib.Core.Bool.{false≢true}
 use mathlib.Core.Path.{sym, ◌∙◌}
-use borrow.Author.Rules.{rules}
 use borrow.Author.Tests.{not-true}
 use Rattle.parser.proofs.bump.stands_here.Goals as goal
 

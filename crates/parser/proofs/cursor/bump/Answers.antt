@@ -1,7 +1,6 @@
 -- `parser::cursor::bump`: the event is written, after a report where the token is of no kind, and the cursor goes one on; at the end nothing changes. Assumes nothing.
 use mathlib.Core.Path.{refl}
 use native.Mathlib.Omega.{arith}
-use borrow.Author.Rules.{rules}
 use Rattle.parser.proofs.Laws.{bump_bad, take_end}
 use Rattle.parser.proofs.cursor.bump.Goals as goal
 

@@ -1,7 +1,5 @@
 -- `parser::cursor::bump_plain`: the event is written and the cursor goes one on. Assumes nothing.
 use mathlib.Core.Path.{refl}
-use mathlib.Core.List.{[]}
-use borrow.Author.Rules.{rules}
 use Rattle.parser.proofs.Laws.{bump_plain}
 use Rattle.parser.proofs.cursor.bump_plain.Goals as goal
 

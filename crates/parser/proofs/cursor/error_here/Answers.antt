@@ -1,6 +1,5 @@
 -- `parser::cursor::error_here`: one diagnostic more, at the token here, each slice written where it has room. Assumes nothing.
 use mathlib.Core.Path.{refl}
-use borrow.Author.Rules.{rules}
 use Rattle.parser.proofs.Kit.{says}
 use Rattle.parser.proofs.Laws.{say_here}
 use Rattle.parser.proofs.cursor.error_here.Goals as goal

@@ -1,6 +1,5 @@
 -- `parser::cursor::put`: one event more, written where there is room. Assumes nothing.
 use mathlib.Core.Path.{refl}
-use borrow.Author.Rules.{rules}
 use Rattle.parser.proofs.Laws.{put_event}
 use Rattle.parser.proofs.cursor.put.Goals as goal
 

@@ -1,6 +1,5 @@
 -- `parser::kinds::expects_continuation_operand` meets its contract: one computed test of the set's bits. Assumes nothing.
 use mathlib.Core.Path.{◌∙◌}
-use borrow.Author.Rules.{rules}
 use mathlib.Core.List.{[], ◌∷◌}
 use Rattle.lexer.specs.Syntax.{Dot, Equal, Comma, DotDot, DotDotDot, Colon, ColonColon, RArrow, Plus, Minus, Star, Slash, SlashSlash, LBracket, LParen, LBrace}
 use Rattle.grammar.specs.Look.{one_of}

@@ -1,5 +1,4 @@
 -- `parser::kinds::in_set` meets its contract. Assumes nothing.
-use borrow.Author.Rules.{rules}
 use borrow.Author.Tests.{lt-ltb, le-ltb}
 use Rattle.parser.specs.Sets.{bit}
 use Rattle.parser.proofs.kinds.in_set.Goals as goal

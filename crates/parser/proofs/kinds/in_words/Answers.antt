@@ -1,5 +1,4 @@
 -- `parser::kinds::in_words` meets its contract. Assumes nothing.
-use borrow.Author.Rules.{rules}
 use borrow.Author.Tests.{eq-eqb, ne_eqb}
 use Rattle.parser.specs.Sets.{word_bit}
 use Rattle.parser.proofs.kinds.in_words.Goals as goal

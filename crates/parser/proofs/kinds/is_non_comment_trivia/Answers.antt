@@ -1,6 +1,5 @@
 -- `parser::kinds::is_non_comment_trivia` meets its contract: one computed test of the run. Assumes nothing.
 use mathlib.Core.Path.{◌∙◌}
-use borrow.Author.Rules.{rules}
 use mathlib.Core.List.{[], ◌∷◌}
 use Rattle.lexer.specs.Syntax.{Whitespace, Newline}
 use Rattle.grammar.specs.Look.{one_of}

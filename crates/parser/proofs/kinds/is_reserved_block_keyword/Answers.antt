@@ -1,7 +1,6 @@
 -- `parser::kinds::is_reserved_block_keyword` meets its contract: one computed test of the words' bits. Assumes nothing.
 use mathlib.Core.Path.{◌∙◌}
 use mathlib.Core.List.{[], ◌∷◌}
-use borrow.Author.Rules.{rules}
 use Rattle.grammar.specs.Look.{one_of}
 use Rattle.parser.specs.Sets.{word_bits_are}
 use Rattle.parser.proofs.kinds.is_reserved_block_keyword.Goals as goal

@@ -1,6 +1,5 @@
 -- `parser::kinds::punctuation_continues_instruction` meets its contract: one computed test of the set's bits. Assumes nothing.
 use mathlib.Core.Path.{◌∙◌}
-use borrow.Author.Rules.{rules}
 use mathlib.Core.List.{[], ◌∷◌}
 use Rattle.lexer.specs.Syntax.{Dot, Equal, Comma, DotDot, DotDotDot, Colon, ColonColon, RArrow, Plus, Minus, Star, Slash, SlashSlash, RBracket, RParen, RBrace}
 use Rattle.grammar.specs.Look.{one_of}

@@ -1,8 +1,7 @@
 -- `parser::kinds::starts_instruction` meets its contract. Assumes nothing.
 use mathlib.Core.Path.{ap}
 use mathlib.Core.Bool.{not}
-use borrow.Author.Rules.{rules}
-use Rattle.grammar.specs.Look.{is_reserved_block_keyword, starts_instruction}
+use Rattle.grammar.specs.Look.{starts_instruction}
 use Rattle.parser.proofs.kinds.starts_instruction.Goals as goal
 
 pub returns-then-is_name_like : goal.returns-then-is_name_like

@@ -1,7 +1,6 @@
 -- `parser::look::at_stray_else` meets its contract, for each kind of terminators. Assumes nothing.
 use mathlib.Core.Path.{sym, ap, ◌∙◌}
 use lib.ListN.{drop}
-use borrow.Author.Rules.{rules}
 use Rattle.grammar.specs.Look.{at_stray_else}
 use Rattle.parser.proofs.look.at_stray_else.Goals as goal
 

@@ -3,7 +3,6 @@ use mathlib.Core.Path.{◌≡◌, refl, sym, ap, ◌∙◌}
 use mathlib.Core.Bool.{◌||◌, or-false}
 use mathlib.Core.List.{List, [], ◌∷◌}
 use lib.ListN.{drop}
-use borrow.Author.Rules.{rules}
 use Rattle.grammar.specs.Words.{Sym, is, ELSE, END}
 use Rattle.grammar.specs.Look.{one_of, at, at_terminator}
 use Rattle.parser.proofs.look.at_terminator.Goals as goal

@@ -1,11 +1,7 @@
 -- `parser::look::skip` meets its contract: what is skipped from the start is what is skipped from the cursor on. Assumes nothing.
-use Prim.Native.Nat.{◌≤◌, ◌-◌}
-use mathlib.Core.Path.{◌≡◌, refl, sym, ◌∙◌}
+use mathlib.Core.Path.{refl, sym, ◌∙◌}
 use native.Mathlib.Omega.{arith}
 use borrow.Author.Rules.{rules}
-use borrow.Author.Tests.{not-true, not-false}
-use lib.ListN.{length, drop}
-use Rattle.grammar.specs.Look.{skip}
 use Rattle.parser.specs.Sets.{trivia_to}
 use Rattle.parser.proofs.Laws.{at_in, skip_on, skip_off, skip_end}
 use Rattle.parser.proofs.look.skip.Goals as goal

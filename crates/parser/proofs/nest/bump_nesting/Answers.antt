@@ -1,6 +1,4 @@
 -- `parser::nest::bump_nesting`: the counts, or a report. Assumes nothing.
-use mathlib.Core.List.{[]}
-use borrow.Author.Rules.{rules}
 use Rattle.parser.proofs.Counts.{counted_go, counted_refused}
 use Rattle.parser.proofs.nest.bump_nesting.Goals as goal
 

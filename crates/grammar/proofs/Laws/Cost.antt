@@ -18,7 +18,7 @@ use Rattle.grammar.specs.Line.{parse_expr_until_line_end, parse_line_tail}
 use Rattle.grammar.specs.Block.{Terminators, BlockParseOutcome}
 use Rattle.grammar.specs.Laws.Here.{while_rest, bind_nothing, expect_here, while_no, at_not, none}
 use Rattle.grammar.specs.Item.{parse_visibility, optional_visibility}
-use Rattle.grammar.specs.Laws.LiveItem.{opens}
+use Rattle.grammar.proofs.Laws.LiveItem.{opens}
 use Rattle.grammar.specs.Laws.Stops.{Stops}
 use Rattle.grammar.specs.Laws.Live.{anywhere, some, takes, Truly}
 

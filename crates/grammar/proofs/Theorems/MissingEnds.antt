@@ -13,8 +13,8 @@ use Rattle.grammar.specs.Endings.{ending, endings, Endings, holder, Unclosed, Fi
 use Rattle.grammar.specs.Laws.Good.{leaves_app, Calm}
 use Rattle.grammar.specs.Laws.Out.{dg_app}
 use Rattle.grammar.specs.Laws.Finish.{Final, silent, met_end}
-use Rattle.grammar.specs.Laws.FinishItem.{finishes_items}
-use Rattle.grammar.specs.Theorems.AllTokens.{all_tokens}
+use Rattle.grammar.proofs.Laws.FinishItem.{finishes_items}
+use Rattle.grammar.proofs.Theorems.AllTokens.{all_tokens}
 
 -- In the forest: which block reports.
 pub innermost_reports : (limit : ℕ) (a : List Sym) → FileEnd (parse limit a)

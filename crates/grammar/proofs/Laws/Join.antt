@@ -15,14 +15,14 @@ use Rattle.grammar.specs.Block.{Blocks, parse_block}
 use Rattle.grammar.specs.Item.{parse_procedure, parse_begin_block, parse_namespace, parse_submodule, parse_constant, parse_type_decl, parse_advice_map, parse_source_item, items, items_in, parse}
 use Rattle.grammar.specs.Laws.Ahead.{Tail, same, more}
 use Rattle.grammar.specs.Laws.Good.{app_assoc, Calm, ext}
-use Rattle.grammar.specs.Laws.StableBlock.{Limits, equal}
-use Rattle.grammar.specs.Laws.StableItem.{good_item, good_items}
+use Rattle.grammar.proofs.Laws.StableBlock.{Limits, equal}
+use Rattle.grammar.proofs.Laws.StableItem.{good_item, good_items}
 use Rattle.grammar.specs.Laws.Numbers.{no_message}
 use Rattle.grammar.specs.Laws.Live.{some}
-use Rattle.grammar.specs.Laws.LiveBlock.{live_block}
-use Rattle.grammar.specs.Laws.LiveItem.{live_item, eats_item, live_items, items_end}
+use Rattle.grammar.proofs.Laws.LiveBlock.{live_block}
+use Rattle.grammar.proofs.Laws.LiveItem.{live_item, eats_item, live_items, items_end}
 use Rattle.grammar.specs.Laws.Shut.{closed, closed_tail, nl_leaves, Where, later, between, earlier, closed_app}
-use Rattle.grammar.specs.Laws.Ends.{closes_item}
+use Rattle.grammar.proofs.Laws.Ends.{closes_item}
 
 -- One tree, a token or a node, or nothing.
 pub data Single : Forest → Type 0 where

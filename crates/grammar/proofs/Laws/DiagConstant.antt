@@ -16,9 +16,9 @@ use Rattle.grammar.specs.Line.{no_token, expr_round, parse_expr_until_line_end, 
 use Rattle.grammar.specs.Item.{parse_visibility, optional_visibility, parse_constant, at_declaration}
 use Rattle.grammar.specs.Laws.Here.{and_l, not_true, is_not, is_same, while_rest, bind_assoc}
 use Rattle.grammar.specs.Laws.Live.{anywhere, some, at_some, takes}
-use Rattle.grammar.specs.Laws.Cost.{constant_value, constant_equal, constant_name, weigh, weigh_app, scan_cost, cost_weak, cost_any, cost_le, cost_bind, cost_node, cost_while, expect_true}
-use Rattle.grammar.specs.Laws.DiagCost.{errors, diags_price, Cost2, no_error, expects, cost_tail}
-use Rattle.grammar.specs.Laws.DiagItem.{cost_visibility, cost_value, cost_equal, cost_constant_name, cost_constant}
+use Rattle.grammar.proofs.Laws.Cost.{constant_value, constant_equal, constant_name, weigh, weigh_app, scan_cost, cost_weak, cost_any, cost_le, cost_bind, cost_node, cost_while, expect_true}
+use Rattle.grammar.proofs.Laws.DiagCost.{errors, diags_price, Cost2, no_error, expects, cost_tail}
+use Rattle.grammar.proofs.Laws.DiagItem.{cost_visibility, cost_value, cost_equal, cost_constant_name, cost_constant}
 use Rattle.grammar.specs.Laws.LiveLine.{takes_nesting}
 use Rattle.grammar.specs.Laws.Visible.{left, skip_no, skip_at, expect_false, visible}
 

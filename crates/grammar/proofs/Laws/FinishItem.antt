@@ -12,11 +12,11 @@ use Rattle.grammar.specs.Item.{procedure_body, parse_procedure, parse_begin_bloc
 use Rattle.grammar.specs.Endings.{Unclosed}
 use Rattle.grammar.specs.Laws.Stops.{Stops, stops_block}
 use Rattle.grammar.specs.Laws.Live.{some}
-use Rattle.grammar.specs.Laws.LiveBlock.{live_block}
-use Rattle.grammar.specs.Laws.LiveItem.{eats_item}
+use Rattle.grammar.proofs.Laws.LiveBlock.{live_block}
+use Rattle.grammar.proofs.Laws.LiveItem.{eats_item}
 use Rattle.grammar.specs.Laws.Tame.{tame_pure, tame_take, tame_node, tame_if, tame_while, tame_tail, tame_expect, tame_name, tame_error_token, tame_visibility, tame_attributes, tame_signature, tame_namespace, tame_submodule, tame_constant, tame_type, tame_advice_map}
 use Rattle.grammar.specs.Laws.Finish.{Final, silent, met_end, Finishes, app_nil, final_after, finishes_tame, finishes_pick, finishes_if, finishes_after, finishes_closing}
-use Rattle.grammar.specs.Laws.FinishBlock.{LastBlock, EndsNode, form_node, finishes_block}
+use Rattle.grammar.proofs.Laws.FinishBlock.{LastBlock, EndsNode, form_node, finishes_block}
 
 module _ {blk : Blocks} (h : (w : BlockOwner) (t : Terminators) (d : ℕ) → EndsNode w (blk w t d)) (s : (w : BlockOwner) (t : Terminators) (d : ℕ) → Stops t (blk w t d)) where
   begin_item : Finishes Unclosed true (parse_begin_block blk)

@@ -6,7 +6,7 @@ use Rattle.std.proofs.lemmas.List.{length-map}
 use Rattle.room.specs.Over.{over, nil_over, cons_over}
 use Rattle.grammar.specs.Out.{Diag, places}
 use Rattle.places.specs.Places.{start_of, stop_of, Places}
-use Rattle.places.specs.Laws.{starts_of_places, stops_of_places}
+use Rattle.places.proofs.Laws.{starts_of_places, stops_of_places}
 
 -- behind the writes
 rest_over : (l vs : List ℕ) → drop (length vs) (over l 0 vs) ≡ drop (length vs) l

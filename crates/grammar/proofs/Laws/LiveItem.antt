@@ -19,7 +19,7 @@ use Rattle.grammar.specs.Laws.Numbers.{quiet_item}
 use Rattle.grammar.specs.Laws.Here.{bind_nothing, while_no, at_not, at_not_one, none, one_of_one}
 use Rattle.grammar.specs.Laws.Live.{Live, Eats, Truly, anywhere, some, live_pure, live_take, live_all, live_bind, live_if, live_case, live_eof, live_eat, eats_bind, eats_node, eats_take, eats_weak, at_some, eats_case, truly_bind, truly_case, truly_false, live_loop, eats_loop}
 use Rattle.grammar.specs.Laws.LiveLine.{live·rules, live_while, live_expect, live_name, live_error_token, live_group, live_expr, live_type_body, live_result, live_path, eats_error_token, eats_expect, live_key, eats_key}
-use Rattle.grammar.specs.Laws.LiveBlock.{live_closing, live_block}
+use Rattle.grammar.proofs.Laws.LiveBlock.{live_closing, live_block}
 
 -- ---- Live.
 module _ {n : ℕ} where

@@ -6,8 +6,8 @@ use Rattle.grammar.specs.Words.{Sym}
 use Rattle.grammar.specs.Run.{Forest, nil, leaf, node, say}
 use Rattle.grammar.specs.Item.{parse}
 use Rattle.grammar.specs.Out.{ev, events}
-use Rattle.grammar.specs.Laws.Cost.{weigh}
-use Rattle.grammar.specs.Laws.EventCost.{events_price, seven}
+use Rattle.grammar.proofs.Laws.Cost.{weigh}
+use Rattle.grammar.proofs.Laws.EventCost.{events_price, seven}
 
 weigh_ev : (x : Forest) → length (ev x) ≡ weigh events_price x
 weigh_ev nil = refl

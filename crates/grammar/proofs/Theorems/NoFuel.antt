@@ -16,13 +16,13 @@ use Rattle.grammar.specs.Item.{attribute_round, parse_source_item, items, items_
 use Rattle.grammar.specs.Laws.Ahead.{same}
 use Rattle.grammar.specs.Laws.Good.{Calm, ext, Good, good_if, good_bind, good_pure}
 use Rattle.grammar.specs.Laws.Stable.{test_eof}
-use Rattle.grammar.specs.Laws.StableBlock.{equal, good_blocks, good_round}
-use Rattle.grammar.specs.Laws.StableItem.{good_item, good_items}
+use Rattle.grammar.proofs.Laws.StableBlock.{equal, good_blocks, good_round}
+use Rattle.grammar.proofs.Laws.StableItem.{good_item, good_items}
 use Rattle.grammar.specs.Laws.Numbers.{no_message}
 use Rattle.grammar.specs.Laws.Loops.{loop_eq}
 use Rattle.grammar.specs.Laws.LiveLine.{truly_path_round, truly_suffix_round}
-use Rattle.grammar.specs.Laws.LiveBlock.{live_blocks}
-use Rattle.grammar.specs.Laws.LiveItem.{truly_attribute_round, live_items}
+use Rattle.grammar.proofs.Laws.LiveBlock.{live_blocks}
+use Rattle.grammar.proofs.Laws.LiveItem.{truly_attribute_round, live_items}
 
 ext_nil : {A : Type 0} (x : Res A) → ext [] x ≡ x
 ext_nil x = rw append-nil

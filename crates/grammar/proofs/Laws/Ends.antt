@@ -17,8 +17,8 @@ use Rattle.grammar.specs.Item.{procedure_body, parse_procedure, parse_begin_bloc
 use Rattle.grammar.specs.Laws.Ahead.{Tail, here, Cond, more}
 use Rattle.grammar.specs.Laws.Good.{goes_bind, goes_node, Calm, calm_app, ext, Good, good_pure, good_take, good_node, good_bind, good_if}
 use Rattle.grammar.specs.Laws.Stable.{test_at, good_while, good_expect, good_name, good_error_token, good_tail}
-use Rattle.grammar.specs.Laws.StableBlock.{good_closing, equal, good_in}
-use Rattle.grammar.specs.Laws.StableItem.{good_visibility, good_attributes, good_signature, good_namespace, good_submodule, test_declaration, test_procedure, good_constant, good_type, good_advice_map}
+use Rattle.grammar.proofs.Laws.StableBlock.{good_closing, equal, good_in}
+use Rattle.grammar.proofs.Laws.StableItem.{good_visibility, good_attributes, good_signature, good_namespace, good_submodule, test_declaration, test_procedure, good_constant, good_type, good_advice_map}
 use Rattle.grammar.specs.Laws.Numbers.{no_message}
 use Rattle.grammar.specs.Laws.Shut.{empty, ends_end, ends_leaf, top_block, shuts, shuts_leaf, empty_app, ends_app, leaf_app, ends_tail, shuts_tail}
 use Rattle.grammar.specs.Laws.Here.{is_same}

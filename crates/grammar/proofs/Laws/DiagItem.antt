@@ -16,9 +16,9 @@ use Rattle.grammar.specs.Item.{package_in_parens, parse_visibility, optional_vis
 use Rattle.grammar.specs.Laws.Here.{at_not_one, none, one_of_one}
 use Rattle.grammar.specs.Laws.Stops.{Stops}
 use Rattle.grammar.specs.Laws.Live.{anywhere}
-use Rattle.grammar.specs.Laws.LiveItem.{truly_attribute_round, after_attributes, opens, declaration_key, no_attributes}
-use Rattle.grammar.specs.Laws.DiagCost.{diags_price, Cost2, said, no_error, good_token, expects, expects_at, cost_name, cost_path, parens, cost_tail, cost_expr, cost_result, cost_key, cost_closed}
-use Rattle.grammar.specs.Laws.Cost.{constant_value, constant_equal, constant_name, cost_skip, weigh, cost_weak, cost_any, cost_le, cost_pure, cost_take_any, cost_pick, cost_bind, cost_then, cost_after, cost_nothing, cost_if, cost_case, cost_yes, cost_node, cost_scan, cost_while, rounds_zero, cost_loop_first, cost_ok, cost_declared, cost_trivia}
+use Rattle.grammar.proofs.Laws.LiveItem.{truly_attribute_round, after_attributes, opens, declaration_key, no_attributes}
+use Rattle.grammar.proofs.Laws.DiagCost.{diags_price, Cost2, said, no_error, good_token, expects, expects_at, cost_name, cost_path, parens, cost_tail, cost_expr, cost_result, cost_key, cost_closed}
+use Rattle.grammar.proofs.Laws.Cost.{constant_value, constant_equal, constant_name, cost_skip, weigh, cost_weak, cost_any, cost_le, cost_pure, cost_take_any, cost_pick, cost_bind, cost_then, cost_after, cost_nothing, cost_if, cost_case, cost_yes, cost_node, cost_scan, cost_while, rounds_zero, cost_loop_first, cost_ok, cost_declared, cost_trivia}
 
 ruleset zero·rules = (cost_pure, cost_take_any, cost_pick, cost_if, cost_then, cost_while, cost_scan)
 

@@ -10,7 +10,8 @@ use Rattle.grammar.specs.Run.{pure, peek, ◌>>=◌}
 use Rattle.grammar.specs.Item.{items, items_in, parse}
 use Rattle.grammar.specs.Out.{Diag, diags, place, places}
 use Rattle.grammar.specs.Joins.{move, shift, Joins}
-use Rattle.grammar.specs.Theorems.Joined.{joined, DiagsBelow, early}
+use Rattle.grammar.specs.Theorems.Joined.{DiagsBelow}
+use Rattle.grammar.proofs.Theorems.Joined.{joined, early}
 
 in_first : (m : ℕ) (es fs : List ℕ) (s eof eof' i : ℕ) → i < length es → place m (es ++ fs) s eof' i ≡ place m es s eof i
 in_first m [] fs s eof eof' i h = absurd (omega arith)

@@ -12,12 +12,12 @@ use Rattle.grammar.specs.Item.{at_declaration, at_procedure, parse_source_item, 
 use Rattle.grammar.specs.Out.{noted, dg, diags}
 use Rattle.grammar.specs.Laws.Stops.{Stops, stops_block}
 use Rattle.grammar.specs.Laws.Live.{anywhere, some}
-use Rattle.grammar.specs.Laws.LiveItem.{declaration_key}
-use Rattle.grammar.specs.Laws.Cost.{weigh, weigh_app, cost_weak, cost_any, cost_le, cost_node, cost_take_any}
-use Rattle.grammar.specs.Laws.DiagCost.{diags_price, Cost2, good_token, cost_error_token, cost_begin, cost_block}
-use Rattle.grammar.specs.Laws.DiagItem.{cost_namespace, cost_submodule, cost_type, cost_advice_map, cost_procedure}
-use Rattle.grammar.specs.Laws.DiagConstant.{credit, Owes, owes_cost, owes_constant}
-use Rattle.grammar.specs.Theorems.Rounds.{round_takes}
+use Rattle.grammar.proofs.Laws.LiveItem.{declaration_key}
+use Rattle.grammar.proofs.Laws.Cost.{weigh, weigh_app, cost_weak, cost_any, cost_le, cost_node, cost_take_any}
+use Rattle.grammar.proofs.Laws.DiagCost.{diags_price, Cost2, good_token, cost_error_token, cost_begin, cost_block}
+use Rattle.grammar.proofs.Laws.DiagItem.{cost_namespace, cost_submodule, cost_type, cost_advice_map, cost_procedure}
+use Rattle.grammar.proofs.Laws.DiagConstant.{credit, Owes, owes_cost, owes_constant}
+use Rattle.grammar.proofs.Theorems.Rounds.{round_takes}
 
 owes_case : {q : List Sym → Bool} {c e : ℕ} {A : Type 0} (t : List Sym → Bool) {f g : P A} → Owes t c e f → Owes q c e g → Owes q c e (if t then f else g)
 unfolding ◌>>=◌ peek

@@ -19,8 +19,8 @@ use Rattle.grammar.specs.Laws.Here.{is_not, none}
 use Rattle.grammar.specs.Laws.Stops.{Stops, stops_node, stops_loop}
 use Rattle.grammar.specs.Laws.Live.{anywhere, some}
 use Rattle.grammar.specs.Laws.LiveLine.{truly_path_round, truly_suffix_round}
-use Rattle.grammar.specs.Laws.LiveBlock.{bare_while, repeat_left}
-use Rattle.grammar.specs.Laws.Cost.{Price, Cost, cost_weak, cost_any, cost_le, cost_pure, cost_err, cost_take_any, cost_take_at, cost_take, cost_said, cost_pick, cost_bind, cost_then, cost_after, cost_if, cost_case, cost_cases, cost_node, cost_eof, cost_scan, cost_while, cost_expect_at, cost_outcome, rounds_zero, rounds_if, rounds_then, rounds_true, rounds_false, rounds_end, cost_loop, cost_expect, cost_trivia}
+use Rattle.grammar.proofs.Laws.LiveBlock.{bare_while, repeat_left}
+use Rattle.grammar.proofs.Laws.Cost.{Price, Cost, cost_weak, cost_any, cost_le, cost_pure, cost_err, cost_take_any, cost_take_at, cost_take, cost_said, cost_pick, cost_bind, cost_then, cost_after, cost_if, cost_case, cost_cases, cost_node, cost_eof, cost_scan, cost_while, cost_expect_at, cost_outcome, rounds_zero, rounds_if, rounds_then, rounds_true, rounds_false, rounds_end, cost_loop, cost_expect, cost_trivia}
 
 -- 1 for a diagnostic, and for a token of kind Error.
 abbrev pub errors : Sym → ℕ

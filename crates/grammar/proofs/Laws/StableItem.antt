@@ -13,8 +13,9 @@ use Rattle.grammar.specs.Block.{BlockOwner, Terminators, Blocks, parse_block}
 use Rattle.grammar.specs.Item.{package_in_parens, parse_visibility, optional_visibility, parse_attribute, parse_results, parse_signature, parse_namespace, parse_submodule, attribute_round, procedure_body, parse_procedure, parse_begin_block, parse_constant, type_name_and_body, parse_type_decl, parse_advice_map, at_declaration, at_procedure, parse_source_item, items}
 use Rattle.grammar.specs.Laws.Ahead.{Cond}
 use Rattle.grammar.specs.Laws.Good.{Good, good_pure, good_bind, good_if, good_fuel, good_loop}
-use Rattle.grammar.specs.Laws.Stable.{test_at, test_eof, good·rules, good_while, good_expect, good_name, good_error_token, good_path, good_group, good_tail, good_result, test_prefixed, good_expr, good_type_body}
-use Rattle.grammar.specs.Laws.StableBlock.{good_closing, Limits, good_block}
+use Rattle.grammar.specs.Laws.Stable.{test_at, test_eof, good·rules, good_while, good_expect, good_name, good_error_token, good_path, good_group, good_tail, good_result}
+use Rattle.grammar.proofs.Laws.Stable.{test_prefixed, good_expr, good_type_body}
+use Rattle.grammar.proofs.Laws.StableBlock.{good_closing, Limits, good_block}
 
 module _ {b : List Sym} {bad : ℕ → Bool} where
   good_package : Good b bad package_in_parens package_in_parens

@@ -15,16 +15,16 @@ use Rattle.grammar.specs.Item.{parse_source_item, items, items_in, parse}
 use Rattle.grammar.specs.Out.{kind, ev, events}
 use Rattle.grammar.specs.Joins.{leaf_events, zero_next, in_top, shut_by}
 use Rattle.grammar.specs.Laws.Here.{and_l, and_r}
-use Rattle.grammar.specs.Laws.StableBlock.{equal}
-use Rattle.grammar.specs.Laws.StableItem.{good_item}
+use Rattle.grammar.proofs.Laws.StableBlock.{equal}
+use Rattle.grammar.proofs.Laws.StableItem.{good_item}
 use Rattle.grammar.specs.Laws.Numbers.{no_message}
 use Rattle.grammar.specs.Laws.Live.{some}
-use Rattle.grammar.specs.Laws.LiveBlock.{live_block}
-use Rattle.grammar.specs.Laws.LiveItem.{eats_item}
+use Rattle.grammar.proofs.Laws.LiveBlock.{live_block}
+use Rattle.grammar.proofs.Laws.LiveItem.{eats_item}
 use Rattle.grammar.specs.Laws.Out.{ev_app}
 use Rattle.grammar.specs.Laws.Shut.{empty, ends_end, ends_leaf, top_block, shuts, shuts_leaf, is_nl, closed}
-use Rattle.grammar.specs.Laws.Ends.{closes_item}
-use Rattle.grammar.specs.Laws.Join.{Single, none, token, branch, item_single, items_leaves, one_nl}
+use Rattle.grammar.proofs.Laws.Ends.{closes_item}
+use Rattle.grammar.proofs.Laws.Join.{Single, none, token, branch, item_single, items_leaves, one_nl}
 
 big : (n : ℕ) → 27 ≤ n → eqb 0 n ≡ false
 big n h = c (eqb 0 n) refl

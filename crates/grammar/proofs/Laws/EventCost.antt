@@ -20,9 +20,9 @@ use Rattle.grammar.specs.Laws.Here.{none, one_of_one}
 use Rattle.grammar.specs.Laws.Stops.{Stops, stops_node, stops_loop, stops_block}
 use Rattle.grammar.specs.Laws.Live.{anywhere, some}
 use Rattle.grammar.specs.Laws.LiveLine.{truly_path_round, truly_suffix_round, instruction_first}
-use Rattle.grammar.specs.Laws.LiveBlock.{bare_while, repeat_left}
-use Rattle.grammar.specs.Laws.LiveItem.{truly_attribute_round, after_attributes, opens, declaration_key, no_attributes}
-use Rattle.grammar.specs.Laws.Cost.{constant_name, Price, weigh, Cost, cost_weak, cost_any, cost_le, cost_pure, cost_err, cost_take_any, cost_take_at, cost_take, cost_said, cost_pick, cost_bind, cost_then, cost_after, cost_nothing, cost_if, cost_case, cost_cases, cost_yes, cost_node, cost_eof, cost_scan, cost_while, cost_scan_first, cost_expect_at, cost_outcome, rounds_zero, cost_loop, cost_loop_first, cost_expect, cost_ok, cost_declared, cost_trivia}
+use Rattle.grammar.proofs.Laws.LiveBlock.{bare_while, repeat_left}
+use Rattle.grammar.proofs.Laws.LiveItem.{truly_attribute_round, after_attributes, opens, declaration_key, no_attributes}
+use Rattle.grammar.proofs.Laws.Cost.{constant_name, Price, weigh, Cost, cost_weak, cost_any, cost_le, cost_pure, cost_err, cost_take_any, cost_take_at, cost_take, cost_said, cost_pick, cost_bind, cost_then, cost_after, cost_nothing, cost_if, cost_case, cost_cases, cost_yes, cost_node, cost_eof, cost_scan, cost_while, cost_scan_first, cost_expect_at, cost_outcome, rounds_zero, cost_loop, cost_loop_first, cost_expect, cost_ok, cost_declared, cost_trivia}
 
 -- 1 for a token, 2 for a node.
 abbrev pub events_price : Price

@@ -5,7 +5,7 @@ use Rattle.std.proofs.Common.{arith}
 use Rattle.grammar.specs.Words.{Sym}
 use Rattle.grammar.specs.Run.{leaves}
 use Rattle.grammar.specs.Item.{items_in, parse}
-use Rattle.grammar.specs.Laws.Join.{items_leaves}
+use Rattle.grammar.proofs.Laws.Join.{items_leaves}
 
 pub all_tokens : (limit : ℕ) (a : List Sym) → leaves (parse limit a) ≡ a
 unfolding parse items_in
