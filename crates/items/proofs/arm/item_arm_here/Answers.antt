@@ -1,7 +1,6 @@
 -- `items::arm::item_arm_here`: by the token here and the declaration that it starts. Assumes nothing.
 use mathlib.Core.List.{List}
-use mathlib.Core.Path.{◌≡◌, refl, sym, ap₂, ◌∙◌}
-use borrow.Author.Rules.{rules}
+use mathlib.Core.Path.{◌≡◌, refl, ap₂, ◌∙◌}
 use borrow.Author.Tests.{eq-eqb, ne_eqb, lt-ltb, le-ltb}
 use Rattle.grammar.specs.Look.{current}
 use Rattle.grammar.specs.Words.{Sym}

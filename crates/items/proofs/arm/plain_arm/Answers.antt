@@ -1,6 +1,5 @@
 -- `items::arm::plain_arm`: the tests in their order. Assumes nothing.
 use mathlib.Core.Path.{sym, ◌∙◌}
-use borrow.Author.Rules.{rules}
 use borrow.Author.Tests.{eq-eqb, ne_eqb}
 use Rattle.items.specs.Arms.{plain_arm}
 use Rattle.items.proofs.arm.plain_arm.Goals as goal

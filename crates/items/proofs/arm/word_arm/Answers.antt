@@ -1,5 +1,4 @@
 -- `items::arm::word_arm`: the tests in their order. Assumes nothing.
-use borrow.Author.Rules.{rules}
 use borrow.Author.Tests.{eq-eqb, ne_eqb}
 use Rattle.items.specs.Arms.{word_arm}
 use Rattle.items.proofs.arm.word_arm.Goals as goal

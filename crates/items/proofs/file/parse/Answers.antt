@@ -1,5 +1,5 @@
 -- `items::file::parse`: from the empty cursor, the root node around the items. Assumes nothing.
-use Rattle.items.proofs.Whole.{whole, kept}
+use Rattle.items.proofs.Whole.{whole}
 use Rattle.parser.proofs.Kit.{node}
 use Rattle.items.proofs.file.parse.Goals as goal
 

@@ -2,10 +2,9 @@
 use mathlib.Core.Bool.{Bool, true, false, false≢true}
 use mathlib.Core.List.{List, [], ◌∷◌}
 use mathlib.Core.Path.{◌≡◌, refl, sym, ap, ◌∙◌}
-use Prim.Native.Nat.{◌-◌, ◌<◌}
+use Prim.Native.Nat.{◌<◌}
 use native.Mathlib.Omega.{arith}
 use lib.ListN.{length}
-use borrow.Author.Tests.{not-true, not-false}
 use Rattle.grammar.specs.Block.{MAX_CONTROL_FLOW_NESTING as limit, parse_block}
 use Rattle.grammar.specs.Item.{parse_source_item, items_in}
 use Rattle.lexer.specs.Syntax.{DocComment}
@@ -16,8 +15,8 @@ use Rattle.grammar.specs.Run.{leaf, pure, peek, take_token, scan, ◌>>=◌, ◌
 use Rattle.grammar.proofs.Theorems.NoFuel.{items_eq}
 use Rattle.grammar.proofs.Theorems.Rounds.{round_takes}
 use Rattle.grammar.specs.Words.{File, from, Sym, is}
-use Rattle.parser.specs.Rep.{World, world, Ran, RanTo}
-use Rattle.parser.proofs.Kit.{like_to, yes_to, no_to, done_to, ◌then◌, ◌then_to◌, begins, goes_on, Leads}
+use Rattle.parser.specs.Rep.{World, Ran, RanTo}
+use Rattle.parser.proofs.Kit.{like_to, yes_to, no_to, done_to, ◌then◌, ◌then_to◌, begins, goes_on}
 use Rattle.parser.proofs.Laws.{past_here}
 use Rattle.items.proofs.file.source_items.Goals as goal
 

@@ -1,10 +1,7 @@
 -- `items::file::source_items`: the items' loop without fuel; each round takes a token. Assumes nothing.
-use mathlib.Core.Bool.{Bool, true, false, false≢true}
-use mathlib.Core.List.{List, [], ◌∷◌}
-use mathlib.Core.Path.{◌≡◌, refl, sym, ap, ◌∙◌}
-use Prim.Native.Nat.{◌-◌, ◌<◌}
-use native.Mathlib.Omega.{arith}
+use Prim.Native.Nat.{◌-◌}
 use lib.ListN.{length}
+<<<<<<< HEAD
 use borrow.Author.Tests.{not-true, not-false}
 use Rattle.grammar.specs.Block.{MAX_CONTROL_FLOW_NESTING as limit, parse_block}
 use Rattle.grammar.specs.Item.{parse_source_item, items_in}
@@ -19,6 +16,12 @@ use Rattle.grammar.specs.Words.{File, from, Sym, is}
 use Rattle.parser.specs.Rep.{World, world, Ran, RanTo}
 use Rattle.parser.proofs.Kit.{like_to, yes_to, no_to, done_to, ◌then◌, ◌then_to◌, begins, goes_on, Leads}
 use Rattle.parser.proofs.Laws.{past_here}
+=======
+use Rattle.grammar.specs.Block.{MAX_CONTROL_FLOW_NESTING as limit}
+use Rattle.grammar.specs.Item.{items_in}
+use Rattle.parser.specs.Rep.{world}
+use Rattle.parser.proofs.Kit.{Leads}
+>>>>>>> ec8373ada64da5f34d0a06cb0ab1588743290051
 use Rattle.items.proofs.file.source_items.Given as goal
 
 abbrev pub invariant-loop-ev : goal.invariant-loop-ev

@@ -1,5 +1,4 @@
 -- `items::item::parse_arm`: each arm is a callee. Assumes nothing.
-use borrow.Author.Rules.{rules}
 use Rattle.grammar.specs.Block.{MAX_CONTROL_FLOW_NESTING as limit, parse_block}
 use Rattle.items.specs.Arms.{by_item_arm}
 use Rattle.items.proofs.Arms.{armed}

@@ -1,5 +1,4 @@
 -- `items::procedure::parse_begin_block`: its node around the steps of its callees. Assumes nothing.
-use native.Mathlib.Omega.{arith}
 use Rattle.grammar.specs.Block.{closing}
 use Rattle.grammar.specs.Item.{parse_begin_block}
 use Rattle.grammar.specs.declared.block.BlockOwner.{BlockOwner}

@@ -1,5 +1,4 @@
 -- `items::procedure::procedure_body`: the steps of its callees; the block's outcome says what closes it. Assumes nothing.
-use native.Mathlib.Omega.{arith}
 use Rattle.grammar.specs.Block.{closing}
 use Rattle.grammar.specs.Item.{procedure_body}
 use Rattle.grammar.specs.declared.block.BlockOwner.{BlockOwner}
