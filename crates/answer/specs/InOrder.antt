@@ -7,7 +7,8 @@ use Rattle.utf8.specs.Last.{last_char, last_append}
 use Rattle.lexer.specs.Lexer.{Token, tokenize}
 use Rattle.lexer.specs.Tokens.{ends, token_ends}
 use Rattle.lexer.specs.Laws.{Every, Filled, every_filled, token_bytes, lossless}
-use Rattle.characters.specs.ByCharacters.{WholeCharacters, every_whole}
+use Rattle.characters.specs.ByCharacters.{WholeCharacters}
+use Rattle.characters.proofs.ByCharacters.{every_whole}
 use Rattle.grammar.specs.Block.{MAX_CONTROL_FLOW_NESTING as limit}
 use Rattle.grammar.specs.Out.{diags, place}
 use Rattle.grammar.specs.Source.{symbols}

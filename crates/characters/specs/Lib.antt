@@ -1,18 +1,8 @@
 -- A source as characters, and that the lexer over its bytes gives the tokens of the lexer over its characters.
--- Text: a text is a list of characters, and its bytes. CharLexer: lexer.rs over characters. These are the definitions.
--- ByCharacters: the theorem. Examples: computed.
--- Encoding: the encodings of scalar values are the sequences of table 3-7. Decode: well-formed sources are the bytes of texts.
--- Spelling, Tests: the bytes of a character, and the lexer's tests on them. Agree, AgreeQuoted, AgreeNext: the lexer's functions
--- say of the bytes what they say of the characters. Quote: lex_quoted in the form of lexer.rs.
+-- Text: a text is a list of characters, and its bytes. CharLexer: lexer.rs over characters. Encoding: what is read off a character's
+-- bytes. ByCharacters: what the theorem says, which is proved in proofs/. These are the definitions. Examples: computed.
 pub mod Text
 pub mod CharLexer
 pub mod Encoding
-pub mod Decode
-pub mod Spelling
-pub mod Tests
-pub mod Agree
-pub mod AgreeQuoted
-pub mod Quote
-pub mod AgreeNext
 pub mod ByCharacters
 pub mod Examples

@@ -9,10 +9,10 @@ use Rattle.lexer.specs.Chars.{blank, letter, word, decimal, hex, binary, class, 
 use Rattle.lexer.specs.Lexer.{LexRule, lex_one, choose, lex_while, special, in_line, comment, lex_number, stray, arm, next}
 use Rattle.characters.specs.Text.{encode_all}
 use Rattle.characters.specs.CharLexer.{char_quoted, char_match, char_next}
-use Rattle.characters.specs.Tests.{no_blank, no_hex, no_binary, no_decimal, no_word, all_in_line, match_other}
-use Rattle.characters.specs.Agree.{Agrees, spelled, agree_one, agree_choose, agree_follow, agree_while, agree_special}
-use Rattle.characters.specs.AgreeQuoted.{agree_quoted}
-use Rattle.characters.specs.Quote.{char_quoted_is}
+use Rattle.characters.proofs.Tests.{no_blank, no_hex, no_binary, no_decimal, no_word, all_in_line, match_other}
+use Rattle.characters.proofs.Agree.{Agrees, spelled, agree_one, agree_choose, agree_follow, agree_while, agree_special}
+use Rattle.characters.proofs.AgreeQuoted.{agree_quoted}
+use Rattle.characters.proofs.Quote.{char_quoted_is}
 
 -- the arm of a class that is chosen by a test
 arm_cond : (t : Bool) (x y b : ℕ) → arm (cond t x y) b ≡ choose t (arm x b) (arm y b)

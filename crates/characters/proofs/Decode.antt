@@ -7,7 +7,8 @@ use Rattle.utf8.specs.Table.{char_length}
 use Rattle.utf8.specs.TableLaws.{char_length_lem, char_some}
 use Rattle.utf8.specs.WellFormed.{WellFormed, empty, more}
 use Rattle.utf8.specs.Scalar.{Scalar, encode}
-use Rattle.characters.specs.Encoding.{scalar_of, encode_character, decoded, scalar_of_encode}
+use Rattle.characters.specs.Encoding.{scalar_of}
+use Rattle.characters.proofs.Encoding.{encode_character, decoded, scalar_of_encode}
 use Rattle.characters.specs.Text.{Scalars, encode_all}
 
 -- a text's bytes are well formed

@@ -5,7 +5,7 @@ use Rattle.std.specs.Prelude.{ℕ, suc, ◌≤◌, ◌<◌, ◌≡◌, List, [],
 use Rattle.std.proofs.Common.{arith}
 use Rattle.utf8.specs.Width.{width, width_two, width_three, width_four}
 use Rattle.utf8.specs.Scalar.{encode}
-use Rattle.characters.specs.Encoding.{below_or_from, encode_one, encode_two, encode_three, encode_four}
+use Rattle.characters.proofs.Encoding.{below_or_from, encode_one, encode_two, encode_three, encode_four}
 
 -- all bytes are 0x80 or more
 abbrev pub HighBytes : List ℕ → Type 0

@@ -13,8 +13,8 @@ use Rattle.lexer.specs.Chars.{word}
 use Rattle.lexer.specs.Lexer.{Lexeme, LexRule, lex_one, later, choose, follow, advance_while, lex_while, same, kernel, exec, special}
 use Rattle.utf8.specs.Scalar.{encode}
 use Rattle.characters.specs.Text.{encode_all}
-use Rattle.characters.specs.Spelling.{HighBytes, Spelling, ascii, wide, spelling}
-use Rattle.characters.specs.Tests.{not_at, no_word}
+use Rattle.characters.proofs.Spelling.{HighBytes, Spelling, ascii, wide, spelling}
+use Rattle.characters.proofs.Tests.{not_at, no_word}
 
 -- a lexeme of the characters cs, counted in bytes
 abbrev pub spelled : Lexeme → List ℕ → Lexeme

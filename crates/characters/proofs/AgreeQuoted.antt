@@ -7,9 +7,9 @@ use Rattle.lexer.specs.Chars.{line_end, graphic}
 use Rattle.lexer.specs.Lexer.{Lexeme, later, unescaped, quoted}
 use Rattle.utf8.specs.Scalar.{encode}
 use Rattle.characters.specs.Text.{encode_all}
-use Rattle.characters.specs.Spelling.{HighBytes, Spelling, ascii, wide, spelling}
-use Rattle.characters.specs.Tests.{not_at, no_line_end, no_graphic}
-use Rattle.characters.specs.Agree.{Agrees, spelled, spelled_later}
+use Rattle.characters.proofs.Spelling.{HighBytes, Spelling, ascii, wide, spelling}
+use Rattle.characters.proofs.Tests.{not_at, no_line_end, no_graphic}
+use Rattle.characters.proofs.Agree.{Agrees, spelled, spelled_later}
 
 -- a number from 0x80 on is passed over, and the quote is no longer identifier-like
 quoted_high : (i : Bool) (b : ℕ) (s : List ℕ) → 0x80 ≤ b → quoted false i (b ∷ s) ≡ later (quoted false false s)
