@@ -32,7 +32,7 @@ $(archive): crates.txt $(shell find crates \( -name must-fail -o -name out \) -p
 
 # Prove every crate and run the programs.
 check:
-	tools/progress target/check.log rt check
+	tools/progress target/check.log rt all test
 
 # Everything, from nothing: the gate.
 test:
@@ -40,17 +40,17 @@ test:
 
 # The lexer, the readings and the text of tree against the compiled reference, and the same on N times the sampled cases.
 differ:
-	tools/progress target/check.log rt check cases
-	cd tests && cargo run --offline --release --bin differ lexer --program ../target/bin/cases
-	cd tests && cargo run --offline --release --bin differ readings --program ../target/bin/cases
-	cd tests && cargo run --offline --release --bin differ trees --program ../target/bin/cases
+	tools/progress target/check.log tools/program cases
+	cd tests && cargo run --offline --release --bin differ lexer --program ../crates/cases/out/cases
+	cd tests && cargo run --offline --release --bin differ readings --program ../crates/cases/out/cases
+	cd tests && cargo run --offline --release --bin differ trees --program ../crates/cases/out/cases
 
 N ?= 10
 large:
-	tools/progress target/check.log rt check cases
-	cd tests && cargo run --offline --release --bin differ lexer --program ../target/bin/cases --large $(N)
-	cd tests && cargo run --offline --release --bin differ readings --program ../target/bin/cases --large $(N)
-	cd tests && cargo run --offline --release --bin differ trees --program ../target/bin/cases --large $(N)
+	tools/progress target/check.log tools/program cases
+	cd tests && cargo run --offline --release --bin differ lexer --program ../crates/cases/out/cases --large $(N)
+	cd tests && cargo run --offline --release --bin differ readings --program ../crates/cases/out/cases --large $(N)
+	cd tests && cargo run --offline --release --bin differ trees --program ../crates/cases/out/cases --large $(N)
 
 # The exported call over the corpus, and from C, and fold. Needs gcc and valgrind.
 calls: $(archive)
@@ -94,10 +94,9 @@ choose:
 	cd tests && cargo run --offline --release -p mutants --bin choose > ../target/chosen.rs
 	mv target/chosen.rs tests/corpus/src/chosen.rs
 
-# The table of lines and seconds in docs/PROOFS.md, from a log of the gate.
-LOG ?= target/ci.log
+# The table of lines in docs/PROOFS.md.
 economy:
-	tests/economy/run $(LOG)
+	tests/economy/run
 
 # docs/FUNCTIONS.md, and the edits in docs/PROOFS.md, against the Rust sources and the crates; `tests/index/run --write` writes the
 # tables of laws anew. Needs python3.

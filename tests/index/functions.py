@@ -14,6 +14,8 @@ TABLE = "docs/FUNCTIONS.md"
 SOURCES = os.environ.get("MASM_CST_SRC") or "../shared/docs/src/crates/assembly-syntax-cst/src"
 OWNER = re.compile(r"(?:impl(?:<.*?>)?\s+(?:.* for )?|(?:pub )?trait )([\w:]+)")
 FUNCTION = re.compile(r'\s*(?:pub(?:\([^)]*\))? )?(?:(?:const|async|unsafe|extern "C") )*fn (\w+)')
+# What is written of a proof: loops and measures, answers to goals, or a whole proof.
+FILES = ["Invariants", "Answers", "Proof"]
 ENUM = re.compile(r"(?:pub )?enum (\w+)")
 
 
@@ -72,9 +74,9 @@ def proofs_of(name, path):
     if not place:
         return []
     base = f"crates/{place[1]}/proofs" + ("" if place[2] == "lib" else f"/{place[2]}")
-    own = glob.glob(f"{base}/{name}/Proof.antt") + glob.glob(f"{base}/[A-Z]*/{name}/Proof.antt")
-    file = "".join(word.capitalize() for word in name.split("_")) + ".antt"
-    return [os.path.dirname(proof) for proof in own] + glob.glob(f"{base}/+*/Proof/{file}")
+    cycle = re.search(rf"^#\[cycle\((\w+)\)\]\n(?:#\[.*\n)*(?:pub )?fn {re.escape(name)}\b", read(path), re.MULTILINE)
+    folders = [f"{base}/+{cycle[1]}"] if cycle else [f"{base}/{name}"] + glob.glob(f"{base}/[A-Z]*/{name}")
+    return [folder for folder in folders if any(os.path.exists(f"{folder}/{file}.antt") for file in FILES)]
 
 
 def proved(row, cell, code):

@@ -88,8 +88,8 @@ def functions_of(words, defined, ways):
         return []
     if ">>=" in words or ">>" in words:
         way, pieces = OPERATORS[">>=" if ">>=" in words else ">>"], split(words, *OPERATORS)
-    elif words[0] == "if":
-        way, pieces = "if◌then◌else◌", split(words[1:], "then", "else")[1:]
+    elif words[0] == "when":
+        way, pieces = "when◌then◌else◌", split(words[1:], "then", "else")[1:]
     elif isinstance(words[0], list):
         return functions_of(words[0], defined, ways)
     elif words[0] in ("take", "err", "pure", "peek") or words[0] not in ways:

@@ -4,7 +4,7 @@ import re
 import subprocess
 
 PATH = "docs/TREE.md"
-PROGRAM = "target/bin/tree"
+PROGRAM = "crates/tree/out/tree"
 REFERENCE = "tests/target/release/tree"
 EXAMPLE = re.compile(r"^```masm\n(.*?)\n```\n+```tree\n(.*?)\n```$", re.DOTALL | re.MULTILINE)
 

@@ -1,6 +1,6 @@
 -- Three calls, on A, on B and on the join, as one case; demand 3's premises one by one; and what computes.
 -- Assumes nothing.
-use Rattle.std.specs.Prelude.{ℕ, ◌+◌, ◌≤◌, ◌≡◌, refl, true, false, List, [], ◌∷◌, ◌++◌, eqb, length, replicate}
+use Rattle.std.specs.Prelude.{ℕ, ◌+◌, ◌≤◌, ◌≡◌, refl, true, false, List, [], ◌++◌, eqb, length, replicate}
 use Rattle.utf8.specs.Table
 use Rattle.utf8.specs.Validate
 use Rattle.lexer.specs.Tokens.{MAX_SOURCE}

@@ -11,7 +11,6 @@ use Rattle.lexer.specs.Lexer.{tokenize}
 use Rattle.lexer.specs.Tokens.{MAX_SOURCE, token_ends}
 use Rattle.lexer.specs.Laws.{last_end, length_ends, tokenize_nil}
 use Rattle.lexer.specs.Join.{join, join_kinds, join_ends}
-use Rattle.grammar.specs.Look.{at}
 use Rattle.grammar.specs.Out.{Place, events, diags, places}
 use Rattle.grammar.specs.Source.{syms, symbols}
 use Rattle.grammar.specs.Source

@@ -8,7 +8,7 @@ use lib.ListN.{length}
 use Rattle.lexer.specs.Syntax
 use Rattle.grammar.specs.Words.{Sym, File, from, is, DO, ELSE, END, IF, REPEAT, WHILE}
 use Rattle.grammar.specs.Look.{one_of, at, eof, current, name_like, regular_trivia, at_prefixed_keyword, at_bare_while, control_flow, starts_instruction, at_terminator, at_stray_else, at_regular_trivia, is_top_level_starter, at_top_level_form_starter_in_block}
-use Rattle.grammar.specs.Run.{Kind, num, P, Block, leaf, pure, peek, in_node, pick, take_token, scan, ◌>>=◌, ◌>>◌, if◌then◌else◌}
+use Rattle.grammar.specs.Run.{Kind, num, P, Block, leaf, pure, peek, in_node, pick, take_token, scan, ◌>>=◌, ◌>>◌, when◌then◌else◌}
 use Rattle.grammar.specs.State.{run}
 use Rattle.grammar.specs.declared.message.Message.{Message}
 use Rattle.grammar.specs.declared.block.BlockOwner.{BlockOwner}
@@ -54,27 +54,27 @@ unfolding at
 at_or s t [] = refl
 at_or s t (x ∷ r) = refl
 
-if_of : {A : Type 0} (t : List Sym → Bool) (f g : P A) (r : List Sym) {b : Bool} → t r ≡ b → (if t then f else g) r ≡ pick b f g r
+if_of : {A : Type 0} (t : List Sym → Bool) (f g : P A) (r : List Sym) {b : Bool} → t r ≡ b → (when t then f else g) r ≡ pick b f g r
 unfolding ◌>>=◌ peek
 if_of t f g r e = ap (λ u. pick u f g r) e
 
 -- two tests with the same answer
 module _ {A : Type 0} (s t : List Sym → Bool) (f g : P A) (r : List Sym) where
-  pub either : (s r || t r) ≡ true → (if s then f else if t then f else g) r ≡ f r
+  pub either : (s r || t r) ≡ true → (when s then f else when t then f else g) r ≡ f r
   either = go (s r) (t r) refl refl
     where
-      go : (u v : Bool) → s r ≡ u → t r ≡ v → (u || v) ≡ true → (if s then f else if t then f else g) r ≡ f r
-      go true v p q e = if_of s f (if t then f else g) r p
-      go false true p q e = if_of s f (if t then f else g) r p ∙ if_of t f g r q
+      go : (u v : Bool) → s r ≡ u → t r ≡ v → (u || v) ≡ true → (when s then f else when t then f else g) r ≡ f r
+      go true v p q e = if_of s f (when t then f else g) r p
+      go false true p q e = if_of s f (when t then f else g) r p ∙ if_of t f g r q
       go false false p q e = absurd (false≢true e)
 
-  pub neither : (s r || t r) ≡ false → (if s then f else if t then f else g) r ≡ g r
+  pub neither : (s r || t r) ≡ false → (when s then f else when t then f else g) r ≡ g r
   neither = go (s r) (t r) refl refl
     where
-      go : (u v : Bool) → s r ≡ u → t r ≡ v → (u || v) ≡ false → (if s then f else if t then f else g) r ≡ g r
+      go : (u v : Bool) → s r ≡ u → t r ≡ v → (u || v) ≡ false → (when s then f else when t then f else g) r ≡ g r
       go true v p q e = absurd (false≢true (sym e))
       go false true p q e = absurd (false≢true (sym e))
-      go false false p q e = if_of s f (if t then f else g) r p ∙ if_of t f g r q
+      go false false p q e = if_of s f (when t then f else g) r p ∙ if_of t f g r q
 
 -- trivia closes no block
 pub trivia_no_end : (t : Terminators) (r : List Sym) → at regular_trivia r ≡ true → at_terminator t r ≡ false

@@ -2,7 +2,7 @@
 use Rattle.std.specs.Prelude.{◌≡◌, Bool, true, false, ℕ, ◌<◌}
 use Rattle.grammar.specs.Words.{Sym, File, from, ELSE}
 use Rattle.grammar.specs.Look.{at_keyword, current, at_top_level_form_starter_in_block}
-use Rattle.grammar.specs.Run.{Kind, num, Error, P, pure, in_node, pick, ◌>>◌, ◌>>=◌, if◌then◌else◌}
+use Rattle.grammar.specs.Run.{Kind, num, Error, P, pure, in_node, pick, ◌>>◌, ◌>>=◌, when◌then◌else◌}
 use Rattle.grammar.specs.declared.message.Message.{Message}
 use Rattle.grammar.specs.declared.block.BlockOwner.{BlockOwner}
 use Rattle.grammar.specs.declared.block.Terminators.{Terminators}
@@ -30,7 +30,7 @@ else_line next = bump >> parse_line_tail >> next
 abbrev pub else_part : Blocks → ℕ → BlockParseOutcome → P Bool
 else_part block depth outcome =
     pick (reached_eof outcome) (pure true)
-    ((if at_keyword ELSE then else_line (block BlockOwner.If Terminators.End depth) else pure outcome) >>= λ last. ended BlockOwner.If last)
+    ((when at_keyword ELSE then else_line (block BlockOwner.If Terminators.End depth) else pure outcome) >>= λ last. ended BlockOwner.If last)
 
 -- a keyword, and the rest of its line
 pub record KeywordLine (F : File) (keyword : Sym) (w w' : World) : Type 0 where

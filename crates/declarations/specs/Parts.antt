@@ -3,7 +3,7 @@ use Rattle.std.specs.Prelude.{Bool, ◌&&◌, List, [], ◌∷◌}
 use Rattle.lexer.specs.Syntax.{Newline, Equal, LParen, RParen}
 use Rattle.grammar.specs.Words.{Sym, ENUM, TYPE}
 use Rattle.grammar.specs.Look.{one_of, at, at_kind, line_break_starts_new_top_level_item}
-use Rattle.grammar.specs.Run.{P, ◌>>◌, if◌then◌else◌}
+use Rattle.grammar.specs.Run.{P, ◌>>◌, when◌then◌else◌}
 use Rattle.grammar.specs.declared.nesting.Nesting.{Nesting}
 use Rattle.grammar.specs.declared.message.Message.{Message}
 use Rattle.grammar.specs.declared.message.ItemMessage.TheVariants.{ExpectedTypeOrEnum}
@@ -19,7 +19,7 @@ keyword_and_name k m name = expect_kind k m >> bump_regular_trivia >> expect_nam
 
 -- a group in parentheses, where one starts here
 abbrev pub optional_parens : Message → P Bool
-optional_parens missing = if at_kind LParen then parse_balanced_group LParen RParen missing else nop
+optional_parens missing = when at_kind LParen then parse_balanced_group LParen RParen missing else nop
 
 -- `=`, an expression and the rest of the line
 abbrev pub value_line : Message → P Bool
@@ -31,4 +31,4 @@ type_ends n r = at_kind Newline r && (is_root n && line_break_starts_new_top_lev
 
 -- parse_type_decl, behind its visibility and trivia
 abbrev pub type_keyword : P Bool
-type_keyword = if at (one_of (TYPE ∷ ENUM ∷ [])) then (bump >> type_name_and_body) else error_here (Message.Item ExpectedTypeOrEnum)
+type_keyword = when at (one_of (TYPE ∷ ENUM ∷ [])) then (bump >> type_name_and_body) else error_here (Message.Item ExpectedTypeOrEnum)

@@ -7,7 +7,7 @@ use Rattle.std.specs.Prelude.{ℕ, zero, suc, Bool, true, false, List, [], ◌�
 use Rattle.lexer.specs.Syntax.{DocComment, Number, QuotedString, Dot, LBracket, RBracket}
 use Rattle.grammar.specs.Words.{Sym, DO, ELSE, END, IF, REPEAT, WHILE}
 use Rattle.grammar.specs.Look.{one_of, at, eof, at_kind, at_keyword, at_name_like, at_regular_trivia, at_terminator, at_stray_else, at_top_level_form_starter_in_block, at_control_flow_operation, can_start_instruction}
-use Rattle.grammar.specs.Run.{Error, Block, IfOp, WhileOp, DoWhileOp, RepeatOp, P, pure, in_node, pick, ◌>>=◌, ◌>>◌, if◌then◌else◌, err, m_never, Round, go, scan, loop}
+use Rattle.grammar.specs.Run.{Error, Block, IfOp, WhileOp, DoWhileOp, RepeatOp, P, pure, in_node, pick, ◌>>=◌, ◌>>◌, when◌then◌else◌, err, m_never, Round, go, scan, loop}
 use Rattle.grammar.specs.Message.{Message, DocCommentInBlock, UnexpectedTokenInBlock, ExpectedSuffixEnd, ExpectedSuffix, NestingTooDeep}
 use Rattle.grammar.specs.Bump.{bump, error_here, nop, bump_inline_whitespace, expect_keyword, error_token}
 use Rattle.grammar.specs.Path.{parse_balanced_group}
@@ -25,15 +25,15 @@ MAX_CONTROL_FLOW_NESTING = 256
 -- Behind the dot of a suffix.
 unfoldable pub suffix_operand : P Bool
 suffix_operand =
-    if at_kind LBracket then (parse_balanced_group LBracket RBracket (Message.Block ExpectedSuffixEnd) >> pure true) else
-    if at_name_like then (bump >> pure true) else
-    if at (one_of (Number ∷ QuotedString ∷ [])) then (bump >> pure true) else
+    when at_kind LBracket then (parse_balanced_group LBracket RBracket (Message.Block ExpectedSuffixEnd) >> pure true) else
+    when at_name_like then (bump >> pure true) else
+    when at (one_of (Number ∷ QuotedString ∷ [])) then (bump >> pure true) else
     (error_here (Message.Block ExpectedSuffix) >> pure false)
 
 unfoldable pub suffix_round : P Bool
 suffix_round = do
   bump_inline_whitespace
-  if at_kind Dot then (bump >> bump_inline_whitespace >> suffix_operand) else pure false
+  when at_kind Dot then (bump >> bump_inline_whitespace >> suffix_operand) else pure false
 
 unfoldable pub parse_structured_header_suffixes : P Bool
 parse_structured_header_suffixes = loop suffix_round
@@ -75,7 +75,7 @@ parse_if block depth = in_node IfOp do
   parse_line_tail
   then_outcome ← block BlockOwner.If Terminators.ElseEnd depth
   pick (reached_eof then_outcome) (pure true) do
-    outcome ← if at_keyword ELSE then (bump >> parse_line_tail >> block BlockOwner.If Terminators.End depth) else pure then_outcome
+    outcome ← when at_keyword ELSE then (bump >> parse_line_tail >> block BlockOwner.If Terminators.End depth) else pure then_outcome
     ended BlockOwner.If outcome
 
 unfoldable pub parse_while : Blocks → ℕ → P Bool
@@ -114,9 +114,9 @@ parse_repeat block depth = in_node RepeatOp do
 -- parse_block's four calls
 unfoldable pub parse_control_flow : Blocks → ℕ → P Bool
 parse_control_flow block depth =
-    if at_keyword IF then parse_if block depth else
-    if at_keyword DO then parse_do_while block depth else
-    if at_keyword WHILE then parse_while block depth else
+    when at_keyword IF then parse_if block depth else
+    when at_keyword DO then parse_do_while block depth else
+    when at_keyword WHILE then parse_while block depth else
     parse_repeat block depth
 
 -- The empty Error node of a recovery.
@@ -126,16 +126,16 @@ recover owner boundary = in_node Error (error_here (Message.Recovery owner bound
 -- One round of parse_block's loop. `again` is the loop from its next round; a block inside is a Block node around the loop.
 unfoldable pub block_round : Blocks → ℕ → Blocks
 block_round again limit owner terminators depth =
-    if eof then (error_here (Message.MissingEnd owner) >> pure BlockParseOutcome.ReachedEof) else
-    if at_terminator terminators then pure BlockParseOutcome.FoundTerminator else
-    if at_regular_trivia then (bump >> again owner terminators depth) else
-    if at_stray_else terminators then recover owner BlockRecoveryBoundary.Else else
-    if at_top_level_form_starter_in_block then recover owner BlockRecoveryBoundary.TopLevelItem else
-    if at_kind DocComment then (error_token (Message.Block DocCommentInBlock) >> again owner terminators depth) else
-    if at_control_flow_operation then
+    when eof then (error_here (Message.MissingEnd owner) >> pure BlockParseOutcome.ReachedEof) else
+    when at_terminator terminators then pure BlockParseOutcome.FoundTerminator else
+    when at_regular_trivia then (bump >> again owner terminators depth) else
+    when at_stray_else terminators then recover owner BlockRecoveryBoundary.Else else
+    when at_top_level_form_starter_in_block then recover owner BlockRecoveryBoundary.TopLevelItem else
+    when at_kind DocComment then (error_token (Message.Block DocCommentInBlock) >> again owner terminators depth) else
+    when at_control_flow_operation then
     pick (leb limit depth) (reject_excessive_control_flow_nesting >> pure BlockParseOutcome.ReachedEof)
     (parse_control_flow (λ o t d. in_node Block (again o t d)) (suc depth) >>= λ ended_here. pick ended_here (pure BlockParseOutcome.ReachedEof) (again owner terminators depth)) else
-    if can_start_instruction then (parse_instruction >> again owner terminators depth) else
+    when can_start_instruction then (parse_instruction >> again owner terminators depth) else
     (error_token (Message.Block UnexpectedTokenInBlock) >> again owner terminators depth)
 
 -- The loop by fuel. With more fuel than tokens left it does not run out (Theorems.Rounds), and is the loop without fuel (Theorems.NoFuel).

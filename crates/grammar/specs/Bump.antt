@@ -5,7 +5,7 @@ use Rattle.std.specs.Prelude.{Bool, true, false, cond, List}
 use Rattle.lexer.specs.Syntax.{Whitespace}
 use Rattle.grammar.specs.Words.{Sym, is}
 use Rattle.grammar.specs.Look.{at, at_kind, at_name_like, regular_trivia, non_comment_trivia}
-use Rattle.grammar.specs.Run.{Error, P, pure, in_node, ◌>>◌, if◌then◌else◌, take_token, err, Round, stop, go, scan}
+use Rattle.grammar.specs.Run.{Error, P, pure, in_node, ◌>>◌, when◌then◌else◌, take_token, err, Round, stop, go, scan}
 use Rattle.grammar.specs.Message.{Message, number}
 
 abbrev pub bump : P Bool
@@ -38,14 +38,14 @@ bump_inline_whitespace = bump_while (is Whitespace)
 unfoldable pub expect_kind : Sym → Message → P Bool
 expect_kind kind message = do
   bump_regular_trivia
-  if at_kind kind then (bump >> pure true) else (error_here message >> pure false)
+  when at_kind kind then (bump >> pure true) else (error_here message >> pure false)
 
 abbrev pub expect_keyword : Sym → Message → P Bool
 expect_keyword = expect_kind
 
 -- if at_name_like() { bump } else { error_here(message) }
 unfoldable pub expect_name : Message → P Bool
-expect_name message = if at_name_like then bump else error_here message
+expect_name message = when at_name_like then bump else error_here message
 
 -- An Error node around one token, with a diagnostic.
 unfoldable pub error_token : Message → P Bool

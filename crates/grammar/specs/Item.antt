@@ -7,7 +7,7 @@ use Rattle.std.specs.Prelude.{ℕ, zero, suc, Bool, true, false, not, ◌||◌, 
 use Rattle.lexer.specs.Syntax.{DocComment, At, Colon, Equal, LParen, RArrow, RParen}
 use Rattle.grammar.specs.Words.{Sym, ADV_MAP, BEGIN, CONST, ENUM, MOD, NAMESPACE, PACKAGE, PROC, PUB, TYPE}
 use Rattle.grammar.specs.Look.{one_of, at, eof, at_kind, at_keyword, at_regular_trivia, next_relevant_top_level_token, peek_after_non_comment_trivia, at_prefixed_keyword}
-use Rattle.grammar.specs.Run.{Doc, Namespace, Submodule, Constant, TypeDecl, AdviceMap, BeginBlock, Procedure, Attribute, Visibility, Signature, Forest, P, pure, in_node, pick, ◌>>=◌, ◌>>◌, if◌then◌else◌, err, m_never, loop}
+use Rattle.grammar.specs.Run.{Doc, Namespace, Submodule, Constant, TypeDecl, AdviceMap, BeginBlock, Procedure, Attribute, Visibility, Signature, Forest, P, pure, in_node, pick, ◌>>=◌, ◌>>◌, when◌then◌else◌, err, m_never, loop}
 use Rattle.grammar.specs.Message.{Message, UnexpectedTopLevelToken, ExpectedNamespacePath, ExpectedMod, ExpectedSubmoduleName, ExpectedConst, ExpectedConstantName, ExpectedConstantEqual, ExpectedTypeOrEnum, ExpectedTypeName, ExpectedTypeEqualOrColon, ExpectedAdviceMapName, ExpectedAdviceMapKeyEnd, ExpectedAdviceMapEqual, ExpectedProc, ExpectedProcedureName, ExpectedAttributeName, ExpectedAttributeEnd, ExpectedPackage, ExpectedPackageEnd, ExpectedParametersEnd, ExpectedResultsEnd}
 use Rattle.grammar.specs.Bump.{bump, error_here, nop, bump_regular_trivia, bump_non_comment_trivia, bump_inline_whitespace, expect_keyword, expect_kind, expect_name, error_token}
 use Rattle.grammar.specs.Path.{parse_path_with_message, parse_balanced_group}
@@ -25,11 +25,11 @@ package_in_parens = do
 unfoldable pub parse_visibility : P Bool
 parse_visibility = in_node Visibility do
   expect_keyword PUB Message.Unreached
-  if (λ r. at_kind LParen (next_relevant_top_level_token r)) then package_in_parens else nop
+  when (λ r. at_kind LParen (next_relevant_top_level_token r)) then package_in_parens else nop
 
 -- if at_keyword("pub") { parse_visibility }
 unfoldable pub optional_visibility : P Bool
-optional_visibility = if at_keyword PUB then parse_visibility else nop
+optional_visibility = when at_keyword PUB then parse_visibility else nop
 
 unfoldable pub parse_attribute : P Bool
 parse_attribute = in_node Attribute do
@@ -37,7 +37,7 @@ parse_attribute = in_node Attribute do
   bump_regular_trivia
   expect_name (Message.Procedure ExpectedAttributeName)
   bump_inline_whitespace
-  if at_kind LParen then parse_balanced_group LParen RParen (Message.Procedure ExpectedAttributeEnd) else nop
+  when at_kind LParen then parse_balanced_group LParen RParen (Message.Procedure ExpectedAttributeEnd) else nop
 
 -- parse_signature, behind the arrow
 unfoldable pub parse_results : P Bool
@@ -45,12 +45,12 @@ parse_results = do
   bump_non_comment_trivia
   bump
   bump_non_comment_trivia
-  if at_kind LParen then parse_balanced_group LParen RParen (Message.Procedure ExpectedResultsEnd) else parse_signature_result_until_line_end
+  when at_kind LParen then parse_balanced_group LParen RParen (Message.Procedure ExpectedResultsEnd) else parse_signature_result_until_line_end
 
 unfoldable pub parse_signature : P Bool
 parse_signature = in_node Signature do
   parse_balanced_group LParen RParen (Message.Procedure ExpectedParametersEnd)
-  if (λ r. at_kind RArrow (peek_after_non_comment_trivia r)) then parse_results else nop
+  when (λ r. at_kind RArrow (peek_after_non_comment_trivia r)) then parse_results else nop
 
 abbrev pub parse_doc_form : P Bool
 parse_doc_form = in_node Doc bump
@@ -73,7 +73,7 @@ parse_submodule = in_node Submodule do
 unfoldable pub attribute_round : P Bool
 attribute_round = do
   bump_regular_trivia
-  if at_kind At then (parse_attribute >> pure true) else pure false
+  when at_kind At then (parse_attribute >> pure true) else pure false
 
 -- parse_procedure, behind `proc`
 unfoldable pub procedure_body : Blocks → P Bool
@@ -81,7 +81,7 @@ procedure_body block = do
   bump_regular_trivia
   expect_name (Message.Procedure ExpectedProcedureName)
   bump_regular_trivia
-  if at_kind LParen then parse_signature else nop
+  when at_kind LParen then parse_signature else nop
   parse_line_tail
   outcome ← block BlockOwner.Procedure Terminators.End 0
   closing BlockOwner.Procedure outcome
@@ -118,13 +118,13 @@ type_name_and_body = do
   bump_regular_trivia
   expect_name (Message.Item ExpectedTypeName)
   bump_regular_trivia
-  if at (one_of (Equal ∷ Colon ∷ [])) then (parse_type_body >> nop) else error_here (Message.Item ExpectedTypeEqualOrColon)
+  when at (one_of (Equal ∷ Colon ∷ [])) then (parse_type_body >> nop) else error_here (Message.Item ExpectedTypeEqualOrColon)
 
 unfoldable pub parse_type_decl : P Bool
 parse_type_decl = in_node TypeDecl do
   optional_visibility
   bump_regular_trivia
-  if at (one_of (TYPE ∷ ENUM ∷ [])) then (bump >> type_name_and_body) else error_here (Message.Item ExpectedTypeOrEnum)
+  when at (one_of (TYPE ∷ ENUM ∷ [])) then (bump >> type_name_and_body) else error_here (Message.Item ExpectedTypeOrEnum)
 
 unfoldable pub parse_advice_map : P Bool
 parse_advice_map = in_node AdviceMap do
@@ -132,7 +132,7 @@ parse_advice_map = in_node AdviceMap do
   bump_regular_trivia
   expect_name (Message.Item ExpectedAdviceMapName)
   bump_inline_whitespace
-  if at_kind LParen then parse_balanced_group LParen RParen (Message.Item ExpectedAdviceMapKeyEnd) else nop
+  when at_kind LParen then parse_balanced_group LParen RParen (Message.Item ExpectedAdviceMapKeyEnd) else nop
   expect_kind Equal (Message.Item ExpectedAdviceMapEqual)
   parse_expr_until_line_end
   parse_line_tail
@@ -146,21 +146,21 @@ at_procedure r = at_kind At r || at_declaration (PROC ∷ []) r
 
 unfoldable pub parse_source_item : Blocks → P Bool
 parse_source_item block =
-    if at_kind DocComment then parse_doc_form else
-    if at_regular_trivia then bump else
-    if at_keyword NAMESPACE then parse_namespace else
-    if at_declaration (MOD ∷ []) then parse_submodule else
-    if at_procedure then parse_procedure block else
-    if at_keyword BEGIN then parse_begin_block block else
-    if at_declaration (CONST ∷ []) then parse_constant else
-    if at_declaration (TYPE ∷ ENUM ∷ []) then parse_type_decl else
-    if at_keyword ADV_MAP then parse_advice_map else
+    when at_kind DocComment then parse_doc_form else
+    when at_regular_trivia then bump else
+    when at_keyword NAMESPACE then parse_namespace else
+    when at_declaration (MOD ∷ []) then parse_submodule else
+    when at_procedure then parse_procedure block else
+    when at_keyword BEGIN then parse_begin_block block else
+    when at_declaration (CONST ∷ []) then parse_constant else
+    when at_declaration (TYPE ∷ ENUM ∷ []) then parse_type_decl else
+    when at_keyword ADV_MAP then parse_advice_map else
     error_token (Message.Item UnexpectedTopLevelToken)
 
 -- parse's loop, by fuel; its equation without fuel is in Theorems.NoFuel.
 unfoldable pub items : ℕ → ℕ → P Bool
 items zero limit r = (err m_never >> pure false) r
-items (suc n) limit r = (if eof then nop else (parse_source_item (parse_block limit) >> items n limit)) r
+items (suc n) limit r = (when eof then nop else (parse_source_item (parse_block limit) >> items n limit)) r
 
 unfoldable pub items_in : ℕ → P Bool
 items_in limit r = items (suc (length r)) limit r

@@ -87,9 +87,9 @@ module _ {A B : Type 0} where
   abbrev pub ◌>>◌ : P A → P B → P B
   f >> g = f >>= λ a. g
 
-infixr 5 if◌then◌else◌
-abbrev pub if◌then◌else◌ : {A : Type 0} → (List Sym → Bool) → P A → P A → P A
-if t then f else g = peek t >>= λ u. pick u f g
+infixr 5 when◌then◌else◌
+abbrev pub when◌then◌else◌ : {A : Type 0} → (List Sym → Bool) → P A → P A → P A
+when t then f else g = peek t >>= λ u. pick u f g
 
 -- bump
 unfoldable pub take_token : P Bool

@@ -3,7 +3,7 @@ use Rattle.std.specs.Prelude.{Bool}
 use Rattle.lexer.specs.Syntax.{LParen}
 use Rattle.grammar.specs.Words.{PROC}
 use Rattle.grammar.specs.Look.{at_kind}
-use Rattle.grammar.specs.Run.{P, ◌>>◌, if◌then◌else◌, loop}
+use Rattle.grammar.specs.Run.{P, ◌>>◌, when◌then◌else◌, loop}
 use Rattle.grammar.specs.declared.message.Message.{Message}
 use Rattle.grammar.specs.declared.message.ProcedureMessage.TheVariants.{ExpectedProc, ExpectedProcedureName}
 use Rattle.grammar.specs.Bump.{nop, bump_regular_trivia, expect_keyword, expect_name}
@@ -11,7 +11,7 @@ use Rattle.grammar.specs.Line.{parse_line_tail}
 use Rattle.grammar.specs.Item.{optional_visibility, parse_signature, attribute_round}
 
 abbrev pub optional_signature : P Bool
-optional_signature = if at_kind LParen then parse_signature else nop
+optional_signature = when at_kind LParen then parse_signature else nop
 
 -- up to `proc`, and from there to the block
 abbrev pub procedure_lead : P Bool

@@ -9,7 +9,7 @@ use Rattle.grammar.specs.Words.{Sym}
 use Rattle.grammar.specs.Words.{File, from}
 use Rattle.grammar.specs.Look
 use Rattle.grammar.specs.Run
-use Rattle.grammar.specs.Run.{Kind, num, P, pure, peek, in_node, pick, ◌>>=◌, ◌>>◌, if◌then◌else◌, take_token, scan, Round, stop, go, warn, turn}
+use Rattle.grammar.specs.Run.{Kind, num, P, pure, peek, in_node, pick, ◌>>=◌, ◌>>◌, when◌then◌else◌, take_token, scan, Round, stop, go, warn, turn}
 use Rattle.grammar.specs.Bump.{bump_while}
 use Rattle.grammar.specs.Out.{ev, dg}
 use Rattle.grammar.specs.State.{State, after, run, write}
@@ -39,7 +39,7 @@ infixr 10 ◌farther◌
 pub ◌farther◌ : {w v w' : World} → Onward w v → Onward v w' → Onward w w'
 a farther b = record { ahead = omega arith; ev = b.ev ∙ a.ev; dm = b.dm ∙ a.dm; ds = b.ds ∙ a.ds }
 
-if_is : {A : Type 0} (t : List Sym → Bool) (f g : P A) (r : List Sym) → (if t then f else g) r ≡ pick (t r) f g r
+if_is : {A : Type 0} (t : List Sym → Bool) (f g : P A) (r : List Sym) → (when t then f else g) r ≡ pick (t r) f g r
 unfolding ◌>>=◌ peek
 if_is t f g r = refl
 
@@ -82,16 +82,16 @@ module _ {A : Type 0} {F : File} {w w' : World} where
   like_to g e h = record { ran = like g e h.ran; val = ap (λ x. x.val) e ∙ h.val }
 
   -- a test of the code, x, that says what t says here
-  pub yes : (t : List Sym → Bool) {f : P A} (g : P A) {x : Bool} → x ≡ t (from F w.c.pos) → x ≡ true → Ran F f w w' → Ran F (if t then f else g) w w'
+  pub yes : (t : List Sym → Bool) {f : P A} (g : P A) {x : Bool} → x ≡ t (from F w.c.pos) → x ≡ true → Ran F f w w' → Ran F (when t then f else g) w w'
   yes t {f} g e k h = like f (if_is t f g _ ∙ ap (λ u. pick u f g (from F w.c.pos)) (sym e ∙ k)) h
 
-  pub no : (t : List Sym → Bool) (f : P A) {g : P A} {x : Bool} → x ≡ t (from F w.c.pos) → x ≡ false → Ran F g w w' → Ran F (if t then f else g) w w'
+  pub no : (t : List Sym → Bool) (f : P A) {g : P A} {x : Bool} → x ≡ t (from F w.c.pos) → x ≡ false → Ran F g w w' → Ran F (when t then f else g) w w'
   no t f {g} e k h = like g (if_is t f g _ ∙ ap (λ u. pick u f g (from F w.c.pos)) (sym e ∙ k)) h
 
-  pub yes_to : (t : List Sym → Bool) {f : P A} (g : P A) {x : Bool} {a : A} → x ≡ t (from F w.c.pos) → x ≡ true → RanTo F f w w' a → RanTo F (if t then f else g) w w' a
+  pub yes_to : (t : List Sym → Bool) {f : P A} (g : P A) {x : Bool} {a : A} → x ≡ t (from F w.c.pos) → x ≡ true → RanTo F f w w' a → RanTo F (when t then f else g) w w' a
   yes_to t {f} g e k h = like_to f (if_is t f g _ ∙ ap (λ u. pick u f g (from F w.c.pos)) (sym e ∙ k)) h
 
-  pub no_to : (t : List Sym → Bool) (f : P A) {g : P A} {x : Bool} {a : A} → x ≡ t (from F w.c.pos) → x ≡ false → RanTo F g w w' a → RanTo F (if t then f else g) w w' a
+  pub no_to : (t : List Sym → Bool) (f : P A) {g : P A} {x : Bool} {a : A} → x ≡ t (from F w.c.pos) → x ≡ false → RanTo F g w w' a → RanTo F (when t then f else g) w w' a
   no_to t f {g} e k h = like_to g (if_is t f g _ ∙ ap (λ u. pick u f g (from F w.c.pos)) (sym e ∙ k)) h
 
   -- a value of the code that decides

@@ -3,7 +3,7 @@ ghost use Rattle.std.specs.Prelude.{◌≡◌, true, false, ◌<◌, drop};
 ghost use Rattle.lexer.specs.Syntax.{Whitespace};
 ghost use Rattle.grammar.specs.Words.{MARK, is};
 ghost use Rattle.grammar.specs.Look.{at, regular_trivia, non_comment_trivia};
-ghost use Rattle.grammar.specs.Run.{if◌then◌else◌, take_token};
+ghost use Rattle.grammar.specs.Run.{when◌then◌else◌, take_token};
 ghost use Rattle.grammar.specs.Bump.{nop, bump_while, expect_kind, expect_name, error_token};
 ghost use Rattle.parser.specs.Sets.{trivia_to};
 ghost use Rattle.parser.specs.Rep.{entry, exit, Ran, RanTo, BumpWhile};
@@ -156,7 +156,7 @@ pub fn bump_at(
     c0: Cursor,
     k: u16,
 ) -> Cursor
-    ensures { Ran kinds.now (if at (is k) then take_token else nop) (entry ev dm ds c0) (exit ev dm ds result) }
+    ensures { Ran kinds.now (when at (is k) then take_token else nop) (entry ev dm ds c0) (exit ev dm ds result) }
 {
     if at_kind(kinds, c0.pos, k) {
         return bump(kinds, ev, dm, ds, c0);

@@ -1,7 +1,6 @@
 -- `answer::numbers` meets its contract, by the answer. Assumes nothing.
 use mathlib.Core.Path.{sym, ap, ◌∙◌}
 use Rattle.answer.specs.Numbers.{numbers}
-use borrow.Author.Rules.{rules}
 use Rattle.answer.proofs.numbers.Goals as goal
 
 pub returns-in-TooLong : goal.returns-in-TooLong

@@ -10,7 +10,6 @@ use Rattle.answer.specs.declared.FourNumbers.{FourNumbers}
 use Rattle.answer.specs.Numbers.{numbers}
 use Rattle.answer.specs.Answer.{Slices, outcome, parse_text}
 use Rattle.answer.specs.Call.{call, MasmParseText}
-use borrow.Author.Rules.{rules}
 use Rattle.cst.proofs.masm_parse_text.Goals as goal
 
 three : (l : List ℕ) (x y z : ℕ) → 3 ≤ length l → set (set (set l 0 x) 1 y) 2 z ≡ x ∷ y ∷ z ∷ drop 3 l

@@ -10,7 +10,6 @@ use Rattle.utf8.specs.Validate.{validate}
 use Rattle.utf8.specs.Laws.{accepted}
 use Rattle.answer.specs.declared.Answer.TheVariants.{TooLong, NotUtf8}
 use Rattle.answer.specs.Answer.{Slices, Outcome, outcome, with_tokens, from_row_3, from_row_2, parse_text}
-use borrow.Author.Rules.{rules}
 use Rattle.cst.proofs.parse_text.Goals as goal
 
 module _ (source : List ℕ) (s : Slices) where

@@ -1,9 +1,9 @@
 -- `cst::parse_utf8` meets its contract: the rows leave the kinds as they are, so that the marks come off behind them. Assumes nothing.
 use Prim.Native.Nat.{ℕ, min}
-use mathlib.Core.Path.{◌≡◌, refl, sym, ap, ◌∙◌}
+use mathlib.Core.Path.{◌≡◌, sym, ap, ◌∙◌}
 use mathlib.Core.List.{List, map, ◌++◌}
 use native.Mathlib.Omega.{arith}
-use lib.ListN.{length, take, drop}
+use lib.ListN.{take, drop}
 use lib.Seq.{length-take-le}
 use Rattle.room.specs.Over.{length_fit}
 use Rattle.lexer.specs.Tokens.{room, token_kinds, TokensFit}
@@ -12,7 +12,6 @@ use Rattle.marks.specs.Code.{mark}
 use Rattle.answer.specs.declared.Answer.{Answer}
 use Rattle.answer.specs.Answer.{slices, outcome, with_tokens, from_row_3}
 use Rattle.cst.specs.Laws.{kinds_length, marked_tokens, taken_off, with_kinds, other_kinds}
-use borrow.Author.Rules.{rules}
 use Rattle.cst.proofs.parse_utf8.Goals as goal
 
 module _ (source kinds ends ev dm ds de : List ℕ) (t : ℕ) (kinds₁ ends₁ : List ℕ) (lex : TokensFit mark source kinds ends t kinds₁ ends₁) where

@@ -11,7 +11,7 @@ use native.Mathlib.Omega.{arith}
 use Rattle.lexer.specs.Syntax.{Whitespace, Newline, Comment, Equal}
 use Rattle.grammar.specs.Words.{Sym, is, PUB}
 use Rattle.grammar.specs.Look.{one_of, regular_trivia, at, skip, eof, at_terminator}
-use Rattle.grammar.specs.Run.{Kind, Forest, nil, leaf, node, say, ◌<>◌, Res, P, pure, peek, in_node, pick, ◌>>=◌, ◌>>◌, if◌then◌else◌, take_token, err, Round, stop, go, warn, turn, scan, repeat, loop}
+use Rattle.grammar.specs.Run.{Kind, Forest, nil, leaf, node, say, ◌<>◌, Res, P, pure, peek, in_node, pick, ◌>>=◌, ◌>>◌, when◌then◌else◌, take_token, err, Round, stop, go, warn, turn, scan, repeat, loop}
 use Rattle.grammar.specs.Message.{Message, number, ExpectedConstantName, ExpectedConstantEqual}
 use Rattle.grammar.specs.Bump.{bump_while, expect_kind, expect_name}
 use Rattle.grammar.specs.Line.{parse_expr_until_line_end, parse_line_tail}
@@ -125,12 +125,12 @@ module _ {p : Price} where
   pub cost_nothing : {q : List Sym → Bool} {c e : ℕ} {A B : Type 0} {f : P A} (g : A → P B) (a : A) → ((r : List Sym) → q r ≡ true → f r ≡ pure a r) → Cost p q c e (g a) → Cost p q c e (f >>= g)
   cost_nothing {f} g a N C = record { cost = λ r k. rw (bind_nothing f g a r (N r k)) (C.cost r k) }
 
-  pub cost_if : {q : List Sym → Bool} {c e : ℕ} {A : Type 0} (t : List Sym → Bool) {f g : P A} → Cost p q c e f → Cost p q c e g → Cost p q c e (if t then f else g)
+  pub cost_if : {q : List Sym → Bool} {c e : ℕ} {A : Type 0} (t : List Sym → Bool) {f g : P A} → Cost p q c e f → Cost p q c e g → Cost p q c e (when t then f else g)
   unfolding ◌>>=◌ peek
   cost_if t F G = record { cost = λ r k. (cost_pick (t r) F G).cost r k }
 
   -- In the first branch the test is known; in the second too.
-  pub cost_case : {q : List Sym → Bool} {c e : ℕ} {A : Type 0} (t : List Sym → Bool) {f g : P A} → Cost p t c e f → Cost p q c e g → Cost p q c e (if t then f else g)
+  pub cost_case : {q : List Sym → Bool} {c e : ℕ} {A : Type 0} (t : List Sym → Bool) {f g : P A} → Cost p t c e f → Cost p q c e g → Cost p q c e (when t then f else g)
   unfolding ◌>>=◌ peek
   cost_case {q} {c} {e} t {f} {g} F G = record { cost = λ r k. d (t r) r refl k }
     where
@@ -138,7 +138,7 @@ module _ {p : Price} where
       d true r i k = F.cost r i
       d false r i k = G.cost r k
 
-  pub cost_cases : {q : List Sym → Bool} {c e : ℕ} {A : Type 0} (t : List Sym → Bool) {f g : P A} → Cost p t c e f → Cost p (λ r. q r && not (t r)) c e g → Cost p q c e (if t then f else g)
+  pub cost_cases : {q : List Sym → Bool} {c e : ℕ} {A : Type 0} (t : List Sym → Bool) {f g : P A} → Cost p t c e f → Cost p (λ r. q r && not (t r)) c e g → Cost p q c e (when t then f else g)
   unfolding ◌>>=◌ peek
   cost_cases {q} {c} {e} t {f} {g} F G = record { cost = λ r k. d (t r) r refl k }
     where
@@ -146,7 +146,7 @@ module _ {p : Price} where
       d true r i k = F.cost r i
       d false r i k = G.cost r (rw (k, i))
 
-  pub cost_yes : (t : List Sym → Bool) {c e : ℕ} {A : Type 0} {f : P A} (g : P A) → Cost p t c e f → Cost p t c e (if t then f else g)
+  pub cost_yes : (t : List Sym → Bool) {c e : ℕ} {A : Type 0} {f : P A} (g : P A) → Cost p t c e f → Cost p t c e (when t then f else g)
   unfolding ◌>>=◌ peek
   cost_yes t {c} {e} {A} {f} g F = record { cost = λ r k. d (t r) r k (F.cost r k) }
     where
@@ -158,11 +158,11 @@ module _ {p : Price} where
   unfolding in_node
   cost_node j F = record { cost = λ r k. omega (arith, F.cost r k) }
 
-  pub cost_eof : {c e : ℕ} {A : Type 0} {f g : P A} → Cost p anywhere c e f → Cost p some c e g → Cost p anywhere c e (if eof then f else g)
+  pub cost_eof : {c e : ℕ} {A : Type 0} {f g : P A} → Cost p anywhere c e f → Cost p some c e g → Cost p anywhere c e (when eof then f else g)
   unfolding ◌>>=◌ peek eof some
   cost_eof {c} {e} {f} {g} F G = record { cost = d }
     where
-      d : (r : List Sym) → anywhere r ≡ true → weigh p ((if eof then f else g) r).out + p.pay * length ((if eof then f else g) r).rest + e ≤ p.pay * length r + c
+      d : (r : List Sym) → anywhere r ≡ true → weigh p ((when eof then f else g) r).out + p.pay * length ((when eof then f else g) r).rest + e ≤ p.pay * length r + c
       d [] k = F.cost [] refl
       d (s ∷ r) k = G.cost (s ∷ r) refl
 
@@ -223,7 +223,7 @@ module _ {p : Price} {c : ℕ} where
   unfolding ◌>>=◌
   rounds_then {A} {f} {g} F G = record { rounds = λ r. omega (arith, F.cost r refl, (G (f r).val).rounds (f r).rest, weigh_app p (f r).out (g (f r).val (f r).rest).out) }
 
-  pub rounds_if : (t : List Sym → Bool) {f g : P Bool} → Rounds p c f → Rounds p c g → Rounds p c (if t then f else g)
+  pub rounds_if : (t : List Sym → Bool) {f g : P Bool} → Rounds p c f → Rounds p c g → Rounds p c (when t then f else g)
   unfolding ◌>>=◌ peek
   rounds_if t {f} {g} F G = record { rounds = λ r. d (t r) r }
     where

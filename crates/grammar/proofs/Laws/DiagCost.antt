@@ -7,7 +7,7 @@ use Rattle.lexer.specs.Syntax
 use Rattle.lexer.specs.Syntax.{Whitespace, Newline, Comment, DocComment, Dot, LBracket, LParen, RBracket, RParen}
 use Rattle.grammar.specs.Words.{Sym, is, BEGIN, DO, ELSE, END, IF, REPEAT, WHILE}
 use Rattle.grammar.specs.Look.{one_of, name_like, regular_trivia, control_flow, starts_instruction, at, at_terminator, at_stray_else, at_top_level_form_starter_in_block}
-use Rattle.grammar.specs.Run.{Kind, Block, P, pure, in_node, pick, ◌>>=◌, ◌>>◌, if◌then◌else◌, take_token, err, loop}
+use Rattle.grammar.specs.Run.{Kind, Block, P, pure, in_node, pick, ◌>>=◌, ◌>>◌, when◌then◌else◌, take_token, err, loop}
 use Rattle.grammar.specs.Message.{Message}
 use Rattle.grammar.specs.Bump.{expect_kind, expect_name, error_token}
 use Rattle.grammar.specs.Path.{path_segment, path_round, parse_path_with_message, parse_balanced_group}
@@ -146,7 +146,7 @@ module _ {blk : Blocks} (h : (w : BlockOwner) (t : Terminators) (d : ℕ) → Co
   unfolding closing at_terminator one_of
   cost_closed w d = cost_outcome (closing w) (h w Terminators.End d) (s w Terminators.End d) (cost_le (expects_at END _ refl refl) (lit≤ tt)) (cost_pure true) (cost_pure true)
 
-  cost_else : (d : ℕ) (o : BlockParseOutcome) → Cost2 anywhere 0 0 (if at (is ELSE) then (take_token >> parse_line_tail >> blk BlockOwner.If Terminators.End d) else pure o)
+  cost_else : (d : ℕ) (o : BlockParseOutcome) → Cost2 anywhere 0 0 (when at (is ELSE) then (take_token >> parse_line_tail >> blk BlockOwner.If Terminators.End d) else pure o)
   cost_else d o = cost_case (at (is ELSE)) (cost_le (cost_bind (good_token (is ELSE) refl) (λ a. cost_then cost_tail (λ a. h BlockOwner.If Terminators.End d))) (lit≤ tt)) (cost_pure o)
 
   -- A form's last block.

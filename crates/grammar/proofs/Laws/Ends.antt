@@ -9,7 +9,7 @@ use mathlib.Core.List.{List, [], ◌∷◌, ◌++◌}
 use Rattle.lexer.specs.Syntax.{Newline, DocComment, LParen, RParen}
 use Rattle.grammar.specs.Words.{Sym, is, ADV_MAP, BEGIN, CONST, END, ENUM, MOD, NAMESPACE, PROC, TYPE}
 use Rattle.grammar.specs.Look.{one_of, regular_trivia, at, next_relevant_top_level_token}
-use Rattle.grammar.specs.Run.{Kind, Block, Procedure, BeginBlock, Doc, nil, leaf, leaves, Res, P, pure, peek, in_node, pick, ◌>>=◌, ◌>>◌, if◌then◌else◌, take_token, err, stop, go, turn, scan}
+use Rattle.grammar.specs.Run.{Kind, Block, Procedure, BeginBlock, Doc, nil, leaf, leaves, Res, P, pure, peek, in_node, pick, ◌>>=◌, ◌>>◌, when◌then◌else◌, take_token, err, stop, go, turn, scan}
 use Rattle.grammar.specs.Message.{Message, ExpectedProc, number}
 use Rattle.grammar.specs.Bump.{nop, while_round, bump_while, bump_regular_trivia, expect_kind, error_token}
 use Rattle.grammar.specs.Block.{BlockOwner, Terminators, BlockParseOutcome, closing, parse_block}
@@ -150,7 +150,7 @@ closes_node {b} j {A} {f} {f'} t E = record { good = good_node j E.good; word = 
 closes_never : {b : List Sym} {A : Type 0} {f f' : P A} → Good b no_message f f' → ((r : List Sym) → (shuts (f r).out ≡ false) × (shuts_leaf (f r).out ≡ false)) → Closes b f f'
 closes_never G h = record { good = G; word = λ r e n. absurd (false≢true (sym (h r).1 ∙ n)); goes = λ r e n k. absurd (false≢true (sym (h r).0 ∙ n)) }
 
-closes_if : {b : List Sym} {A : Type 0} (t : List Sym → Bool) {f f' g g' : P A} → ((r : List Sym) → Cond b r → t (r ++ b) ≡ t r) → Closes b f f' → Closes b g g' → Closes b (if t then f else g) (if t then f' else g')
+closes_if : {b : List Sym} {A : Type 0} (t : List Sym → Bool) {f f' g g' : P A} → ((r : List Sym) → Cond b r → t (r ++ b) ≡ t r) → Closes b f f' → Closes b g g' → Closes b (when t then f else g) (when t then f' else g')
 unfolding ◌>>=◌ peek
 closes_if {b} {A} t {f} {f'} {g} {g'} h F G = record { good = good_if t h F.good G.good; word = λ r. (at_branch (t r)).word r; goes = λ r e n k. c r e n k }
   where
@@ -158,7 +158,7 @@ closes_if {b} {A} t {f} {f'} {g} {g'} h F G = record { good = good_if t h F.good
     at_branch true = F
     at_branch false = G
 
-    c : (r : List Sym) → LeftNl ((if t then f else g) r) → shuts ((if t then f else g) r).out ≡ true → Calm no_message ((if t then f else g) r).out → (if t then f' else g') (r ++ b) ≡ ext b ((if t then f else g) r)
+    c : (r : List Sym) → LeftNl ((when t then f else g) r) → shuts ((when t then f else g) r).out ≡ true → Calm no_message ((when t then f else g) r).out → (when t then f' else g') (r ++ b) ≡ ext b ((when t then f else g) r)
     c r e n k =
         let C : Closes b (pick (t r) f g) (pick (t r) f' g') = at_branch (t r) in
         let q : Tail r = subst Tail (ap (λ l. leaves (pick (t r) f g r).out ++ l) (sym e) ∙ C.good.split r) (shuts_tail (pick (t r) f g r).out n) in

@@ -8,7 +8,7 @@ use Rattle.std.proofs.Common.{arith}
 use Rattle.lexer.specs.Syntax.{DocComment, At, LParen, RParen}
 use Rattle.grammar.specs.Words.{Sym, is, ADV_MAP, BEGIN, CONST, DO, ELSE, ENUM, IF, MOD, NAMESPACE, PROC, PUB, REPEAT, TYPE, WHILE}
 use Rattle.grammar.specs.Look.{one_of, regular_trivia, control_flow, starts_instruction, at, at_terminator, at_stray_else, at_top_level_form_starter_in_block}
-use Rattle.grammar.specs.Run.{Kind, Block, SourceFile, nil, node, P, pure, in_node, pick, ◌>>=◌, ◌>>◌, if◌then◌else◌, take_token, err, loop}
+use Rattle.grammar.specs.Run.{Kind, Block, SourceFile, nil, node, P, pure, in_node, pick, ◌>>=◌, ◌>>◌, when◌then◌else◌, take_token, err, loop}
 use Rattle.grammar.specs.Message.{Message, ExpectedProc}
 use Rattle.grammar.specs.Bump.{bump_while, expect_kind, expect_name, error_token}
 use Rattle.grammar.specs.Path.{path_segment, path_round, parse_path_with_message, parse_balanced_group}
@@ -106,7 +106,7 @@ cost_key : (k : Sym) → regular_trivia k ≡ false → (j : Kind) (m : Message)
 cost_key k t j m G = cost_le (cost_node j (cost_bind (expects_at k m t) G)) (lit≤ tt)
 
 module _ {blk : Blocks} (h : (w : BlockOwner) (t : Terminators) (d : ℕ) → Cost7 anywhere 4 0 (blk w t d)) (s : (w : BlockOwner) (t : Terminators) (d : ℕ) → Stops t (blk w t d)) where
-  cost_else : (d : ℕ) (o : BlockParseOutcome) → Cost7 anywhere 0 0 (if at (is ELSE) then (take_token >> parse_line_tail >> blk BlockOwner.If Terminators.End d) else pure o)
+  cost_else : (d : ℕ) (o : BlockParseOutcome) → Cost7 anywhere 0 0 (when at (is ELSE) then (take_token >> parse_line_tail >> blk BlockOwner.If Terminators.End d) else pure o)
   cost_else d o = cost_case (at (is ELSE)) (cost_le (cost_bind (one_token (is ELSE)) (λ a. cost_then cost_tail (λ a. h BlockOwner.If Terminators.End d))) (lit≤ tt)) (cost_pure o)
 
   cost_if_form : (d : ℕ) → Cost7 (at (is IF)) 0 0 (parse_if blk d)

@@ -8,7 +8,7 @@ use mathlib.Core.List.{List, [], ◌∷◌}
 use Rattle.lexer.specs.Syntax.{DocComment}
 use Rattle.grammar.specs.Words.{Sym, is, ELSE, END, DO, IF, WHILE}
 use Rattle.grammar.specs.Look.{one_of, regular_trivia, control_flow, starts_instruction, at, eof, at_terminator, at_stray_else, at_top_level_form_starter_in_block}
-use Rattle.grammar.specs.Run.{Kind, Block, IfOp, WhileOp, DoWhileOp, RepeatOp, Forest, nil, node, say, ◌<>◌, P, pure, peek, in_node, pick, ◌>>=◌, ◌>>◌, if◌then◌else◌, take_token, err, scan}
+use Rattle.grammar.specs.Run.{Kind, Block, IfOp, WhileOp, DoWhileOp, RepeatOp, Forest, nil, node, say, ◌<>◌, P, pure, peek, in_node, pick, ◌>>=◌, ◌>>◌, when◌then◌else◌, take_token, err, scan}
 use Rattle.grammar.specs.Message.{Message, number, missing_end_number}
 use Rattle.grammar.specs.Line.{parse_line_tail}
 use Rattle.grammar.specs.Block.{BlockOwner, Terminators, BlockParseOutcome, Blocks, all_round, reject_excessive_control_flow_nesting, reached_eof, ended, parse_if, parse_while, do_condition, parse_do_while, parse_repeat, parse_control_flow, block_round, block_loop, block_in, parse_block}
@@ -76,7 +76,7 @@ module _ {blk : Blocks} (h : (w : BlockOwner) (t : Terminators) (d : ℕ) → En
 
   -- The then-block's outcome, where no `else` follows; else that of the block behind it.
   else_part : ℕ → BlockParseOutcome → P Bool
-  else_part d o = (if at (is ELSE) then (take_token >> parse_line_tail >> blk BlockOwner.If Terminators.End d) else pure o) >>= ended BlockOwner.If
+  else_part d o = (when at (is ELSE) then (take_token >> parse_line_tail >> blk BlockOwner.If Terminators.End d) else pure o) >>= ended BlockOwner.If
 
   else_finish : (d : ℕ) (o : BlockParseOutcome) (r : List Sym) → (at (is ELSE) r ≡ false → Final (LastBlock IfOp) true (ended BlockOwner.If o r)) → Final (LastBlock IfOp) true (else_part d o r)
   unfolding else_part ◌>>=◌ peek pure
@@ -119,11 +119,11 @@ finishes_reject = record { finish = λ r. met_end nil _ tt (Unclosed.rest_of_fil
 
 -- The end of the file.
 finishes_eof : (w : BlockOwner) {g : P BlockParseOutcome} → EndsBlock w g →
-    EndsBlock w (if eof then (err (number (Message.MissingEnd w)) >> pure BlockParseOutcome.ReachedEof) else g)
+    EndsBlock w (when eof then (err (number (Message.MissingEnd w)) >> pure BlockParseOutcome.ReachedEof) else g)
 unfolding ◌>>=◌ peek eof err pure number
 finishes_eof w {g} G = record { finish = c }
   where
-    c : (r : List Sym) → Final (BlockFinish w) BlockParseOutcome.ReachedEof ((if eof then (err (number (Message.MissingEnd w)) >> pure BlockParseOutcome.ReachedEof) else g) r)
+    c : (r : List Sym) → Final (BlockFinish w) BlockParseOutcome.ReachedEof ((when eof then (err (number (Message.MissingEnd w)) >> pure BlockParseOutcome.ReachedEof) else g) r)
     c [] = met_end nil (say (missing_end_number w) nil) tt own_report refl refl refl
     c (s ∷ r) = G.finish (s ∷ r)
 

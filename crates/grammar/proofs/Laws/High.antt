@@ -10,7 +10,7 @@ use native.Mathlib.Omega.{arith}
 use Rattle.lexer.specs.Syntax.{DocComment}
 use Rattle.grammar.specs.Words.{Sym, is}
 use Rattle.grammar.specs.Look.{regular_trivia, control_flow, starts_instruction, at, eof, at_terminator, at_stray_else, at_top_level_form_starter_in_block}
-use Rattle.grammar.specs.Run.{Kind, Block, SourceFile, Forest, nil, leaf, node, say, ◌<>◌, Res, P, pure, peek, in_node, pick, ◌>>=◌, ◌>>◌, if◌then◌else◌, take_token, err, Round, stop, go, warn, turn, scan, m_never, repeat, loop}
+use Rattle.grammar.specs.Run.{Kind, Block, SourceFile, Forest, nil, leaf, node, say, ◌<>◌, Res, P, pure, peek, in_node, pick, ◌>>=◌, ◌>>◌, when◌then◌else◌, take_token, err, Round, stop, go, warn, turn, scan, m_never, repeat, loop}
 use Rattle.grammar.specs.Message.{Message}
 use Rattle.grammar.specs.Bump.{bump_while, expect_kind, expect_name, error_token}
 use Rattle.grammar.specs.Path.{path_segment, path_round, parse_path_with_message, parse_balanced_group}
@@ -63,7 +63,7 @@ module _ {h : ℕ} where
   unfolding ◌>>=◌
   high_bind {A} {B} {f} {g} F G = record { high = λ r. high_app h (f r).out (g (f r).val (f r).rest).out (F.high r) ((G (f r).val).high (f r).rest) }
 
-  high_if : {A : Type 0} (t : List Sym → Bool) {f g : P A} → High h f → High h g → High h (if t then f else g)
+  high_if : {A : Type 0} (t : List Sym → Bool) {f g : P A} → High h f → High h g → High h (when t then f else g)
   unfolding ◌>>=◌ peek
   high_if t F G = record { high = λ r. (high_pick (t r) F G).high r }
 

@@ -10,7 +10,7 @@ use Rattle.std.proofs.Common.{arith}
 use Rattle.lexer.specs.Syntax.{DocComment, Whitespace, Newline, Comment, At}
 use Rattle.grammar.specs.Words.{Sym, is, ADV_MAP, BEGIN, CONST, ENUM, MOD, NAMESPACE, PROC, PUB, TYPE}
 use Rattle.grammar.specs.Look.{one_of, regular_trivia, at, eof, at_prefixed_keyword}
-use Rattle.grammar.specs.Run.{P, pure, peek, pick, ◌>>=◌, ◌>>◌, if◌then◌else◌, err, loop, repeat}
+use Rattle.grammar.specs.Run.{P, pure, peek, pick, ◌>>=◌, ◌>>◌, when◌then◌else◌, err, loop, repeat}
 use Rattle.grammar.specs.Message.{Message, ExpectedProc}
 use Rattle.grammar.specs.Bump.{bump_while, expect_kind}
 use Rattle.grammar.specs.Block.{BlockOwner, Terminators, Blocks, parse_block}
@@ -158,7 +158,7 @@ unfolding parse_constant one_of
 eats_constant = eats_node _ (eats_declared {n = 0} (CONST ∷ []) (λ a. search (live·rules, live_expect, live_name, live_expr) depth 12)
     (eats_bind 0 (eats_weak (one_of_one CONST) (eats_expect CONST refl _)) (λ a. search (live·rules, live_expect, live_name, live_expr) depth 12)))
 
-eats_yes : (t : List Sym → Bool) {A : Type 0} {f : P A} (g : P A) → Eats t f → Eats t (if t then f else g)
+eats_yes : (t : List Sym → Bool) {A : Type 0} {f : P A} (g : P A) → Eats t f → Eats t (when t then f else g)
 unfolding ◌>>=◌ peek
 eats_yes t {A} {f} g F = record { eats = λ r e. c (t r) r e (F.eats r e) }
   where

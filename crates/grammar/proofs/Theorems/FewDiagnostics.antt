@@ -6,7 +6,7 @@ use Rattle.lexer.specs.Syntax
 use Rattle.lexer.specs.Syntax.{DocComment}
 use Rattle.grammar.specs.Words.{Sym, is, ADV_MAP, BEGIN, CONST, ENUM, MOD, NAMESPACE, TYPE}
 use Rattle.grammar.specs.Look.{regular_trivia, at, eof}
-use Rattle.grammar.specs.Run.{Forest, nil, leaf, node, say, leaves, P, pure, peek, pick, ◌>>=◌, if◌then◌else◌}
+use Rattle.grammar.specs.Run.{Forest, nil, leaf, node, say, leaves, P, pure, peek, pick, ◌>>=◌, when◌then◌else◌}
 use Rattle.grammar.specs.Block.{BlockOwner, Terminators, Blocks, parse_block}
 use Rattle.grammar.specs.Item.{at_declaration, at_procedure, parse_source_item, items, items_in, parse}
 use Rattle.grammar.specs.Out.{noted, dg, diags}
@@ -19,7 +19,7 @@ use Rattle.grammar.proofs.Laws.DiagItem.{cost_namespace, cost_submodule, cost_ty
 use Rattle.grammar.proofs.Laws.DiagConstant.{credit, Owes, owes_cost, owes_constant}
 use Rattle.grammar.proofs.Theorems.Rounds.{round_takes}
 
-owes_case : {q : List Sym → Bool} {c e : ℕ} {A : Type 0} (t : List Sym → Bool) {f g : P A} → Owes t c e f → Owes q c e g → Owes q c e (if t then f else g)
+owes_case : {q : List Sym → Bool} {c e : ℕ} {A : Type 0} (t : List Sym → Bool) {f g : P A} → Owes t c e f → Owes q c e g → Owes q c e (when t then f else g)
 unfolding ◌>>=◌ peek
 owes_case {q} {c} {e} t {f} {g} F G = record { owes = λ r k. d (t r) r refl k }
   where
@@ -29,7 +29,7 @@ owes_case {q} {c} {e} t {f} {g} F G = record { owes = λ r k. d (t r) r refl k }
 
 -- A doc comment pays for one diagnostic before it.
 split : {f g : P Bool} → Cost2 (at (is DocComment)) 0 1 f → Owes some 0 0 g → (r : List Sym) → some r ≡ true →
-    weigh diags_price ((if at (is DocComment) then f else g) r).out + 2 * length ((if at (is DocComment) then f else g) r).rest + credit r ≤ 2 * length r + credit ((if at (is DocComment) then f else g) r).rest
+    weigh diags_price ((when at (is DocComment) then f else g) r).out + 2 * length ((when at (is DocComment) then f else g) r).rest + credit r ≤ 2 * length r + credit ((when at (is DocComment) then f else g) r).rest
 unfolding ◌>>=◌ peek
 split {f} {g} F G r e = c (at (is DocComment) r) refl
   where

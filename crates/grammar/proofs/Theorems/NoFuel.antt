@@ -9,7 +9,7 @@ use Rattle.std.proofs.Math.Decide.{dec_le}
 use Rattle.lexer.specs.Syntax.{RParen}
 use Rattle.grammar.specs.Words.{Sym, is}
 use Rattle.grammar.specs.Look.{at, skip, eof, next_relevant_top_level_token}
-use Rattle.grammar.specs.Run.{Res, P, pure, pick, ◌>>=◌, ◌>>◌, if◌then◌else◌, loop}
+use Rattle.grammar.specs.Run.{Res, P, pure, pick, ◌>>=◌, ◌>>◌, when◌then◌else◌, loop}
 use Rattle.grammar.specs.Path.{path_round}
 use Rattle.grammar.specs.Block.{BlockOwner, Terminators, suffix_round, parse_structured_header_suffixes, block_round, block_loop, block_in, parse_block}
 use Rattle.grammar.specs.Item.{attribute_round, parse_source_item, items, items_in}
@@ -56,7 +56,7 @@ block_eq limit w t d r =
     sym ((rw (append-nil r) at (G.goes r (same refl) ((live_blocks (suc (length r)) limit w t d).calm r refl (omega arith)))) ∙ ext_nil _)
 
 -- parse's loop
-pub items_eq : (limit : ℕ) (r : List Sym) → items_in limit r ≡ (if eof then pure true else (parse_source_item (parse_block limit) >> items_in limit)) r
+pub items_eq : (limit : ℕ) (r : List Sym) → items_in limit r ≡ (when eof then pure true else (parse_source_item (parse_block limit) >> items_in limit)) r
 unfolding items_in items free
 items_eq limit r =
     let F = good_free (λ n. items n limit) (good_items [] no_paren no_message refl limit limit (equal refl)) (λ r. (live_items (suc (length r)) limit).calm r refl (omega arith)) (length r) in

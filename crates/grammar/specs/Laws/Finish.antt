@@ -8,7 +8,7 @@ use Rattle.std.proofs.lemmas.Bool.{false≢true}
 use mathlib.Core.List.{List, [], ◌∷◌}
 use Rattle.grammar.specs.Words.{Sym, is, END}
 use Rattle.grammar.specs.Look.{one_of, at, at_terminator}
-use Rattle.grammar.specs.Run.{Forest, nil, leaf, node, say, ◌<>◌, Res, P, pure, peek, pick, ◌>>=◌, if◌then◌else◌}
+use Rattle.grammar.specs.Run.{Forest, nil, leaf, node, say, ◌<>◌, Res, P, pure, peek, pick, ◌>>=◌, when◌then◌else◌}
 use Rattle.grammar.specs.Message.{Message}
 use Rattle.grammar.specs.Block.{BlockOwner, Terminators, BlockParseOutcome, closing, ended}
 use Rattle.grammar.specs.Endings.{ending}
@@ -39,7 +39,7 @@ module _ {Q : Forest → Type 0} {B : Type 0} {o : B} where
   finishes_pick true F G = F
   finishes_pick false F G = G
 
-  pub finishes_if : (t : List Sym → Bool) {f g : P B} → Finishes Q o f → Finishes Q o g → Finishes Q o (if t then f else g)
+  pub finishes_if : (t : List Sym → Bool) {f g : P B} → Finishes Q o f → Finishes Q o g → Finishes Q o (when t then f else g)
   unfolding ◌>>=◌ peek
   finishes_if t {f} {g} F G = record { finish = λ r. (finishes_pick (t r) F G).finish r }
 

@@ -7,7 +7,7 @@ use Rattle.std.proofs.Common.{sym, ◌∙◌, ap, subst, true≢false, arith}
 use Rattle.std.proofs.Math.Bool.{false}
 use mathlib.Core.List.{List, [], ◌∷◌, ◌++◌, append-nil, append_assoc}
 use Rattle.grammar.specs.Words.{Sym}
-use Rattle.grammar.specs.Run.{Kind, Forest, nil, leaf, node, say, ◌<>◌, leaves, Res, P, pure, peek, in_node, pick, ◌>>=◌, ◌>>◌, if◌then◌else◌, take_token, err, Round, stop, go, warn, turn, scan, m_never, repeat, loop}
+use Rattle.grammar.specs.Run.{Kind, Forest, nil, leaf, node, say, ◌<>◌, leaves, Res, P, pure, peek, in_node, pick, ◌>>=◌, ◌>>◌, when◌then◌else◌, take_token, err, Round, stop, go, warn, turn, scan, m_never, repeat, loop}
 use Rattle.std.proofs.Math.ListN.{length-append}
 use Rattle.grammar.specs.Laws.Ahead.{tail_nil, Cond, same, more, cond_after}
 
@@ -104,7 +104,7 @@ module _ {b : List Sym} {bad : ℕ → Bool} where
           let p = calm_app bad (f r).out (g (f r).val (f r).rest).out k in
           goes_bind b f f' g g' r (F.goes r (cond_split (G (f r).val) (f r).rest c) p.0) ((G (f r).val).goes (f r).rest c p.1)
 
-  pub good_if : {A : Type 0} (t : List Sym → Bool) {f f' g g' : P A} → ((r : List Sym) → Cond b r → t (r ++ b) ≡ t r) → Good b bad f f' → Good b bad g g' → Good b bad (if t then f else g) (if t then f' else g')
+  pub good_if : {A : Type 0} (t : List Sym → Bool) {f f' g g' : P A} → ((r : List Sym) → Cond b r → t (r ++ b) ≡ t r) → Good b bad f f' → Good b bad g g' → Good b bad (when t then f else g) (when t then f' else g')
   good_if t h F G = good_bind (good_peek t h) (λ u. good_pick u F G)
 
   -- Out of fuel: that is bad.

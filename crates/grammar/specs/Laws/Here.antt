@@ -6,7 +6,7 @@ use Rattle.std.proofs.Math.Bool.{or-false}
 use Rattle.std.proofs.lemmas.Bool.{false≢true}
 use Rattle.grammar.specs.Words.{Sym, is}
 use Rattle.grammar.specs.Look.{one_of, regular_trivia, at, skip}
-use Rattle.grammar.specs.Run.{nil, leaf, ◌<>◌, Res, P, pure, peek, pick, ◌>>=◌, if◌then◌else◌, take_token, stop, go, turn, scan}
+use Rattle.grammar.specs.Run.{nil, leaf, ◌<>◌, Res, P, pure, peek, pick, ◌>>=◌, when◌then◌else◌, take_token, stop, go, turn, scan}
 use Rattle.grammar.specs.Message.{Message}
 use Rattle.grammar.specs.Laws.Good.{app_assoc}
 use Rattle.grammar.specs.Bump.{while_round, bump_while, expect_kind}
@@ -28,7 +28,7 @@ pub is_same : (k s : Sym) → is k s ≡ true → s ≡ k
 is_same k s e = sym (eqb→eq k s (subst T (sym e) tt))
 
 -- an `if`, as its test chooses between two arms
-pub if_arm : {A X : Type 0} (h : X → Res A) (t : List Sym → Bool) (f g : P A) (r : List Sym) {a b : X} → f r ≡ h a → g r ≡ h b → (if t then f else g) r ≡ h (cond (t r) a b)
+pub if_arm : {A X : Type 0} (h : X → Res A) (t : List Sym → Bool) (f g : P A) (r : List Sym) {a b : X} → f r ≡ h a → g r ≡ h b → (when t then f else g) r ≡ h (cond (t r) a b)
 unfolding ◌>>=◌ peek
 if_arm h t f g r {a} {b} p q = by (t r)
   where

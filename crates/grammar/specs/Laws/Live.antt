@@ -12,7 +12,7 @@ use Rattle.std.proofs.Math.ListN.{length}
 use native.Mathlib.Omega.{arith}
 use Rattle.grammar.specs.Words.{Sym}
 use Rattle.grammar.specs.Look.{at, eof}
-use Rattle.grammar.specs.Run.{Kind, Forest, nil, leaf, node, say, ◌<>◌, P, pure, peek, in_node, pick, ◌>>=◌, if◌then◌else◌, take_token, err, Round, stop, go, warn, turn, scan, repeat, loop}
+use Rattle.grammar.specs.Run.{Kind, Forest, nil, leaf, node, say, ◌<>◌, P, pure, peek, in_node, pick, ◌>>=◌, when◌then◌else◌, take_token, err, Round, stop, go, warn, turn, scan, repeat, loop}
 use Rattle.grammar.specs.Laws.Good.{Calm, scan_split}
 use Rattle.grammar.specs.Laws.Hush.{Hush, scan_calm}
 use Rattle.grammar.specs.Laws.Numbers.{no_message}
@@ -84,12 +84,12 @@ module _ {n : ℕ} where
     less = λ r. omega (arith, F.less r, (G (f r).val).less (f r).rest);
   }
 
-  pub live_if : {A : Type 0} (t : List Sym → Bool) {q : List Sym → Bool} {f g : P A} → Live q n f → Live q n g → Live q n (if t then f else g)
+  pub live_if : {A : Type 0} (t : List Sym → Bool) {q : List Sym → Bool} {f g : P A} → Live q n f → Live q n g → Live q n (when t then f else g)
   unfolding ◌>>=◌ peek
   live_if t {f} {g} F G = record { calm = λ r e h. (live_pick (t r) F G).calm r e h; less = λ r. (live_pick (t r) F G).less r }
 
   -- In the first branch the test is known.
-  pub live_case : {A : Type 0} (t : List Sym → Bool) {q : List Sym → Bool} {f g : P A} → Live t n f → Live q n g → Live q n (if t then f else g)
+  pub live_case : {A : Type 0} (t : List Sym → Bool) {q : List Sym → Bool} {f g : P A} → Live t n f → Live q n g → Live q n (when t then f else g)
   unfolding ◌>>=◌ peek
   live_case t {q} {f} {g} F G = record { calm = λ r e h. c (t r) r refl e h; less = λ r. l (t r) r }
     where
@@ -102,7 +102,7 @@ module _ {n : ℕ} where
       l false r = G.less r
 
   -- In the second too: there it is false.
-  pub live_cases : {A : Type 0} (t : List Sym → Bool) {q : List Sym → Bool} {f g : P A} → Live t n f → Live (λ r. q r && not (t r)) n g → Live q n (if t then f else g)
+  pub live_cases : {A : Type 0} (t : List Sym → Bool) {q : List Sym → Bool} {f g : P A} → Live t n f → Live (λ r. q r && not (t r)) n g → Live q n (when t then f else g)
   unfolding ◌>>=◌ peek
   live_cases t {q} {f} {g} F G = record { calm = λ r e h. c (t r) r refl e h; less = λ r. l (t r) r }
     where
@@ -114,15 +114,15 @@ module _ {n : ℕ} where
       l true r = F.less r
       l false r = G.less r
 
-  pub live_eof : {A : Type 0} {f g : P A} → Live anywhere n f → Live some n g → Live anywhere n (if eof then f else g)
+  pub live_eof : {A : Type 0} {f g : P A} → Live anywhere n f → Live some n g → Live anywhere n (when eof then f else g)
   unfolding ◌>>=◌ peek eof some
   live_eof {f} {g} F G = record { calm = c; less = l }
     where
-      c : (r : List Sym) → anywhere r ≡ true → length r < n → Calm no_message ((if eof then f else g) r).out
+      c : (r : List Sym) → anywhere r ≡ true → length r < n → Calm no_message ((when eof then f else g) r).out
       c [] e h = F.calm [] refl h
       c (s ∷ r) e h = G.calm (s ∷ r) refl h
 
-      l : (r : List Sym) → length ((if eof then f else g) r).rest ≤ length r
+      l : (r : List Sym) → length ((when eof then f else g) r).rest ≤ length r
       l [] = F.less []
       l (s ∷ r) = G.less (s ∷ r)
 
@@ -158,7 +158,7 @@ unfolding at some
 at_some p [] e = e
 at_some p (s ∷ r) e = refl
 
-pub eats_case : {A : Type 0} (t : List Sym → Bool) {q : List Sym → Bool} {f g : P A} → Eats t f → Eats q g → Eats q (if t then f else g)
+pub eats_case : {A : Type 0} (t : List Sym → Bool) {q : List Sym → Bool} {f g : P A} → Eats t f → Eats q g → Eats q (when t then f else g)
 unfolding ◌>>=◌ peek
 eats_case t {q} {f} {g} F G = record { eats = λ r e. c (t r) r refl e }
   where
@@ -166,7 +166,7 @@ eats_case t {q} {f} {g} F G = record { eats = λ r e. c (t r) r refl e }
     c true r e k = F.eats r e
     c false r e k = G.eats r k
 
-pub eats_cases : {A : Type 0} (t : List Sym → Bool) {q : List Sym → Bool} {f g : P A} → Eats t f → Eats (λ r. q r && not (t r)) g → Eats q (if t then f else g)
+pub eats_cases : {A : Type 0} (t : List Sym → Bool) {q : List Sym → Bool} {f g : P A} → Eats t f → Eats (λ r. q r && not (t r)) g → Eats q (when t then f else g)
 unfolding ◌>>=◌ peek
 eats_cases t {q} {f} {g} F G = record { eats = λ r e. c (t r) r refl e }
   where
@@ -178,7 +178,7 @@ pub truly_bind : {A : Type 0} {f : P A} {g : A → P Bool} → Live anywhere 0 f
 unfolding ◌>>=◌
 truly_bind {A} {f} {g} F G = record { truly = λ r e. omega (arith, F.less r, (G (f r).val).truly (f r).rest e) }
 
-pub truly_case : (t : List Sym → Bool) {f g : P Bool} → Eats t f → Truly g → Truly (if t then f else g)
+pub truly_case : (t : List Sym → Bool) {f g : P Bool} → Eats t f → Truly g → Truly (when t then f else g)
 unfolding ◌>>=◌ peek
 truly_case t {f} {g} F G = record { truly = λ r. c (t r) r refl }
   where
@@ -186,7 +186,7 @@ truly_case t {f} {g} F G = record { truly = λ r. c (t r) r refl }
     c true r q e = F.eats r q
     c false r q e = G.truly r e
 
-pub truly_if : (t : List Sym → Bool) {f g : P Bool} → Truly f → Truly g → Truly (if t then f else g)
+pub truly_if : (t : List Sym → Bool) {f g : P Bool} → Truly f → Truly g → Truly (when t then f else g)
 unfolding ◌>>=◌ peek
 truly_if t {f} {g} F G = record { truly = λ r. c (t r) r }
   where

@@ -7,7 +7,7 @@ use mathlib.Core.List.{List}
 use Rattle.std.proofs.Common.{arith}
 use Rattle.grammar.specs.Words.{Sym}
 use Rattle.grammar.specs.Look.{at_terminator}
-use Rattle.grammar.specs.Run.{Kind, P, pure, peek, in_node, pick, ◌>>=◌, if◌then◌else◌}
+use Rattle.grammar.specs.Run.{Kind, P, pure, peek, in_node, pick, ◌>>=◌, when◌then◌else◌}
 use Rattle.grammar.specs.Block.{BlockOwner, Terminators, BlockParseOutcome, Blocks, recover, block_round, block_loop, block_in, parse_block}
 
 pub record Stops (t : Terminators) (f : P BlockParseOutcome) : Type 0 where
@@ -26,7 +26,7 @@ module _ {t : Terminators} where
   stops_pick true F G = F
   stops_pick false F G = G
 
-  stops_found : {g : P BlockParseOutcome} → Stops t g → Stops t (if at_terminator t then pure BlockParseOutcome.FoundTerminator else g)
+  stops_found : {g : P BlockParseOutcome} → Stops t g → Stops t (when at_terminator t then pure BlockParseOutcome.FoundTerminator else g)
   unfolding ◌>>=◌ peek pure
   stops_found {g} G = record { stops = λ r. c (at_terminator t r) r refl }
     where

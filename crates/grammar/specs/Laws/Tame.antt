@@ -2,7 +2,7 @@
 -- Assumes nothing.
 use Rattle.std.specs.Prelude.{ℕ, zero, suc, ◌+◌, ◌*◌, ◌≡◌, refl, Bool, true, false, List, [], ◌∷◌, length}
 use Rattle.grammar.specs.Words.{Sym}
-use Rattle.grammar.specs.Run.{Kind, P, pure, peek, in_node, pick, ◌>>=◌, if◌then◌else◌, take_token, err, Round, scan, repeat, loop}
+use Rattle.grammar.specs.Run.{Kind, P, pure, peek, in_node, pick, ◌>>=◌, when◌then◌else◌, take_token, err, Round, scan, repeat, loop}
 use Rattle.grammar.specs.Message.{Message, number, missing_end_number}
 use Rattle.grammar.specs.Bump.{while_round, bump_while, expect_kind, expect_name, error_token}
 use Rattle.grammar.specs.Path.{path_segment, path_round, parse_path_with_message, group_round, parse_balanced_group}
@@ -47,7 +47,7 @@ pub tame_bind : {A B : Type 0} {f : P A} {g : A → P B} → Tame f → ((a : A)
 unfolding ◌>>=◌
 tame_bind {f} {g} F G = record { tame = λ r. calm_join ending (f r).out (g (f r).val (f r).rest).out (F.tame r) ((G (f r).val).tame (f r).rest) }
 
-pub tame_if : {A : Type 0} (t : List Sym → Bool) {f g : P A} → Tame f → Tame g → Tame (if t then f else g)
+pub tame_if : {A : Type 0} (t : List Sym → Bool) {f g : P A} → Tame f → Tame g → Tame (when t then f else g)
 unfolding ◌>>=◌ peek
 tame_if t F G = record { tame = λ r. (tame_pick (t r) F G).tame r }
 

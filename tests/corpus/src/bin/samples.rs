@@ -9,10 +9,9 @@ const HEADER: &str = "\
 -- the same, by computation.
 -- Generated, in tests/, by: cargo run --release --bin samples > ../crates/samples/specs/Samples.antt
 -- Assumes nothing.
-use mathlib.Core.Path.{_≡_, refl}
-use mathlib.Core.List.{List, [], _∷_, map}
-use Rattle·grammar.specs.Source.{Reading}
-use Rattle·grammar.specs.Compute.{_from_to_, read, again}
+use Rattle.std.specs.Prelude.{◌≡◌, List, [], ◌∷◌, map, refl}
+use Rattle.grammar.specs.Source.{Reading}
+use Rattle.grammar.specs.Compute.{◌from◌to◌, read, again}
 
 pub samples : List Reading
 samples =
@@ -20,9 +19,9 @@ samples =
 
 const FOOTER: &str = "
 
-pub samples-agree : map again samples ≡ samples
+pub samples_agree : map again samples ≡ samples
 unfolding again samples
-samples-agree = refl";
+samples_agree = refl";
 
 fn main() {
     let entries: Vec<String> = sources().map(|source| entry(&source)).collect();

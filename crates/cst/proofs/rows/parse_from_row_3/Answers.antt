@@ -12,7 +12,6 @@ use Rattle.marks.specs.Laws.{all_marked}
 use Rattle.answer.specs.declared.Answer.TheVariants.{TokenRoom, Refused}
 use Rattle.answer.specs.Answer.{Slices, token_room, Outcome, outcome, from_row_3, from_row_4, from_row_5}
 use borrow.Author.Tests.{lt-ltb, le-ltb}
-use borrow.Author.Rules.{rules}
 use Rattle.cst.proofs.rows.parse_from_row_3.Goals as goal
 
 module _ (source : List ℕ) (s : Slices) (t : ℕ) (count_is : t ≡ length (tokenize source)) where

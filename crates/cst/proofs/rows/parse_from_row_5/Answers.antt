@@ -15,7 +15,6 @@ use Rattle.cst.specs.Reading.{WriteReading}
 use Rattle.answer.specs.declared.Answer.{Answer}
 use Rattle.answer.specs.declared.Answer.TheVariants.{OutputRoom, Accepted}
 use Rattle.answer.specs.Answer.{slices, diagnostic_room, outcome, events_of, places_of, from_row_5}
-use borrow.Author.Rules.{rules}
 use Rattle.cst.proofs.rows.parse_from_row_5.Goals as goal
 
 module _ (source kinds ends ev dm ds de : List ℕ) (t n : ℕ) (tokens : t ≡ length (tokenize source)) (m : n ≡ diagnostic_room (slices kinds ends ev dm ds de)) where

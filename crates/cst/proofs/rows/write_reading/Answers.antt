@@ -6,7 +6,6 @@ use Rattle.lexer.specs.Lexer.{tokenize}
 use Rattle.lexer.specs.Laws.{few_tokens}
 use Rattle.grammar.specs.Source.{token_symbol}
 use Rattle.cst.specs.Laws.{last_within, reading_is}
-use borrow.Author.Rules.{rules}
 use Rattle.cst.proofs.rows.write_reading.Goals as goal
 
 pub parse-c-requires : goal.parse-c-requires

@@ -11,7 +11,7 @@ use Rattle.lexer.specs.Syntax.{DocComment}
 use Rattle.grammar.specs.Bump.{bump_while, while_round}
 use Rattle.grammar.specs.Laws.Here.{is_not}
 use Rattle.grammar.specs.Look.{one_of, at, eof, regular_trivia}
-use Rattle.grammar.specs.Run.{leaf, pure, peek, take_token, scan, ◌>>=◌, ◌>>◌, if◌then◌else◌, P}
+use Rattle.grammar.specs.Run.{leaf, pure, peek, take_token, scan, ◌>>=◌, ◌>>◌, when◌then◌else◌, P}
 use Rattle.grammar.proofs.Theorems.NoFuel.{items_eq}
 use Rattle.grammar.proofs.Theorems.Rounds.{round_takes}
 use Rattle.grammar.specs.Words.{File, from, Sym, is}
@@ -24,7 +24,7 @@ abbrev one : P Bool
 one = parse_source_item (parse_block limit)
 
 abbrev round : P Bool
-round = if eof then pure true else (one >> items_in limit)
+round = when eof then pure true else (one >> items_in limit)
 
 last : {F : File} {w : World} → eof (from F w.c.pos) ≡ true → RanTo F (items_in limit) w w true
 last e = like_to round (items_eq limit _) (yes_to eof _ refl e (done_to true))
