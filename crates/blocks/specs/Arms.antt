@@ -1,4 +1,4 @@
--- A round of parse_block's loop by the token here: which arm it is, and what each arm does. That this is block-round is `round_is`.
+-- A round of parse_block's loop by the token here: which arm it is, and what each arm does. That this is block_round is `round_is`.
 -- Assumes nothing.
 use Rattle.std.specs.Prelude.{ℕ, suc, ◌≡◌, refl, Bool, true, cond, List, leb}
 use Rattle.std.proofs.Common.{sym, ◌∙◌, ap}
@@ -21,7 +21,7 @@ use Rattle.blocks.specs.declared.arm.Taken.{Taken}
 use Rattle.blocks.specs.declared.arm.Closing.{Closing}
 use Rattle.blocks.specs.declared.arm.BlockArm.{BlockArm}
 
--- the tests of block-round, in its order
+-- the tests of block_round, in its order
 unfoldable pub inner_arm : List Sym → BlockArm
 inner_arm r =
     cond (at_top_level_form_starter_in_block r) (BlockArm.Closes Closing.Item)
@@ -54,7 +54,7 @@ block_ending Closing.Terminator owner = pure BlockParseOutcome.FoundTerminator
 block_ending Closing.StrayElse owner = recover owner BlockRecoveryBoundary.Else
 block_ending Closing.Item owner = recover owner BlockRecoveryBoundary.TopLevelItem
 
--- what block-round does in each
+-- what block_round does in each
 unfoldable pub by_block_arm : BlockArm → Blocks → ℕ → Blocks
 by_block_arm (BlockArm.Takes t) again limit owner terminators depth = taking t >> again owner terminators depth
 by_block_arm (BlockArm.Closes k) again limit owner terminators depth = block_ending k owner

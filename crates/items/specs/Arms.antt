@@ -1,5 +1,5 @@
 -- Which item starts at a token, in the order of parse_source_item's tests, and that it is the arm's function: `item_is`. The code finds
--- the arm by the token here and by the one that says which declaration starts here (arm-by); that it is the same is `arm_is_lem` in
+-- the arm by the token here and by the one that says which declaration starts here (arm_by); that it is the same is `arm_is` in
 -- proofs/Arms.
 -- Assumes nothing.
 use Rattle.std.specs.Prelude.{◌≡◌, refl, Bool, cond, ◌||◌, List, [], ◌∷◌, ltb}

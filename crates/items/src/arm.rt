@@ -1,6 +1,6 @@
 // Which item starts at a token.
 ghost use Rattle.std.specs.Prelude.{◌≡◌, ◌≤◌, length, drop};
-ghost use Rattle.items.specs.Arms.{item_arm, declaration_arm as declaration_arm, word_arm as word_arm, plain_arm as plain_arm};
+ghost use Rattle.items.specs.Arms.{item_arm, declaration_arm, word_arm, plain_arm};
 
 use grammar::words::{ADV_MAP, BEGIN, CONST, ENUM, MARK, MOD, NAMESPACE_WORD, PROC, PUB, TYPE};
 use lexer::syntax::{AT, DOC_COMMENT};
