@@ -1,5 +1,5 @@
--- Document 01's words on missing closers, proved in proofs/MissingEnds of every call that returned 0: at most one is reported, it stands at the end of the file, and there
--- is none where the depth diagnostic stands.
+-- Document 01's words on missing closers, proved in proofs/MissingEnds of every call that returned 0: at most one is reported, it stands
+-- at the end of the file, and there is none where the depth diagnostic stands.
 -- Assumes nothing.
 use Rattle.std.specs.Prelude.{ℕ, cond, get_or}
 use mathlib.Core.List.{List, [], ◌∷◌, tail}
