@@ -13,8 +13,7 @@ use Rattle.grammar.specs.Compute.{again}
 use Rattle.marks.specs.Marks
 use Rattle.answer.specs.Answer.{Slices, slices, token_room, diagnostic_room, from_row_5, from_row_4, from_row_3, from_row_2, parse_text}
 use Rattle.answer.specs.Call.{Reply, call, MasmParseText}
-use Rattle.answer.specs.Given.{token_count, event_count, diagnostic_count, given, cut, end_before_last, CallsJoin, Fits, JoinReply}
-use Rattle.answer.specs.JoinedCalls.{joined_calls}
+use Rattle.answer.specs.Given.{token_count, event_count, diagnostic_count, given, cut, end_before_last, JoinReply}
 
 -- What is lent to a call: room for so many tokens, events and diagnostics, and so many words of counts.
 pub record Loan : Type 0 where
@@ -119,20 +118,6 @@ module _ (c : Case) where
   Concluded =
       JoinReply (length c.a) given_a given_b (given on_join.slices on_join.counts)
       on_a.counts on_b.counts on_join.counts on_join.status
-
-  -- These are the premises and the conclusion of `joined_calls`.
-  pub concluded : AllBut 12 → Concluded
-  concluded (first, second, within, tokens, events, diagnostics, words, newline, line_feed, word, closes, starts) =
-      joined_calls c.a c.b (loan_slices c.for_a) (loan_slices c.for_b) (loan_slices c.for_join)
-      (zeros c.for_a.words) (zeros c.for_b.words) (zeros c.for_join.words)
-      (called c.a c.for_a) (called c.b c.for_b) (called (c.a ++ c.b) c.for_join) first second within
-      (record { tokens = tokens; events = events; diagnostics = diagnostics; words = words })
-      (record { newline = newline; line_feed = line_feed; word = word; closes = closes; starts = starts })
-
-  pub premises_are : on_a.status ≡ 0 → on_b.status ≡ 0 → length (c.a ++ c.b) ≤ MAX_SOURCE
-      → Fits (loan_slices c.for_join) (zeros c.for_join.words) on_a.counts on_b.counts → CallsJoin c.a given_a given_b → AllBut 12
-  premises_are first second within f j =
-      (first, second, within, f.tokens, f.events, f.diagnostics, f.words, j.newline, j.line_feed, j.word, j.closes, j.starts)
 
 -- Demand 3 without the premise p is false: of some case all the others hold, and the conclusion does not.
 pub record Needed (p : Premise) : Type 0 where

@@ -17,7 +17,8 @@ use Rattle.answer.specs.Call.{MasmParseText}
 use Rattle.answer.specs.Given.{given, cut, end_before_last}
 use Rattle.answer.specs.Accepts.{reading_slices, reading_of_call, last_row_of_call}
 use Rattle.answer.specs.JoinedTokens.{cut_source, newline_last, word_before_last}
-use Rattle.answer.specs.Cases.{zeros, loan, loan_slices, made, called, Case, rank, AllBut, Concluded, concluded, Needed}
+use Rattle.answer.specs.Cases.{zeros, loan, loan_slices, made, called, Case, rank, AllBut, Concluded, Needed}
+use Rattle.answer.proofs.Cases.{concluded}
 use Rattle.answer.specs.Cases.{first_accepted, second_accepted, room_for_tokens, room_for_events, room_for_diagnostics, three_words}
 use Rattle.answer.specs.Cases.{last_is_newline, last_is_line_feed, end_is_word, end_closes, no_parenthesis}
 

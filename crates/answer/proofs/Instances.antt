@@ -8,7 +8,8 @@ use Rattle.grammar.specs.Theorems.FewOpen.{peak}
 use Rattle.answer.specs.Answer.{Slices}
 use Rattle.answer.specs.Given.{token_count, event_count, diagnostic_count, JoinReply}
 use Rattle.answer.specs.Facts.{Facts, enough_room}
-use Rattle.answer.specs.Cases.{loan, zeros, loan_slices, made, called, concluded}
+use Rattle.answer.specs.Cases.{loan, zeros, loan_slices, made, called}
+use Rattle.answer.proofs.Cases.{concluded}
 
 -- ---- Demand 3. A, with a diagnostic in its block.
 first : Slices

@@ -1,0 +1,9 @@
+-- JoinedCalls: demand 3. Facts, MissingEnds: what specs/ says under these names of every call that returned 0.
+-- Cases: the premises of demand 3 as cases have them. Needed: which premises are needed. Instances: demand 3 and the bounds at concrete
+-- calls.
+pub mod JoinedCalls
+pub mod Facts
+pub mod MissingEnds
+pub mod Cases
+pub mod Needed
+pub mod Instances
