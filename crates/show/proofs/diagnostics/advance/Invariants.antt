@@ -1,6 +1,5 @@
 -- `show::diagnostics::advance` meets its contract: the place goes up to the end. Assumes nothing.
 use Prim.Native.Nat.{◌≤◌, ◌-◌}
-use borrow.Author.Rules.{rules}
 use Rattle.show.specs.Lines.{Marks}
 use Rattle.show.proofs.diagnostics.advance.Given as goal
 

@@ -1,7 +1,6 @@
 -- `show::diagnostics::put_diagnostics` keeps the buffer ready, and the place in the source. Assumes nothing.
 use mathlib.Core.Path.{◌≡◌}
 use Prim.Native.Nat.{◌≤◌, ◌-◌}
-use borrow.Author.Rules.{rules}
 use lib.ListN.{length}
 use Rattle.frames.specs.Ready.{Ready}
 use Rattle.show.specs.Lines.{Marks}

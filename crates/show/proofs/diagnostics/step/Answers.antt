@@ -2,7 +2,6 @@
 use mathlib.Core.Path.{refl}
 use native.Mathlib.Omega.{arith}
 use Rattle.show.specs.Lines.{behind_line, same_line, few}
-use borrow.Author.Rules.{rules}
 use Rattle.show.proofs.diagnostics.step.Goals as goal
 
 pub overflow_add-result-then-source-at-eq10 : goal.overflow_add-result-then-source-at-eq10

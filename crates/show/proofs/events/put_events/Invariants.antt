@@ -1,7 +1,6 @@
 -- `show::events::put_events` keeps the buffer ready. Assumes nothing.
 use mathlib.Core.Path.{◌≡◌}
 use Prim.Native.Nat.{◌≤◌, ◌-◌}
-use borrow.Author.Rules.{rules}
 use lib.ListN.{length}
 use Rattle.frames.specs.Ready.{Ready}
 use Rattle.show.proofs.events.put_events.Given as goal

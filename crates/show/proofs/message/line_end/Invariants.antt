@@ -1,6 +1,5 @@
 -- `show::message::line_end` finds an end behind `from` and within the text. Assumes nothing.
 use Prim.Native.Nat.{◌≤◌, ◌-◌}
-use borrow.Author.Rules.{rules}
 use lib.ListN.{length}
 use Rattle.show.proofs.message.line_end.Given as goal
 

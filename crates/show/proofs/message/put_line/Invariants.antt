@@ -1,6 +1,5 @@
 -- `show::message::put_line` keeps the buffer ready. Assumes nothing.
 use Prim.Native.Nat.{◌≤◌, ◌-◌}
-use borrow.Author.Rules.{rules}
 use lib.ListN.{length}
 use Rattle.show.proofs.message.put_line.Given as goal
 
