@@ -15,6 +15,8 @@ use lexer::syntax::{DO_WHILE_OP, IF_OP, REPEAT_OP, WHILE_OP};
 use parser::cursor::{Cursor, put};
 
 // The node's opening event, its keyword, suffixes and the rest of the line: `if`, `while` and `repeat`.
+// This and keyword_line are inlined, since the arguments of their calls would make the frame of the cycle larger.
+#[inline(always)]
 fn header(
     kinds: &[u16],
     ev: &mut [u16],
@@ -35,6 +37,7 @@ fn header(
 }
 
 // A keyword and the rest of the line: `do`, `else`, and the `while` behind the body of a `do`.
+#[inline(always)]
 pub fn keyword_line(
     kinds: &[u16],
     ev: &mut [u16],
