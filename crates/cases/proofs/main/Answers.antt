@@ -3,7 +3,6 @@ use mathlib.Core.Path.{sym}
 use Prim.Native.Nat.{ℕ, ◌+◌}
 use lib.ListN.{length-replicate}
 use Rattle.lexer.specs.Tokens.{MAX_SOURCE}
-use borrow.Author.Rules.{rules}
 use Rattle.cases.proofs.main.Goals as goal
 
 pub slice_bounds-run_cases-end : goal.slice_bounds-run_cases-end

@@ -1,8 +1,6 @@
 -- `refusals::put_counts` keeps the buffer ready. Assumes nothing.
 use mathlib.Core.Path.{◌≡◌}
 use Prim.Native.Nat.{◌≤◌, ◌-◌}
-use native.Mathlib.Omega.{arith}
-use borrow.Author.Rules.{rules}
 use lib.ListN.{length}
 use Rattle.frames.specs.Ready.{Ready}
 use Rattle.refusals.proofs.put_counts.Given as goal

@@ -1,7 +1,6 @@
 -- `cases::frame::frames` keeps the buffer ready, and ends: the count of frames falls. Assumes nothing.
 use mathlib.Core.Path.{◌≡◌}
 use Prim.Native.Nat.{◌≤◌, ◌-◌}
-use borrow.Author.Rules.{rules}
 use lib.ListN.{length}
 use Rattle.frames.specs.Ready.{Ready}
 use Rattle.cases.proofs.frame.frames.Given as goal
