@@ -25,7 +25,7 @@ optional_parens missing = when at_kind LParen then parse_balanced_group LParen R
 abbrev pub value_line : Message → P Bool
 value_line missing = expect_kind Equal missing >> parse_expr_until_line_end >> parse_line_tail
 
--- type-round's test
+-- type_round's test
 unfoldable pub type_ends : Nesting → List Sym → Bool
 type_ends n r = at_kind Newline r && (is_root n && line_break_starts_new_top_level_item r)
 

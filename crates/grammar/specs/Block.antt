@@ -1,5 +1,5 @@
 -- Blocks and the four control forms. A block contains the forms and each of them contains blocks: the forms are written over the blocks
--- inside them, and parse-block ties the knot.
+-- inside them, and parse_block ties the knot.
 -- Defines: parse_structured_header_suffixes, reject_excessive_control_flow_nesting, parse_if, parse_while, parse_do_while, parse_repeat,
 -- parse_block. The limit on nesting is a parameter; the reader's is MAX_CONTROL_FLOW_NESTING.
 -- Assumes nothing: these are definitions.

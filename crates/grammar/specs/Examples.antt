@@ -208,7 +208,7 @@ five_for_two : source_places limit (bytes "pub(#!d\n)const") ≡
 unfolding again
 five_for_two = refl
 
--- ---- Joins. That the premises are needed is shown of calls, in answer/specs/Needed.
+-- ---- Joins. That the premises are needed is shown of calls, in answer/proofs/Needed.
 -- Whether by the events the last token but one closes a procedure or begin block under the root.
 end_closes : String → Bool
 end_closes a = shut_by [] (source_events limit (bytes a))

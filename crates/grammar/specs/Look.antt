@@ -143,7 +143,7 @@ at_terminator Terminators.End r = at_keyword END r
 at_terminator Terminators.ElseEnd r = at (one_of (ELSE ∷ END ∷ [])) r
 at_terminator Terminators.While r = at_bare_while r
 
--- block_recovery_boundary's test for Else; its other is at-top-level-form-starter-in-block.
+-- block_recovery_boundary's test for Else; its other is at_top_level_form_starter_in_block.
 unfoldable pub at_stray_else : Terminators → List Sym → Bool
 at_stray_else Terminators.End r = at_keyword ELSE r
 at_stray_else Terminators.ElseEnd r = false

@@ -1,5 +1,5 @@
 -- What a parser function does: it takes tokens from the front of what is left, and puts out trees and diagnostics.
--- Defines: start_node and finish_node (inNode), bump (take-token), error_here and error_at_eof (err), and the loops.
+-- Defines: start_node and finish_node (in_node), bump (take_token), error_here and error_at_eof (err), and the loops.
 -- Assumes nothing: these are definitions.
 use Rattle.std.specs.Prelude.{ℕ, zero, suc, length, Bool, true, false, List, [], ◌∷◌, ◌++◌}
 use Rattle.lexer.specs.Syntax

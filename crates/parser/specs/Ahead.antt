@@ -14,7 +14,7 @@ pub record Found (F : File) (p r : ℕ) (left : List Sym) : Type 0 where
 unfoldable pub declared : List Sym → Sym
 declared r = cond (at (is PUB) r) (current (next_token_after_visibility (past (is PUB) r))) (current r)
 
--- is-top-level-starter's test of the token itself
+-- is_top_level_starter's test of the token itself
 abbrev pub starter : Sym → Bool
 starter = one_of (DocComment ∷ At ∷ ADV_MAP ∷ BEGIN ∷ CONST ∷ ENUM ∷ MOD ∷ NAMESPACE ∷ PROC ∷ TYPE ∷ [])
 

@@ -2,7 +2,7 @@
 ghost use Rattle.std.specs.Prelude.{◌≡◌};
 ghost use Rattle.grammar.specs.Look.{regular_trivia, is_trivia, non_comment_trivia, name_like, is_reserved_block_keyword};
 ghost use Rattle.grammar.specs.Look.{expects_continuation_operand as expects_operand, punctuation_continues_instruction as continues};
-ghost use Rattle.grammar.specs.Look.{starts_instruction as starts_instruction};
+ghost use Rattle.grammar.specs.Look.{starts_instruction};
 ghost use Rattle.parser.specs.Sets.{bit, word_bit, trivia_to};
 ghost use Rattle.parser.specs.Ahead.{starter};
 

@@ -5,7 +5,7 @@ ghost use Rattle.grammar.specs.Words.{is};
 ghost use Rattle.grammar.specs.Look.{regular_trivia, is_trivia, non_comment_trivia, at, current as current_of, eof as eof_of};
 ghost use Rattle.grammar.specs.Look.{skip as skip_of, past, anyone};
 ghost use Rattle.grammar.specs.Look.{next_token_after_visibility as after_visibility, is_top_level_starter as starter_of};
-ghost use Rattle.grammar.specs.Look.{at_bare_while as bare_while, at_terminator as at_terminator, at_stray_else as stray_else};
+ghost use Rattle.grammar.specs.Look.{at_bare_while as bare_while, at_terminator, at_stray_else as stray_else};
 ghost use Rattle.grammar.specs.Look.{line_break_starts_new_top_level_item as line_break_starts};
 ghost use Rattle.grammar.specs.Look.{at_top_level_form_starter_in_block as starter_in_block};
 ghost use Rattle.parser.specs.Sets.{trivia_to};

@@ -98,7 +98,7 @@ leaf_events_of (node k c x) es =
     ∙ append_assoc (map kind (leaves c)) (map kind (leaves x)) (leaf_events es))
 leaf_events_of (say m x) es = leaf_events_of x es
 
--- ---- shutBy, event by event.
+-- ---- shut_by, event by event.
 abbrev here : List ℕ → List ℕ → Bool
 here st es = eqb 1 (length (leaf_events es)) && (zero_next es && in_top st)
 

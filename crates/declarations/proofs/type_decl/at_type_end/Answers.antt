@@ -1,4 +1,4 @@
--- `declarations::type_decl::at_type_end`: the tests of type-round. Assumes nothing.
+-- `declarations::type_decl::at_type_end`: the tests of type_round. Assumes nothing.
 use mathlib.Core.Path.{sym, ◌∙◌}
 use Rattle.declarations.specs.Parts.{type_ends}
 use Rattle.declarations.proofs.Rounds.{type_inside}
