@@ -1,5 +1,5 @@
 // Standard input as far as a buffer has room, and whether a read failed.
-ghost use Rattle.frames.specs.Prefix.{IsPrefixLen};
+ghost use Rattle.std.specs.Counts.{IsPrefixLen};
 
 use std::io::Read;
 

@@ -76,7 +76,7 @@ tail_byte t (byte {low} {high} {row = row} l h q) (suc k) i =
 
 tail_in : {rows : List Row} {b : ℕ} {bs : List ℕ} → all_continue rows ≡ true → Character rows (b ∷ bs) → (k : ℕ) → k < length bs → Continuation (get_or bs k 0)
 tail_in {rows = (r ∷ row) ∷ rows} t (here (byte l h q)) k i = tail_byte (both (continues row) (all_continue rows) t).0 q k i
-tail_in {rows = _ ∷ _} {b = b} {bs = bs} t (here {row = []} {rows = rows} x10) k i = elim x10 [ ]
+tail_in {rows = _ ∷ _} t (here {row = []} none) k i = elim none [ ]
 tail_in t (there {row = []} c) k i = tail_in t c k i
 tail_in t (there {row = r ∷ row} {rows = rows} c) k i = tail_in (both (continues row) (all_continue rows) t).1 c k i
 
