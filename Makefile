@@ -34,7 +34,7 @@ $(archive): crates.txt $(shell find crates \( -name must-fail -o -name out \) -p
 check:
 	tools/progress target/check.log rt all test
 
-# Everything, from nothing: the gate.
+# The gate: everything, but for the proofs that `rt ci` keeps on this machine of files that have not changed since.
 test:
 	bash .ci/run
 
