@@ -37,7 +37,7 @@ module _ (source : List ℕ) (s : Slices) (counts : List ℕ) where
       }
 
 pub returns-then-counts-lt3 : goal.returns-then-counts-lt3
-returns-then-counts-lt3 c = too_short _ _ _ c.if-counts-lt3.true
+returns-then-counts-lt3 c = too_short _ _ _ (omega (arith, c.if-counts-lt3.true))
 
 pub bounds-counts-1 : goal.bounds-counts-1
 bounds-counts-1 c =
@@ -45,4 +45,4 @@ bounds-counts-1 c =
 
 pub returns : goal.returns
 returns c =
-    replies _ _ _ _ _ _ c.if-counts-lt3.false c.parse_text-answer.ensures c.numbers-n.ensures
+    replies _ _ _ _ _ _ (omega (arith, c.if-counts-lt3.false)) c.parse_text-answer.ensures c.numbers-n.ensures

@@ -2,6 +2,7 @@
 use Prim.Native.Nat.{ℕ, ◌≤◌, ◌<◌}
 use mathlib.Core.Path.{◌≡◌, refl, sym, ◌∙◌}
 use mathlib.Core.List.{List}
+use native.Mathlib.Omega.{arith}
 use borrow.Author.Tests.{lt-ltb, le-ltb}
 use lib.ListN.{length}
 use Rattle.lexer.specs.Tokens.{MAX_SOURCE}
@@ -27,7 +28,7 @@ module _ (source : List ℕ) (s : Slices) where
     goes_on v e = e ∙ rw (le-ltb MAX_SOURCE (length source) h, v) refl
 
 pub returns-then-source-gt-MAX_SOURCE : goal.returns-then-source-gt-MAX_SOURCE
-returns-then-source-gt-MAX_SOURCE c = too_long _ _ c.if-source-gt-MAX_SOURCE.true
+returns-then-source-gt-MAX_SOURCE c = too_long _ _ (omega (arith, c.if-source-gt-MAX_SOURCE.true))
 
 pub parse_utf8-requires : goal.parse_utf8-requires
 parse_utf8-requires c =

@@ -8,7 +8,7 @@ pub overflow_add-result-then-source-at-eq10 : goal.overflow_add-result-then-sour
 overflow_add-result-then-source-at-eq10 c = omega (arith, c.requires.1, few _ _ c.requires.0 c.requires.1)
 
 pub returns-then-source-at-eq10 : goal.returns-then-source-at-eq10
-returns-then-source-at-eq10 c = (behind_line _ _ c.requires.0 c.requires.1 c.if-source-at-eq10.true, refl)
+returns-then-source-at-eq10 c = (behind_line _ _ c.requires.0 c.requires.1 (omega (arith, c.if-source-at-eq10.true)), refl)
 
 pub overflow_add-result-3 : goal.overflow_add-result-3
 overflow_add-result-3 c = omega (arith, c.requires.1, few _ _ c.requires.0 c.requires.1)
