@@ -69,13 +69,13 @@ def named(row, cell, ending):
 
 
 def proofs_of(name, path):
-    """Where the proof of a function lies: under the code's path, or in the folder of its cycle."""
+    """Where the proof of a function lies: under the code's path, a method's under its type's, or in the folder of its cycle."""
     place = re.fullmatch(r"crates/(\w+)/src/(.+)\.rt", path)
     if not place:
         return []
     base = f"crates/{place[1]}/proofs" + ("" if place[2] == "lib" else f"/{place[2]}")
     cycle = re.search(rf"^#\[cycle\((\w+)\)\]\n(?:#\[.*\n)*(?:pub )?fn {re.escape(name)}\b", read(path), re.MULTILINE)
-    folders = [f"{base}/+{cycle[1]}"] if cycle else [f"{base}/{name}"] + glob.glob(f"{base}/[A-Z]*/{name}")
+    folders = [f"{base}/+{cycle[1]}"] if cycle else [f"{base}/{name}"] + glob.glob(f"crates/{place[1]}/proofs/**/[A-Z]*/{name}", recursive=True)
     return [folder for folder in folders if any(os.path.exists(f"{folder}/{file}.antt") for file in FILES)]
 
 

@@ -6,7 +6,7 @@ use Prim.Native.Nat.{ℕ, suc, ◌+◌, ◌<◌}
 use native.Mathlib.Omega.{arith}
 use lib.ListN.{length}
 use Rattle.lexer.specs.Syntax
-use Rattle.grammar.specs.Words.{Sym, File, from, is, DO, ELSE, END, IF, REPEAT, WHILE}
+use Rattle.grammar.specs.Words.{Sym, File, is, DO, ELSE, END, IF, REPEAT, WHILE}
 use Rattle.grammar.specs.Look.{one_of, at, eof, current, name_like, regular_trivia, at_prefixed_keyword, at_bare_while, control_flow, starts_instruction, at_terminator, at_stray_else, at_regular_trivia, is_top_level_starter, at_top_level_form_starter_in_block}
 use Rattle.grammar.specs.Run.{Kind, num, P, Block, leaf, pure, peek, in_node, pick, take_token, scan, ◌>>=◌, ◌>>◌, when◌then◌else◌}
 use Rattle.grammar.specs.State.{run}
@@ -21,7 +21,7 @@ use Rattle.grammar.specs.Laws.Live.{some, eats_take}
 use Rattle.grammar.specs.Laws.LiveLine.{eats_error_token, eats_instruction}
 use Rattle.grammar.proofs.Laws.LiveBlock.{bare_while, repeat_left}
 use Rattle.grammar.specs.Laws.Stops.{stops_block}
-use Rattle.parser.specs.Rep.{World, world, Onward, Past, Wrote, Ran, RanTo}
+use Rattle.parser.specs.Rep.{World, file, remaining, Onward, Past, Wrote, Ran, RanTo}
 use Rattle.parser.proofs.Kit.{Leads, ◌farther◌, answers, like_to, yes_to, no_to, done_to, bind_to, node_to, ◌then_to◌}
 use Rattle.parser.proofs.Expect.{take_expected}
 use Rattle.parser.proofs.Laws.{at_current, at_some}
@@ -158,31 +158,31 @@ module _ (limit : ℕ) (owner : BlockOwner) (t : Terminators) (depth : ℕ) wher
           ∙ ap (λ x. record { rest = x.rest; out = leaf s x.out; val = x.val }) h)
       by_test false e h = rw e refl
 
-  pub absorbs : {F : File} {w v w' : World} {r : BlockParseOutcome} → Ran F (bump_while regular_trivia) w v → RanTo F (block_in limit owner t depth) v w' r → RanTo F (block_in limit owner t depth) w w' r
+  pub absorbs : {w v w' : World} {r : BlockParseOutcome} → Ran (bump_while regular_trivia) w v → RanTo (block_in limit owner t depth) v w' r → RanTo (block_in limit owner t depth) w w' r
   absorbs h k = like_to (bump_while regular_trivia >> block_in limit owner t depth) (trivia_first _) (h then_to k)
 
 -- ---- simulation
-module _ {F : File} {w w' : World} where
-  pub silently : {A : Type 0} {f : P A} → Ran F f w w' → Ran F (silent f) w w'
+module _ {w w' : World} where
+  pub silently : {A : Type 0} {f : P A} → Ran f w w' → Ran (silent f) w w'
   unfolding run silent
   silently h = record { sim = h.sim; rest = h.rest; onward = h.onward }
 
-  pub took : {k k' : Taken} → k ≡ k' → Ran F (taking k') w w' → Ran F (taking k) w w'
-  took e h = subst (λ k. Ran F (taking k) w w') (sym e) h
+  pub took : {k k' : Taken} → k ≡ k' → Ran (taking k') w w' → Ran (taking k) w w'
+  took e h = subst (λ k. Ran (taking k) w w') (sym e) h
 
   -- a form of a block below the limit
-  pub deeper : {r : Bool} (d : ℕ) → RanTo F (parse_control_flow (parse_block limit) (d + 1)) w w' r → RanTo F (parse_control_flow (λ o t e. in_node Block (block_in limit o t e)) (suc d)) w w' r
+  pub deeper : {r : Bool} (d : ℕ) → RanTo (parse_control_flow (parse_block limit) (d + 1)) w w' r → RanTo (parse_control_flow (λ o t e. in_node Block (block_in limit o t e)) (suc d)) w w' r
   unfolding parse_block
-  deeper {r} d h = let z : d + 1 ≡ suc d = omega arith in subst (λ (n : ℕ). RanTo F (parse_control_flow (parse_block limit) n) w w' r) z h
+  deeper {r} d h = let z : d + 1 ≡ suc d = omega arith in subst (λ (n : ℕ). RanTo (parse_control_flow (parse_block limit) n) w w' r) z h
 
   -- a round of parse_block's loop, by its arm
-  pub round : (owner : BlockOwner) (terminators : Terminators) (depth : ℕ) {o : BlockParseOutcome} {a : BlockArm} (b : BlockArm) → a ≡ block_arm terminators (from F w.c.pos) → a ≡ b
-      → RanTo F (by_block_arm b (block_in limit) limit owner terminators depth) w w' o → RanTo F (block_in limit owner terminators depth) w w' o
+  pub round : (owner : BlockOwner) (terminators : Terminators) (depth : ℕ) {o : BlockParseOutcome} {a : BlockArm} (b : BlockArm) → a ≡ block_arm terminators (remaining w) → a ≡ b
+      → RanTo (by_block_arm b (block_in limit) limit owner terminators depth) w w' o → RanTo (block_in limit owner terminators depth) w w' o
   round owner terminators depth b e f h = like_to (by_block_arm b (block_in limit) limit owner terminators depth) (block_by limit owner terminators depth _ b (sym f ∙ e)) h
 
   -- ---- the parts of a form
-  pub opened : {v : ℕ} {lead : P Bool → P Bool} {u : World} → Wrote F v w u → ((next : P Bool) (z : World) (r : Bool) → RanTo F next w' z r → RanTo F (lead next) u z r)
-      → Onward u w' → Past F u w' → FormHeader F v lead w w'
+  pub opened : {v : ℕ} {lead : P Bool → P Bool} {u : World} → Wrote v w u → ((next : P Bool) (z : World) (r : Bool) → RanTo next w' z r → RanTo (lead next) u z r)
+      → Onward u w' → Past u w' → FormHeader v lead w w'
   opened {u} p h n q = record {
     mid = u;
     wrote = p;
@@ -191,11 +191,11 @@ module _ {F : File} {w w' : World} where
     past = record { on = omega (arith, q, p.pos); within = omega (arith, q, p.pos) };
   }
 
-  pub finished : {owner : BlockOwner} {o o' : BlockParseOutcome} {u : World} {e i : Bool} → o ≡ o' → RanTo F (ended owner o') w u e → Wrote F 0 u w'
-      → ItemAt F w'.c.pos i → Finish F owner o w w' e i
+  pub finished : {owner : BlockOwner} {o o' : BlockParseOutcome} {u : World} {e i : Bool} → o ≡ o' → RanTo (ended owner o') w u e → Wrote 0 u w'
+      → ItemAt (file w') w'.c.pos i → Finish owner o w w' e i
   finished {owner} {u} {e} q h p i = record {
     mid = u;
-    ran = subst (λ o. RanTo F (ended owner o) w u e) (sym q) h;
+    ran = subst (λ o. RanTo (ended owner o) w u e) (sym q) h;
     wrote = p;
     onward = h.ran.onward farther p.onward;
     here = i;
@@ -203,20 +203,20 @@ module _ {F : File} {w w' : World} where
 
   -- a form: its header, its first block, and what stands behind that up to the form's end
   pub formed : (k : Kind) {lead : P Bool → P Bool} {block : P BlockParseOutcome} {o p : BlockParseOutcome} {owner : BlockOwner} {m v u : World} {e i : Bool} (rest : BlockParseOutcome → P Bool)
-      → FormHeader F (num k) lead w m → RanTo F block m v o → (end : Finish F owner p u w' e i) → RanTo F (rest o) v end.mid e → ParseForm F (in_node k (lead (block >>= rest))) w w' e i
+      → FormHeader (num k) lead w m → RanTo block m v o → (end : Finish owner p u w' e i) → RanTo (rest o) v end.mid e → ParseForm (in_node k (lead (block >>= rest))) w w' e i
   formed k rest head first end h = record {
     ran = node_to k head.wrote (head.on _ _ _ (bind_to rest first h)) end.wrote;
     past = record { on = omega (arith, head.past, first.ran.onward, h.ran.onward, end.wrote.pos); within = head.past.within };
     here = end.here;
   }
 
-pub closed : {k k' : Closing} {owner : BlockOwner} {w w' u : World} {o : BlockParseOutcome} {i : Bool} → k ≡ k' → ((F : File) → RanTo F (block_ending k' owner) w u o)
-    → ((F : File) → Wrote F 0 u w') → w'.c.pos ≡ w.c.pos → (i ≡ true → k' ≡ Closing.Item) → Close k owner w w' o i
+pub closed : {k k' : Closing} {owner : BlockOwner} {w w' u : World} {o : BlockParseOutcome} {i : Bool} → k ≡ k' → RanTo (block_ending k' owner) w u o
+    → Wrote 0 u w' → w'.c.pos ≡ w.c.pos → (i ≡ true → k' ≡ Closing.Item) → Close k owner w w' o i
 closed {owner} {w} {u} {o} q h p n j = record {
   mid = u;
-  ran = λ F. subst (λ k. RanTo F (block_ending k owner) w u o) (sym q) (h F);
+  ran = subst (λ k. RanTo (block_ending k owner) w u o) (sym q) h;
   wrote = p;
-  onward = (h []).ran.onward farther (p []).onward;
+  onward = h.ran.onward farther p.onward;
   pos = n;
   at_item = λ z. q ∙ j z;
 }
@@ -229,7 +229,7 @@ pub said_no_item : {F : File} {p : ℕ} {i : Bool} → i ≡ false → ItemAt F 
 said_no_item e = record { starts = λ h. absurd (false≢true (sym e ∙ h)) }
 
 -- an outcome that the code has made
-pub gives : {F : File} {w : World} {a b : BlockParseOutcome} → b ≡ a → RanTo F (pure a) w w b
+pub gives : {w : World} {a b : BlockParseOutcome} → b ≡ a → RanTo (pure a) w w b
 gives {a} e = answers (done_to a) (sym e)
 
 found_is : (o : BlockParseOutcome) → found_terminator o ≡ true → o ≡ BlockParseOutcome.FoundTerminator
@@ -238,42 +238,42 @@ found_is BlockParseOutcome.RecoveredImplicitEnd e = absurd (false≢true e)
 found_is BlockParseOutcome.ReachedEof e = absurd (false≢true e)
 
 -- the body of a `do` that was closed stands before a `while`
-at_while : {F : File} {w w' : World} {o : BlockParseOutcome} (d : ℕ) → RanTo F (parse_block limit BlockOwner.DoWhileBody Terminators.While d) w w' o → found_terminator o ≡ true → at (is WHILE) (from F w'.c.pos) ≡ true
-at_while {F} {w} {w'} {o} d h e =
+at_while : {w w' : World} {o : BlockParseOutcome} (d : ℕ) → RanTo (parse_block limit BlockOwner.DoWhileBody Terminators.While d) w w' o → found_terminator o ≡ true → at (is WHILE) (remaining w') ≡ true
+at_while {w} {w'} {o} d h e =
     bare_while _ (ap (at_terminator Terminators.While) (sym h.ran.rest) ∙ (stops_block limit BlockOwner.DoWhileBody Terminators.While d).stops _ (h.val ∙ found_is o e))
 
 -- ---- parse_if behind its first block, and parse_do_while behind its body
 -- the line of an `else`, and the block behind it
-behind_else : {F : File} {w l v : World} {block : P BlockParseOutcome} {o : BlockParseOutcome} → at (is ELSE) (from F w.c.pos) ≡ true
-    → KeywordLine F ELSE w l → RanTo F block l v o → RanTo F (else_line block) w v o
+behind_else : {w l v : World} {block : P BlockParseOutcome} {o : BlockParseOutcome} → at (is ELSE) (remaining w) ≡ true
+    → KeywordLine ELSE w l → RanTo block l v o → RanTo (else_line block) w v o
 unfolding one_of
 behind_else here l h = take_expected ELSE Message.Unreached refl here l.key then_to l.line then_to h
 
-module _ {F : File} {w u : World} (d : ℕ) {x b : Bool} where
-  pub no_else : (o : BlockParseOutcome) → x ≡ (not (reached_eof o) && at (is ELSE) (from F w.c.pos)) → x ≡ false
-      → RanTo F (ended BlockOwner.If o) w u b → RanTo F (else_part (parse_block limit) d o) w u b
+module _ {w u : World} (d : ℕ) {x b : Bool} where
+  pub no_else : (o : BlockParseOutcome) → x ≡ (not (reached_eof o) && at (is ELSE) (remaining w)) → x ≡ false
+      → RanTo (ended BlockOwner.If o) w u b → RanTo (else_part (parse_block limit) d o) w u b
   unfolding ended
   no_else BlockParseOutcome.ReachedEof e k h = h
   no_else BlockParseOutcome.FoundTerminator e k h = bind_to (λ last. ended BlockOwner.If last) (no_to _ _ e k (done_to BlockParseOutcome.FoundTerminator)) h
   no_else BlockParseOutcome.RecoveredImplicitEnd e k h = bind_to (λ last. ended BlockOwner.If last) (no_to _ _ e k (done_to BlockParseOutcome.RecoveredImplicitEnd)) h
 
-  pub with_else : {l v : World} {p : BlockParseOutcome} (o : BlockParseOutcome) → x ≡ (not (reached_eof o) && at (is ELSE) (from F w.c.pos)) → x ≡ true
-      → KeywordLine F ELSE w l → RanTo F (parse_block limit BlockOwner.If Terminators.End d) l v p → RanTo F (ended BlockOwner.If p) v u b
-      → RanTo F (else_part (parse_block limit) d o) w u b
+  pub with_else : {l v : World} {p : BlockParseOutcome} (o : BlockParseOutcome) → x ≡ (not (reached_eof o) && at (is ELSE) (remaining w)) → x ≡ true
+      → KeywordLine ELSE w l → RanTo (parse_block limit BlockOwner.If Terminators.End d) l v p → RanTo (ended BlockOwner.If p) v u b
+      → RanTo (else_part (parse_block limit) d o) w u b
   with_else BlockParseOutcome.ReachedEof e k l g h = absurd (false≢true (sym e ∙ k))
   with_else BlockParseOutcome.FoundTerminator e k l g h = bind_to (λ last. ended BlockOwner.If last) (yes_to _ _ e k (behind_else (sym e ∙ k) l g)) h
   with_else BlockParseOutcome.RecoveredImplicitEnd e k l g h = bind_to (λ last. ended BlockOwner.If last) (yes_to _ _ e k (behind_else (sym e ∙ k) l g)) h
 
-  pub no_condition : {v : World} (o : BlockParseOutcome) → RanTo F (parse_block limit BlockOwner.DoWhileBody Terminators.While d) v w o
-      → x ≡ (found_terminator o && at (is WHILE) (from F w.c.pos)) → x ≡ false → RanTo F (ended BlockOwner.DoWhile o) w u b → RanTo F (do_condition (parse_block limit) d o) w u b
+  pub no_condition : {v : World} (o : BlockParseOutcome) → RanTo (parse_block limit BlockOwner.DoWhileBody Terminators.While d) v w o
+      → x ≡ (found_terminator o && at (is WHILE) (remaining w)) → x ≡ false → RanTo (ended BlockOwner.DoWhile o) w u b → RanTo (do_condition (parse_block limit) d o) w u b
   unfolding ended closing do_condition pure ◌>>=◌
   no_condition BlockParseOutcome.ReachedEof f e k h = h
   no_condition BlockParseOutcome.FoundTerminator f e k h = absurd (false≢true (sym k ∙ e ∙ at_while d f refl))
   no_condition BlockParseOutcome.RecoveredImplicitEnd f e k h = like_to (nop >> pure false) refl h
 
-  pub condition : {l v : World} {p : BlockParseOutcome} (o : BlockParseOutcome) → x ≡ (found_terminator o && at (is WHILE) (from F w.c.pos)) → x ≡ true
-      → KeywordLine F WHILE w l → RanTo F (parse_block limit BlockOwner.DoWhile Terminators.End d) l v p → RanTo F (ended BlockOwner.DoWhile p) v u b
-      → RanTo F (do_condition (parse_block limit) d o) w u b
+  pub condition : {l v : World} {p : BlockParseOutcome} (o : BlockParseOutcome) → x ≡ (found_terminator o && at (is WHILE) (remaining w)) → x ≡ true
+      → KeywordLine WHILE w l → RanTo (parse_block limit BlockOwner.DoWhile Terminators.End d) l v p → RanTo (ended BlockOwner.DoWhile p) v u b
+      → RanTo (do_condition (parse_block limit) d o) w u b
   unfolding do_condition
   condition BlockParseOutcome.ReachedEof e k l g h = absurd (false≢true (sym e ∙ k))
   condition BlockParseOutcome.FoundTerminator e k l g h = l.key then_to l.line then_to bind_to (λ last. ended BlockOwner.DoWhile last) g h
@@ -284,11 +284,11 @@ pub repeat_here : (r : List Sym) → at control_flow r ≡ true → at (is IF) r
 repeat_here r a b c d = repeat_left r (rw (a, b, c, d))
 
 -- ---- the rounds of a block
-module _ {F : File} {owner : BlockOwner} {terminators : Terminators} {depth : ℕ} {m w v w' : World} {word word' : Sym} {outcome₀ outcome : BlockParseOutcome} {item₀ control₀ item control : Bool} where
+module _ {owner : BlockOwner} {terminators : Terminators} {depth : ℕ} {m w v w' : World} {word word' : Sym} {outcome₀ outcome : BlockParseOutcome} {item₀ control₀ item control : Bool} where
   -- the rounds behind a form, which goes from w to v, are rounds from before it on
-  pub from_form : control₀ ≡ true → BlockRounds F owner terminators depth m w outcome₀ item₀ control₀ word
-      → ((u : World) (r : BlockParseOutcome) → RanTo F (block_in limit owner terminators depth) v u r → RanTo F (block_in limit owner terminators depth) w u r)
-      → Onward w v → BlockRounds F owner terminators depth v w' outcome item control word' → BlockRounds F owner terminators depth m w' outcome item control word'
+  pub from_form : control₀ ≡ true → BlockRounds owner terminators depth m w outcome₀ item₀ control₀ word
+      → ((u : World) (r : BlockParseOutcome) → RanTo (block_in limit owner terminators depth) v u r → RanTo (block_in limit owner terminators depth) w u r)
+      → Onward w v → BlockRounds owner terminators depth v w' outcome item control word' → BlockRounds owner terminators depth m w' outcome item control word'
   from_form e₀ r₀ f o r =
       let a = r₀.form e₀ in
       record {
@@ -298,9 +298,9 @@ module _ {F : File} {owner : BlockOwner} {terminators : Terminators} {depth : �
       }
 
 -- the same behind rounds that took tokens
-pub from_here : {F : File} {owner : BlockOwner} {terminators : Terminators} {depth : ℕ} {m w w' : World} {word : Sym} {outcome : BlockParseOutcome} {item control : Bool}
-    → Leads F (block_in limit owner terminators depth) m (block_in limit owner terminators depth) w → Onward m w
-    → BlockRounds F owner terminators depth w w' outcome item control word → BlockRounds F owner terminators depth m w' outcome item control word
+pub from_here : {owner : BlockOwner} {terminators : Terminators} {depth : ℕ} {m w w' : World} {word : Sym} {outcome : BlockParseOutcome} {item control : Bool}
+    → Leads (block_in limit owner terminators depth) m (block_in limit owner terminators depth) w → Onward m w
+    → BlockRounds owner terminators depth w w' outcome item control word → BlockRounds owner terminators depth m w' outcome item control word
 from_here l o r = record {
   onward = o farther r.onward;
   form = λ e. let b = r.form e in record { on = λ u x h. l.on u x (b.on u x h); arm = b.arm; first = b.first; below = b.below };
@@ -308,6 +308,6 @@ from_here l o r = record {
 }
 
 -- what block_from's loop holds: rounds up to where it began are rounds up to where it is
-pub record Going (F : File) (owner : BlockOwner) (terminators : Terminators) (depth : ℕ) (e₀ m₀ p₀ : List ℕ) (s₀ : Stopped) (e m p : List ℕ) (s : Stopped) : Type 0 where
-  pub on : (w : World) → BlockRounds F owner terminators depth w (world e₀ m₀ p₀ s₀.c) s₀.outcome s₀.item s₀.control s₀.word
-      → BlockRounds F owner terminators depth w (world e m p s.c) s.outcome s.item s.control s.word
+pub record Going (owner : BlockOwner) (terminators : Terminators) (depth : ℕ) (w₀ : World) (s₀ : Stopped) (w : World) (s : Stopped) : Type 0 where
+  pub on : (m : World) → BlockRounds owner terminators depth m w₀ s₀.outcome s₀.item s₀.control s₀.word
+      → BlockRounds owner terminators depth m w s.outcome s.item s.control s.word

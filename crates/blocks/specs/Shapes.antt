@@ -11,7 +11,7 @@ use Rattle.grammar.specs.declared.block.BlockParseOutcome.{BlockParseOutcome}
 use Rattle.grammar.specs.Bump.{bump, error_here, expect_keyword}
 use Rattle.grammar.specs.Line.{parse_line_tail}
 use Rattle.grammar.specs.Block.{MAX_CONTROL_FLOW_NESTING as limit, Blocks, parse_structured_header_suffixes, reached_eof, ended, block_in, parse_block}
-use Rattle.parser.specs.Rep.{World, Onward, Past, Wrote, Ran, RanTo}
+use Rattle.parser.specs.Rep.{World, file, remaining, Onward, Past, Wrote, Ran, RanTo}
 use Rattle.blocks.specs.declared.arm.Closing.{Closing}
 use Rattle.blocks.specs.declared.arm.BlockArm.{BlockArm}
 use Rattle.blocks.specs.Arms.{block_arm, block_ending}
@@ -33,20 +33,20 @@ else_part block depth outcome =
     ((when at_keyword ELSE then else_line (block BlockOwner.If Terminators.End depth) else pure outcome) >>= λ last. ended BlockOwner.If last)
 
 -- a keyword, and the rest of its line
-pub record KeywordLine (F : File) (keyword : Sym) (w w' : World) : Type 0 where
+pub record KeywordLine (keyword : Sym) (w w' : World) : Type 0 where
   pub mid : World
-  pub key : Ran F (expect_keyword keyword Message.Unreached) w mid
-  pub line : Ran F parse_line_tail mid w'
+  pub key : Ran (expect_keyword keyword Message.Unreached) w mid
+  pub line : Ran parse_line_tail mid w'
   pub onward : Onward w w'
-  pub past : Past F w w'
+  pub past : Past w w'
 
 -- a node's opening event, v, and then what `lead` does before what comes next; it takes a token
-pub record FormHeader (F : File) (v : ℕ) (lead : P Bool → P Bool) (w w' : World) : Type 0 where
+pub record FormHeader (v : ℕ) (lead : P Bool → P Bool) (w w' : World) : Type 0 where
   pub mid : World
-  pub wrote : Wrote F v w mid
-  pub on : (next : P Bool) (u : World) (r : Bool) → RanTo F next w' u r → RanTo F (lead next) mid u r
+  pub wrote : Wrote v w mid
+  pub on : (next : P Bool) (u : World) (r : Bool) → RanTo next w' u r → RanTo (lead next) mid u r
   pub onward : Onward w w'
-  pub past : Past F w w'
+  pub past : Past w w'
 
 -- an item starts here where this is said
 pub record ItemAt (F : File) (p : ℕ) (item : Bool) : Type 0 where
@@ -54,64 +54,64 @@ pub record ItemAt (F : File) (p : ℕ) (item : Bool) : Type 0 where
 
 -- the empty Error node of a recovery
 pub record Recover (owner : BlockOwner) (boundary : BlockRecoveryBoundary) (w w' : World) : Type 0 where
-  pub ran : (F : File) → Ran F (in_node Error (error_here (Message.Recovery owner boundary))) w w'
+  pub ran : Ran (in_node Error (error_here (Message.Recovery owner boundary))) w w'
   pub pos : w'.c.pos ≡ w.c.pos
 
 -- a block's end, and its closing event
 pub record Close (k : Closing) (owner : BlockOwner) (w w' : World) (outcome : BlockParseOutcome) (item : Bool) : Type 0 where
   pub mid : World
-  pub ran : (F : File) → RanTo F (block_ending k owner) w mid outcome
-  pub wrote : (F : File) → Wrote F 0 mid w'
+  pub ran : RanTo (block_ending k owner) w mid outcome
+  pub wrote : Wrote 0 mid w'
   pub onward : Onward w w'
   pub pos : w'.c.pos ≡ w.c.pos
   pub at_item : item ≡ true → k ≡ Closing.Item
 
 -- a form's end, and its closing event
-pub record Finish (F : File) (owner : BlockOwner) (outcome : BlockParseOutcome) (w w' : World) (eof item : Bool) : Type 0 where
+pub record Finish (owner : BlockOwner) (outcome : BlockParseOutcome) (w w' : World) (eof item : Bool) : Type 0 where
   pub mid : World
-  pub ran : RanTo F (ended owner outcome) w mid eof
-  pub wrote : Wrote F 0 mid w'
+  pub ran : RanTo (ended owner outcome) w mid eof
+  pub wrote : Wrote 0 mid w'
   pub onward : Onward w w'
-  pub here : ItemAt F w'.c.pos item
+  pub here : ItemAt (file w') w'.c.pos item
 
 -- ---- the rounds of a block
 -- They come to a form below the limit: what is left of the block from there is what was left of it before.
-pub record AtForm (F : File) (owner : BlockOwner) (terminators : Terminators) (depth : ℕ) (w w' : World) (word : Sym) : Type 0 where
-  pub on : (v : World) (r : BlockParseOutcome) → RanTo F (block_in limit owner terminators depth) w' v r → RanTo F (block_in limit owner terminators depth) w v r
-  pub arm : block_arm terminators (from F w'.c.pos) ≡ BlockArm.Control
-  pub first : word ≡ current (from F w'.c.pos)
+pub record AtForm (owner : BlockOwner) (terminators : Terminators) (depth : ℕ) (w w' : World) (word : Sym) : Type 0 where
+  pub on : (v : World) (r : BlockParseOutcome) → RanTo (block_in limit owner terminators depth) w' v r → RanTo (block_in limit owner terminators depth) w v r
+  pub arm : block_arm terminators (remaining w') ≡ BlockArm.Control
+  pub first : word ≡ current (remaining w')
   pub below : depth < limit
 
 -- Or they end the block, and its closing event is written.
-pub record Over (F : File) (owner : BlockOwner) (terminators : Terminators) (depth : ℕ) (w w' : World) (outcome : BlockParseOutcome) (item : Bool) : Type 0 where
+pub record Over (owner : BlockOwner) (terminators : Terminators) (depth : ℕ) (w w' : World) (outcome : BlockParseOutcome) (item : Bool) : Type 0 where
   pub mid : World
-  pub ran : RanTo F (block_in limit owner terminators depth) w mid outcome
-  pub wrote : Wrote F 0 mid w'
-  pub here : ItemAt F w'.c.pos item
+  pub ran : RanTo (block_in limit owner terminators depth) w mid outcome
+  pub wrote : Wrote 0 mid w'
+  pub here : ItemAt (file w') w'.c.pos item
 
-pub record BlockRounds (F : File) (owner : BlockOwner) (terminators : Terminators) (depth : ℕ) (w w' : World) (outcome : BlockParseOutcome) (item control : Bool) (word : Sym) : Type 0 where
+pub record BlockRounds (owner : BlockOwner) (terminators : Terminators) (depth : ℕ) (w w' : World) (outcome : BlockParseOutcome) (item control : Bool) (word : Sym) : Type 0 where
   pub onward : Onward w w'
-  pub form : control ≡ true → AtForm F owner terminators depth w w' word
-  pub over : control ≡ false → Over F owner terminators depth w w' outcome item
+  pub form : control ≡ true → AtForm owner terminators depth w w' word
+  pub over : control ≡ false → Over owner terminators depth w w' outcome item
 
 -- at a form, in whatever block
-pub record FormHere (F : File) (depth : ℕ) (w w' : World) (outcome : BlockParseOutcome) (item control : Bool) (word : Sym) : Type 0 where
+pub record FormHere (depth : ℕ) (w w' : World) (outcome : BlockParseOutcome) (item control : Bool) (word : Sym) : Type 0 where
   pub onward : Onward w w'
-  pub of : (owner : BlockOwner) (terminators : Terminators) → block_arm terminators (from F w.c.pos) ≡ BlockArm.Control → BlockRounds F owner terminators depth w w' outcome item control word
+  pub of : (owner : BlockOwner) (terminators : Terminators) → block_arm terminators (remaining w) ≡ BlockArm.Control → BlockRounds owner terminators depth w w' outcome item control word
 
 -- the same behind the block's opening event
-pub record FirstRounds (F : File) (owner : BlockOwner) (terminators : Terminators) (depth : ℕ) (w w' : World) (outcome : BlockParseOutcome) (item control : Bool) (word : Sym) : Type 0 where
+pub record FirstRounds (owner : BlockOwner) (terminators : Terminators) (depth : ℕ) (w w' : World) (outcome : BlockParseOutcome) (item control : Bool) (word : Sym) : Type 0 where
   pub mid : World
-  pub wrote : Wrote F (num Kind.Block) w mid
+  pub wrote : Wrote (num Kind.Block) w mid
   pub onward : Onward w w'
-  pub rounds : BlockRounds F owner terminators depth mid w' outcome item control word
+  pub rounds : BlockRounds owner terminators depth mid w' outcome item control word
 
 -- ---- a block, and a form
-pub record ParseBlock (F : File) (owner : BlockOwner) (terminators : Terminators) (depth : ℕ) (w w' : World) (outcome : BlockParseOutcome) (item : Bool) : Type 0 where
-  pub ran : RanTo F (parse_block limit owner terminators depth) w w' outcome
-  pub here : ItemAt F w'.c.pos item
+pub record ParseBlock (owner : BlockOwner) (terminators : Terminators) (depth : ℕ) (w w' : World) (outcome : BlockParseOutcome) (item : Bool) : Type 0 where
+  pub ran : RanTo (parse_block limit owner terminators depth) w w' outcome
+  pub here : ItemAt (file w') w'.c.pos item
 
-pub record ParseForm (F : File) (form : P Bool) (w w' : World) (eof item : Bool) : Type 0 where
-  pub ran : RanTo F form w w' eof
-  pub past : Past F w w'
-  pub here : ItemAt F w'.c.pos item
+pub record ParseForm (form : P Bool) (w w' : World) (eof item : Bool) : Type 0 where
+  pub ran : RanTo form w w' eof
+  pub past : Past w w'
+  pub here : ItemAt (file w') w'.c.pos item

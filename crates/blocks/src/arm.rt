@@ -1,5 +1,5 @@
 // What a round of parse_block's loop does, by the token here.
-ghost use Rattle.std.specs.Prelude.{◌≡◌, length, drop};
+ghost use Rattle.std.specs.Prelude.{◌≡◌, drop};
 ghost use Rattle.grammar.specs.Look.{control_flow};
 ghost use Rattle.parser.specs.Ahead.{DocKnown};
 ghost use Rattle.blocks.specs.Arms.{block_arm, inner_arm};
@@ -8,10 +8,9 @@ ghost use Rattle.blocks.specs.Shapes.{ItemAt};
 use grammar::block::Terminators;
 use lexer::syntax::{DOC_COMMENT, IDENT};
 use parser::kinds::{in_words, is_regular_trivia, starts_instruction};
-use parser::look::{
-    Remembered, at_stray_else, at_terminator, current, eof, is_top_level_starter, starts_behind_doc,
-};
+use parser::look::Remembered;
 use parser::sets::CONTROL_FLOW;
+use parser::state::Parser;
 
 // Tokens are taken, and there is another round.
 #[derive(Clone, Copy)]
@@ -52,9 +51,9 @@ fn is_control_flow(k: u16) -> bool
 }
 
 // The tests behind those of `block_arm_here`. Where `item` holds, a block inside ended at an item that starts here.
-fn inner_arm(kinds: &[u16], p: usize, known: Remembered, item: bool) -> Seen
-    requires { (DocKnown kinds.now p known) × (ItemAt kinds.now p item) }
-    ensures { (result.arm ≡ inner_arm (drop p kinds.now)) × (DocKnown kinds.now p result.known) }
+fn inner_arm(parser: &Parser, p: usize, known: Remembered, item: bool) -> Seen
+    requires { (DocKnown parser.now.kinds.now p known) × (ItemAt parser.now.kinds.now p item) }
+    ensures { (result.arm ≡ inner_arm (drop p parser.now.kinds.now)) × (DocKnown parser.now.kinds.now p result.known) }
 {
     if item {
         return Seen {
@@ -62,9 +61,9 @@ fn inner_arm(kinds: &[u16], p: usize, known: Remembered, item: bool) -> Seen
             known: known,
         };
     }
-    let k = current(kinds, p);
+    let k = parser.current(p);
     if k == DOC_COMMENT {
-        let doc = starts_behind_doc(kinds, p, known);
+        let doc = parser.starts_behind_doc(p, known);
         if doc.starts {
             return Seen {
                 arm: BlockArm::Closes(Closing::Item),
@@ -76,7 +75,7 @@ fn inner_arm(kinds: &[u16], p: usize, known: Remembered, item: bool) -> Seen
             known: doc,
         };
     }
-    if is_top_level_starter(kinds, p) {
+    if parser.is_top_level_starter(p) {
         return Seen {
             arm: BlockArm::Closes(Closing::Item),
             known: known,
@@ -103,17 +102,17 @@ fn inner_arm(kinds: &[u16], p: usize, known: Remembered, item: bool) -> Seen
 // The tests of a round. Trivia and identifiers that are no words are met most, and are neither the end of the file nor a
 // terminator nor a form's or an item's start, so they are tested first.
 pub fn block_arm_here(
-    kinds: &[u16],
+    parser: &Parser,
     p: usize,
     terminators: Terminators,
     known: Remembered,
     item: bool,
 ) -> Seen
-    requires { (DocKnown kinds.now p known) × (ItemAt kinds.now p item) }
-    ensures { (result.arm ≡ block_arm terminators (drop p kinds.now))
-        × (DocKnown kinds.now p result.known) }
+    requires { (DocKnown parser.now.kinds.now p known) × (ItemAt parser.now.kinds.now p item) }
+    ensures { (result.arm ≡ block_arm terminators (drop p parser.now.kinds.now))
+        × (DocKnown parser.now.kinds.now p result.known) }
 {
-    let k = current(kinds, p);
+    let k = parser.current(p);
     if is_regular_trivia(k) {
         return Seen {
             arm: BlockArm::Takes(Taken::Trivia),
@@ -126,23 +125,23 @@ pub fn block_arm_here(
             known: known,
         };
     }
-    if eof(kinds, p) {
+    if parser.eof(p) {
         return Seen {
             arm: BlockArm::Closes(Closing::Eof),
             known: known,
         };
     }
-    if at_terminator(kinds, p, terminators) {
+    if parser.at_terminator(p, terminators) {
         return Seen {
             arm: BlockArm::Closes(Closing::Terminator),
             known: known,
         };
     }
-    if at_stray_else(kinds, p, terminators) {
+    if parser.at_stray_else(p, terminators) {
         return Seen {
             arm: BlockArm::Closes(Closing::StrayElse),
             known: known,
         };
     }
-    inner_arm(kinds, p, known, item)
+    inner_arm(parser, p, known, item)
 }

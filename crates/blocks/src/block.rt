@@ -15,6 +15,7 @@ use crate::rounds::{BlockPlace, first_rounds, next_rounds};
 use grammar::block::{BlockOwner, Terminators};
 use grammar::words::{DO, ELSE, IF, WHILE};
 use parser::cursor::Cursor;
+use parser::state::Parser;
 
 // Where a block begins, and which it is: the arguments of `block_from`, which a frame then holds in one place.
 #[derive(Clone, Copy)]
@@ -24,18 +25,15 @@ struct Start {
 }
 
 pub fn parse_block(
-    kinds: &[u16],
-    ev: &mut [u16],
-    dm: &mut [u16],
-    ds: &mut [u32],
+    parser: &mut Parser,
     c0: Cursor,
     owner: BlockOwner,
     terminators: Terminators,
     depth: usize,
 ) -> BlockEnd
     requires { depth ≤ limit }
-    ensures { ParseBlock kinds.now owner terminators depth
-        (entry ev dm ds c0) (exit ev dm ds result.c) result.outcome result.item }
+    ensures { ParseBlock owner terminators depth
+        (entry parser c0) (exit parser result.c) result.outcome result.item }
 {
     let place = BlockPlace {
         depth: depth as u16,
@@ -46,34 +44,28 @@ pub fn parse_block(
         c: c0,
         place: place,
     };
-    block_from(kinds, ev, dm, ds, start)
+    block_from(parser, start)
 }
 
 // A block: parse_block calls this from outside the cycle, inner_block from inside.
 #[cycle(forms)]
-fn block_from(
-    kinds: &[u16],
-    ev: &mut [u16],
-    dm: &mut [u16],
-    ds: &mut [u32],
-    start: Start,
-) -> BlockEnd
+fn block_from(parser: &mut Parser, start: Start) -> BlockEnd
     requires { start.place.depth ≤ limit }
-    ensures { ParseBlock kinds.now start.place.owner start.place.terminators start.place.depth
-        (entry ev dm ds start.c) (exit ev dm ds result.c) result.outcome result.item }
+    ensures { ParseBlock start.place.owner start.place.terminators start.place.depth
+        (entry parser start.c) (exit parser result.c) result.outcome result.item }
 {
     let c0 = start.c;
     let place = start.place;
     let depth = place.depth as usize;
-    let mut s = first_rounds(kinds, ev, dm, ds, c0, place);
+    let mut s = first_rounds(parser, c0, place);
     while s.control {
         let c = s.c;
-        let f = parse_control_flow(kinds, ev, dm, ds, c, s.word, depth + 1);
+        let f = parse_control_flow(parser, c, s.word, depth + 1);
         let fc = f.c;
         if f.eof {
-            return ended_file(ev, fc);
+            return ended_file(parser, fc);
         }
-        s = next_rounds(kinds, ev, dm, ds, fc, place, f.item);
+        s = next_rounds(parser, fc, place, f.item);
     }
     let c = s.c;
     let outcome = s.outcome;
@@ -86,48 +78,37 @@ fn block_from(
 
 // The form that starts here; k is its keyword.
 #[cycle(forms)]
-fn parse_control_flow(
-    kinds: &[u16],
-    ev: &mut [u16],
-    dm: &mut [u16],
-    ds: &mut [u32],
-    c0: Cursor,
-    k: u16,
-    depth: usize,
-) -> Form
-    requires { (k ≡ current (drop c0.pos kinds.now)) × (at control_flow (drop c0.pos kinds.now) ≡ true)
+fn parse_control_flow(parser: &mut Parser, c0: Cursor, k: u16, depth: usize) -> Form
+    requires { (k ≡ current (drop c0.pos parser.old.kinds.now)) × (at control_flow (drop c0.pos parser.old.kinds.now) ≡ true)
         × (depth ≤ limit) }
-    ensures { ParseForm kinds.now (parse_control_flow (parse_block limit) depth)
-        (entry ev dm ds c0) (exit ev dm ds result.c) result.eof result.item }
+    ensures { ParseForm (parse_control_flow (parse_block limit) depth)
+        (entry parser c0) (exit parser result.c) result.eof result.item }
 {
     if k == IF {
-        return parse_if(kinds, ev, dm, ds, c0, depth);
+        return parse_if(parser, c0, depth);
     }
     if k == DO {
-        return parse_do_while(kinds, ev, dm, ds, c0, depth);
+        return parse_do_while(parser, c0, depth);
     }
     if k == WHILE {
-        return parse_while(kinds, ev, dm, ds, c0, depth);
+        return parse_while(parser, c0, depth);
     }
-    parse_repeat(kinds, ev, dm, ds, c0, depth)
+    parse_repeat(parser, c0, depth)
 }
 
 // A block inside a form. All calls of the forms go through here, so that a frame has room for the arguments of one; parse_block has
 // the same body, since a call of this from outside would make the frame larger.
 #[cycle(forms)]
 fn inner_block(
-    kinds: &[u16],
-    ev: &mut [u16],
-    dm: &mut [u16],
-    ds: &mut [u32],
+    parser: &mut Parser,
     c0: Cursor,
     owner: BlockOwner,
     terminators: Terminators,
     depth: usize,
 ) -> BlockEnd
     requires { depth ≤ limit }
-    ensures { ParseBlock kinds.now owner terminators depth
-        (entry ev dm ds c0) (exit ev dm ds result.c) result.outcome result.item }
+    ensures { ParseBlock owner terminators depth
+        (entry parser c0) (exit parser result.c) result.outcome result.item }
 {
     let place = BlockPlace {
         depth: depth as u16,
@@ -138,98 +119,47 @@ fn inner_block(
         c: c0,
         place: place,
     };
-    block_from(kinds, ev, dm, ds, start)
+    block_from(parser, start)
 }
 
 #[cycle(forms)]
-fn parse_if(
-    kinds: &[u16],
-    ev: &mut [u16],
-    dm: &mut [u16],
-    ds: &mut [u32],
-    c0: Cursor,
-    depth: usize,
-) -> Form
-    requires { (at (is if_word) (drop c0.pos kinds.now) ≡ true) × (depth ≤ limit) }
-    ensures { ParseForm kinds.now (parse_if (parse_block limit) depth)
-        (entry ev dm ds c0) (exit ev dm ds result.c) result.eof result.item }
+fn parse_if(parser: &mut Parser, c0: Cursor, depth: usize) -> Form
+    requires { (at (is if_word) (drop c0.pos parser.old.kinds.now) ≡ true) × (depth ≤ limit) }
+    ensures { ParseForm (parse_if (parse_block limit) depth)
+        (entry parser c0) (exit parser result.c) result.eof result.item }
 {
-    let h = if_header(kinds, ev, dm, ds, c0);
-    let mut b = inner_block(
-        kinds,
-        ev,
-        dm,
-        ds,
-        h,
-        BlockOwner::If,
-        Terminators::ElseEnd,
-        depth,
-    );
+    let h = if_header(parser, c0);
+    let mut b = inner_block(parser, h, BlockOwner::If, Terminators::ElseEnd, depth);
     let c = b.c;
     let outcome = b.outcome;
-    if !goes_to_else(kinds, c.pos, outcome) {
-        return finish(kinds, ev, dm, ds, b, BlockOwner::If);
+    if !goes_to_else(parser, c.pos, outcome) {
+        return finish(parser, b, BlockOwner::If);
     }
-    let line = keyword_line(kinds, ev, dm, ds, c, ELSE);
-    b = inner_block(
-        kinds,
-        ev,
-        dm,
-        ds,
-        line,
-        BlockOwner::If,
-        Terminators::End,
-        depth,
-    );
-    finish(kinds, ev, dm, ds, b, BlockOwner::If)
+    let line = keyword_line(parser, c, ELSE);
+    b = inner_block(parser, line, BlockOwner::If, Terminators::End, depth);
+    finish(parser, b, BlockOwner::If)
 }
 
 #[cycle(forms)]
-fn parse_while(
-    kinds: &[u16],
-    ev: &mut [u16],
-    dm: &mut [u16],
-    ds: &mut [u32],
-    c0: Cursor,
-    depth: usize,
-) -> Form
-    requires { (at (is while_word) (drop c0.pos kinds.now) ≡ true) × (depth ≤ limit) }
-    ensures { ParseForm kinds.now (parse_while (parse_block limit) depth)
-        (entry ev dm ds c0) (exit ev dm ds result.c) result.eof result.item }
+fn parse_while(parser: &mut Parser, c0: Cursor, depth: usize) -> Form
+    requires { (at (is while_word) (drop c0.pos parser.old.kinds.now) ≡ true) × (depth ≤ limit) }
+    ensures { ParseForm (parse_while (parse_block limit) depth)
+        (entry parser c0) (exit parser result.c) result.eof result.item }
 {
-    let h = while_header(kinds, ev, dm, ds, c0);
-    let b = inner_block(
-        kinds,
-        ev,
-        dm,
-        ds,
-        h,
-        BlockOwner::While,
-        Terminators::End,
-        depth,
-    );
-    finish(kinds, ev, dm, ds, b, BlockOwner::While)
+    let h = while_header(parser, c0);
+    let b = inner_block(parser, h, BlockOwner::While, Terminators::End, depth);
+    finish(parser, b, BlockOwner::While)
 }
 
 #[cycle(forms)]
-fn parse_do_while(
-    kinds: &[u16],
-    ev: &mut [u16],
-    dm: &mut [u16],
-    ds: &mut [u32],
-    c0: Cursor,
-    depth: usize,
-) -> Form
-    requires { (at (is do_word) (drop c0.pos kinds.now) ≡ true) × (depth ≤ limit) }
-    ensures { ParseForm kinds.now (parse_do_while (parse_block limit) depth)
-        (entry ev dm ds c0) (exit ev dm ds result.c) result.eof result.item }
+fn parse_do_while(parser: &mut Parser, c0: Cursor, depth: usize) -> Form
+    requires { (at (is do_word) (drop c0.pos parser.old.kinds.now) ≡ true) × (depth ≤ limit) }
+    ensures { ParseForm (parse_do_while (parse_block limit) depth)
+        (entry parser c0) (exit parser result.c) result.eof result.item }
 {
-    let h = do_header(kinds, ev, dm, ds, c0);
+    let h = do_header(parser, c0);
     let mut b = inner_block(
-        kinds,
-        ev,
-        dm,
-        ds,
+        parser,
         h,
         BlockOwner::DoWhileBody,
         Terminators::While,
@@ -237,46 +167,21 @@ fn parse_do_while(
     );
     let c = b.c;
     let outcome = b.outcome;
-    if !goes_to_while(kinds, c.pos, outcome) {
-        return finish(kinds, ev, dm, ds, b, BlockOwner::DoWhile);
+    if !goes_to_while(parser, c.pos, outcome) {
+        return finish(parser, b, BlockOwner::DoWhile);
     }
-    let line = keyword_line(kinds, ev, dm, ds, c, WHILE);
-    b = inner_block(
-        kinds,
-        ev,
-        dm,
-        ds,
-        line,
-        BlockOwner::DoWhile,
-        Terminators::End,
-        depth,
-    );
-    finish(kinds, ev, dm, ds, b, BlockOwner::DoWhile)
+    let line = keyword_line(parser, c, WHILE);
+    b = inner_block(parser, line, BlockOwner::DoWhile, Terminators::End, depth);
+    finish(parser, b, BlockOwner::DoWhile)
 }
 
 #[cycle(forms)]
-fn parse_repeat(
-    kinds: &[u16],
-    ev: &mut [u16],
-    dm: &mut [u16],
-    ds: &mut [u32],
-    c0: Cursor,
-    depth: usize,
-) -> Form
-    requires { (at (is repeat_word) (drop c0.pos kinds.now) ≡ true) × (depth ≤ limit) }
-    ensures { ParseForm kinds.now (parse_repeat (parse_block limit) depth)
-        (entry ev dm ds c0) (exit ev dm ds result.c) result.eof result.item }
+fn parse_repeat(parser: &mut Parser, c0: Cursor, depth: usize) -> Form
+    requires { (at (is repeat_word) (drop c0.pos parser.old.kinds.now) ≡ true) × (depth ≤ limit) }
+    ensures { ParseForm (parse_repeat (parse_block limit) depth)
+        (entry parser c0) (exit parser result.c) result.eof result.item }
 {
-    let h = repeat_header(kinds, ev, dm, ds, c0);
-    let b = inner_block(
-        kinds,
-        ev,
-        dm,
-        ds,
-        h,
-        BlockOwner::Repeat,
-        Terminators::End,
-        depth,
-    );
-    finish(kinds, ev, dm, ds, b, BlockOwner::Repeat)
+    let h = repeat_header(parser, c0);
+    let b = inner_block(parser, h, BlockOwner::Repeat, Terminators::End, depth);
+    finish(parser, b, BlockOwner::Repeat)
 }

@@ -4,7 +4,7 @@ ghost use Rattle.grammar.specs.Words.{is, ELSE as else_word, WHILE as while_word
 ghost use Rattle.grammar.specs.Look.{at};
 ghost use Rattle.grammar.specs.Block.{found_terminator, reached_eof};
 ghost use Rattle.grammar.specs.declared.block.BlockParseOutcome.TheVariants.{ReachedEof};
-ghost use Rattle.parser.specs.Rep.{entry, exit, Put};
+ghost use Rattle.parser.specs.Rep.{entry, exit, Wrote};
 ghost use Rattle.blocks.specs.Shapes.{Recover, Close, Finish, ItemAt};
 
 use crate::arm::Closing;
@@ -14,8 +14,8 @@ use grammar::event::CLOSE;
 use grammar::message::Message;
 use grammar::words::{ELSE, END, WHILE};
 use lexer::syntax::ERROR;
-use parser::cursor::{Cursor, error_here, put};
-use parser::look::at_kind;
+use parser::cursor::Cursor;
+use parser::state::Parser;
 
 // A block's end; `item` says that an item is known to start here.
 #[derive(Clone, Copy)]
@@ -35,35 +35,26 @@ pub struct Form {
 
 // The empty Error node of a recovery.
 fn recover(
-    ev: &mut [u16],
-    dm: &mut [u16],
-    ds: &mut [u32],
+    parser: &mut Parser,
     c0: Cursor,
     owner: BlockOwner,
     boundary: BlockRecoveryBoundary,
 ) -> Cursor
-    ensures { Recover owner boundary (entry ev dm ds c0) (exit ev dm ds result) }
+    ensures { Recover owner boundary (entry parser c0) (exit parser result) }
 {
-    let a = put(ev, c0, ERROR);
-    let b = error_here(dm, ds, a, Message::Recovery(owner, boundary));
-    put(ev, b, CLOSE)
+    let a = parser.put(c0, ERROR);
+    let b = parser.error_here(a, Message::Recovery(owner, boundary));
+    parser.put(b, CLOSE)
 }
 
 // A round that ends the loop, and the block's closing event.
-pub fn close(
-    ev: &mut [u16],
-    dm: &mut [u16],
-    ds: &mut [u32],
-    c0: Cursor,
-    owner: BlockOwner,
-    k: Closing,
-) -> BlockEnd
-    ensures { Close k owner (entry ev dm ds c0) (exit ev dm ds result.c) result.outcome result.item }
+pub fn close(parser: &mut Parser, c0: Cursor, owner: BlockOwner, k: Closing) -> BlockEnd
+    ensures { Close k owner (entry parser c0) (exit parser result.c) result.outcome result.item }
 {
     match k {
         Closing::Eof => {
-            let a = error_here(dm, ds, c0, Message::MissingEnd(owner));
-            let b = put(ev, a, CLOSE);
+            let a = parser.error_here(c0, Message::MissingEnd(owner));
+            let b = parser.put(a, CLOSE);
             BlockEnd {
                 c: b,
                 outcome: BlockParseOutcome::ReachedEof,
@@ -71,7 +62,7 @@ pub fn close(
             }
         }
         Closing::Terminator => {
-            let b = put(ev, c0, CLOSE);
+            let b = parser.put(c0, CLOSE);
             BlockEnd {
                 c: b,
                 outcome: BlockParseOutcome::FoundTerminator,
@@ -79,8 +70,8 @@ pub fn close(
             }
         }
         Closing::StrayElse => {
-            let a = recover(ev, dm, ds, c0, owner, BlockRecoveryBoundary::Else);
-            let b = put(ev, a, CLOSE);
+            let a = recover(parser, c0, owner, BlockRecoveryBoundary::Else);
+            let b = parser.put(a, CLOSE);
             BlockEnd {
                 c: b,
                 outcome: BlockParseOutcome::RecoveredImplicitEnd,
@@ -88,8 +79,8 @@ pub fn close(
             }
         }
         Closing::Item => {
-            let a = recover(ev, dm, ds, c0, owner, BlockRecoveryBoundary::TopLevelItem);
-            let b = put(ev, a, CLOSE);
+            let a = recover(parser, c0, owner, BlockRecoveryBoundary::TopLevelItem);
+            let b = parser.put(a, CLOSE);
             BlockEnd {
                 c: b,
                 outcome: BlockParseOutcome::RecoveredImplicitEnd,
@@ -100,10 +91,10 @@ pub fn close(
 }
 
 // The closing event of a block in which the file ended.
-pub fn ended_file(ev: &mut [u16], c0: Cursor) -> BlockEnd
-    ensures { (Put 0 ev.old c0 ev.new result.c) × (result.outcome ≡ ReachedEof) × (result.item ≡ false) }
+pub fn ended_file(parser: &mut Parser, c0: Cursor) -> BlockEnd
+    ensures { (Wrote 0 (entry parser c0) (exit parser result.c)) × (result.outcome ≡ ReachedEof) × (result.item ≡ false) }
 {
-    let c = put(ev, c0, CLOSE);
+    let c = parser.put(c0, CLOSE);
     BlockEnd {
         c: c,
         outcome: BlockParseOutcome::ReachedEof,
@@ -112,23 +103,16 @@ pub fn ended_file(ev: &mut [u16], c0: Cursor) -> BlockEnd
 }
 
 // After a form's last block: its `end` where there is one, and the form's closing event.
-pub fn finish(
-    kinds: &[u16],
-    ev: &mut [u16],
-    dm: &mut [u16],
-    ds: &mut [u32],
-    b: BlockEnd,
-    owner: BlockOwner,
-) -> Form
-    requires { ItemAt kinds.now b.c.pos b.item }
-    ensures { Finish kinds.now owner b.outcome
-        (entry ev dm ds b.c) (exit ev dm ds result.c) result.eof result.item }
+pub fn finish(parser: &mut Parser, b: BlockEnd, owner: BlockOwner) -> Form
+    requires { ItemAt parser.old.kinds.now b.c.pos b.item }
+    ensures { Finish owner b.outcome
+        (entry parser b.c) (exit parser result.c) result.eof result.item }
 {
     let c = b.c;
     let outcome = b.outcome;
     match outcome {
         BlockParseOutcome::ReachedEof => {
-            let e = put(ev, c, CLOSE);
+            let e = parser.put(c, CLOSE);
             Form {
                 c: e,
                 eof: true,
@@ -136,9 +120,9 @@ pub fn finish(
             }
         }
         BlockParseOutcome::FoundTerminator => {
-            let d = expect(kinds, ev, dm, ds, c, END, Message::MissingEnd(owner));
+            let d = expect(parser, c, END, Message::MissingEnd(owner));
             let dc = d.c;
-            let e = put(ev, dc, CLOSE);
+            let e = parser.put(dc, CLOSE);
             Form {
                 c: e,
                 eof: false,
@@ -146,7 +130,7 @@ pub fn finish(
             }
         }
         BlockParseOutcome::RecoveredImplicitEnd => {
-            let e = put(ev, c, CLOSE);
+            let e = parser.put(c, CLOSE);
             Form {
                 c: e,
                 eof: false,
@@ -177,16 +161,16 @@ fn reached_eof(outcome: BlockParseOutcome) -> bool
 }
 
 // Whether an `else` follows the block of an `if`.
-pub fn goes_to_else(kinds: &[u16], p: usize, outcome: BlockParseOutcome) -> bool
-    ensures { result ≡ (not (reached_eof outcome) && at (is else_word) (drop p kinds.now)) }
+pub fn goes_to_else(parser: &Parser, p: usize, outcome: BlockParseOutcome) -> bool
+    ensures { result ≡ (not (reached_eof outcome) && at (is else_word) (drop p parser.now.kinds.now)) }
 {
-    !reached_eof(outcome) && at_kind(kinds, p, ELSE)
+    !reached_eof(outcome) && parser.at_kind(p, ELSE)
 }
 
 // Whether the `while` follows the body of a `do`. The outcome alone tells; with the token looked at too, as for an `else`, the cycle's
 // frame is 16 bytes smaller.
-pub fn goes_to_while(kinds: &[u16], p: usize, outcome: BlockParseOutcome) -> bool
-    ensures { result ≡ (found_terminator outcome && at (is while_word) (drop p kinds.now)) }
+pub fn goes_to_while(parser: &Parser, p: usize, outcome: BlockParseOutcome) -> bool
+    ensures { result ≡ (found_terminator outcome && at (is while_word) (drop p parser.now.kinds.now)) }
 {
-    found_terminator(outcome) && at_kind(kinds, p, WHILE)
+    found_terminator(outcome) && parser.at_kind(p, WHILE)
 }

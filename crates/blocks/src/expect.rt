@@ -5,25 +5,16 @@ ghost use Rattle.grammar.specs.Bump.{expect_kind};
 ghost use Rattle.parser.specs.Rep.{entry, exit, RanTo};
 
 use grammar::message::Message;
-use parser::bump::expect_kind;
-use parser::cursor::{Cursor, Flow, bump};
-use parser::look::at_kind;
+use parser::cursor::{Cursor, Flow};
+use parser::state::Parser;
 
-pub fn expect(
-    kinds: &[u16],
-    ev: &mut [u16],
-    dm: &mut [u16],
-    ds: &mut [u32],
-    c0: Cursor,
-    k: u16,
-    m: Message,
-) -> Flow
+pub fn expect(parser: &mut Parser, c0: Cursor, k: u16, m: Message) -> Flow
     requires { regular_trivia k ≡ false }
-    ensures { RanTo kinds.now (expect_kind k m) (entry ev dm ds c0) (exit ev dm ds result.c) result.ok }
+    ensures { RanTo (expect_kind k m) (entry parser c0) (exit parser result.c) result.ok }
 {
-    if at_kind(kinds, c0.pos, k) {
-        let d = bump(kinds, ev, dm, ds, c0);
+    if parser.at_kind(c0.pos, k) {
+        let d = parser.bump(c0);
         return Flow { c: d, ok: true };
     }
-    expect_kind(kinds, ev, dm, ds, c0, k, m)
+    parser.expect_kind(c0, k, m)
 }

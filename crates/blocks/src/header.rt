@@ -12,101 +12,63 @@ use forms::line::parse_line_tail;
 use grammar::message::Message;
 use grammar::words::{DO, IF, REPEAT, WHILE};
 use lexer::syntax::{DO_WHILE_OP, IF_OP, REPEAT_OP, WHILE_OP};
-use parser::cursor::{Cursor, put};
+use parser::cursor::Cursor;
+use parser::state::Parser;
 
 // The node's opening event, its keyword, suffixes and the rest of the line: `if`, `while` and `repeat`.
 // This and keyword_line are inlined, since the arguments of their calls would make the frame of the cycle larger.
 #[inline(always)]
-fn header(
-    kinds: &[u16],
-    ev: &mut [u16],
-    dm: &mut [u16],
-    ds: &mut [u32],
-    c0: Cursor,
-    node: u16,
-    keyword: u16,
-) -> Cursor
-    requires { (at (is keyword) (drop c0.pos kinds.now) ≡ true) × (regular_trivia keyword ≡ false) }
-    ensures { FormHeader kinds.now node (header_of keyword) (entry ev dm ds c0) (exit ev dm ds result) }
+fn header(parser: &mut Parser, c0: Cursor, node: u16, keyword: u16) -> Cursor
+    requires { (at (is keyword) (drop c0.pos parser.old.kinds.now) ≡ true) × (regular_trivia keyword ≡ false) }
+    ensures { FormHeader node (header_of keyword) (entry parser c0) (exit parser result) }
 {
-    let a = put(ev, c0, node);
-    let b = expect(kinds, ev, dm, ds, a, keyword, Message::Unreached);
+    let a = parser.put(c0, node);
+    let b = expect(parser, a, keyword, Message::Unreached);
     let bc = b.c;
-    let s = parse_structured_header_suffixes(kinds, ev, dm, ds, bc);
-    parse_line_tail(kinds, ev, dm, ds, s)
+    let s = parse_structured_header_suffixes(parser, bc);
+    parse_line_tail(parser, s)
 }
 
 // A keyword and the rest of the line: `do`, `else`, and the `while` behind the body of a `do`.
 #[inline(always)]
-pub fn keyword_line(
-    kinds: &[u16],
-    ev: &mut [u16],
-    dm: &mut [u16],
-    ds: &mut [u32],
-    c0: Cursor,
-    keyword: u16,
-) -> Cursor
-    requires { (at (is keyword) (drop c0.pos kinds.now) ≡ true) × (regular_trivia keyword ≡ false) }
-    ensures { KeywordLine kinds.now keyword (entry ev dm ds c0) (exit ev dm ds result) }
+pub fn keyword_line(parser: &mut Parser, c0: Cursor, keyword: u16) -> Cursor
+    requires { (at (is keyword) (drop c0.pos parser.old.kinds.now) ≡ true) × (regular_trivia keyword ≡ false) }
+    ensures { KeywordLine keyword (entry parser c0) (exit parser result) }
 {
-    let b = expect(kinds, ev, dm, ds, c0, keyword, Message::Unreached);
+    let b = expect(parser, c0, keyword, Message::Unreached);
     let bc = b.c;
-    parse_line_tail(kinds, ev, dm, ds, bc)
+    parse_line_tail(parser, bc)
 }
 
 // The opening event of a `do` form, and its first line.
-pub fn do_header(
-    kinds: &[u16],
-    ev: &mut [u16],
-    dm: &mut [u16],
-    ds: &mut [u32],
-    c0: Cursor,
-) -> Cursor
-    requires { at (is do_word) (drop c0.pos kinds.now) ≡ true }
-    ensures { FormHeader kinds.now DoWhileOp (keyword_line do_word) (entry ev dm ds c0) (exit ev dm ds result) }
+pub fn do_header(parser: &mut Parser, c0: Cursor) -> Cursor
+    requires { at (is do_word) (drop c0.pos parser.old.kinds.now) ≡ true }
+    ensures { FormHeader DoWhileOp (keyword_line do_word) (entry parser c0) (exit parser result) }
 {
-    let a = put(ev, c0, DO_WHILE_OP);
-    keyword_line(kinds, ev, dm, ds, a, DO)
+    let a = parser.put(c0, DO_WHILE_OP);
+    keyword_line(parser, a, DO)
 }
 
 // The opening event of an `if`, and its first line.
-pub fn if_header(
-    kinds: &[u16],
-    ev: &mut [u16],
-    dm: &mut [u16],
-    ds: &mut [u32],
-    c0: Cursor,
-) -> Cursor
-    requires { at (is if_word) (drop c0.pos kinds.now) ≡ true }
-    ensures { FormHeader kinds.now IfOp (header_of if_word) (entry ev dm ds c0) (exit ev dm ds result) }
+pub fn if_header(parser: &mut Parser, c0: Cursor) -> Cursor
+    requires { at (is if_word) (drop c0.pos parser.old.kinds.now) ≡ true }
+    ensures { FormHeader IfOp (header_of if_word) (entry parser c0) (exit parser result) }
 {
-    header(kinds, ev, dm, ds, c0, IF_OP, IF)
+    header(parser, c0, IF_OP, IF)
 }
 
 // The opening event of a `while`, and its first line.
-pub fn while_header(
-    kinds: &[u16],
-    ev: &mut [u16],
-    dm: &mut [u16],
-    ds: &mut [u32],
-    c0: Cursor,
-) -> Cursor
-    requires { at (is while_word) (drop c0.pos kinds.now) ≡ true }
-    ensures { FormHeader kinds.now WhileOp (header_of while_word) (entry ev dm ds c0) (exit ev dm ds result) }
+pub fn while_header(parser: &mut Parser, c0: Cursor) -> Cursor
+    requires { at (is while_word) (drop c0.pos parser.old.kinds.now) ≡ true }
+    ensures { FormHeader WhileOp (header_of while_word) (entry parser c0) (exit parser result) }
 {
-    header(kinds, ev, dm, ds, c0, WHILE_OP, WHILE)
+    header(parser, c0, WHILE_OP, WHILE)
 }
 
 // The opening event of a `repeat`, and its first line.
-pub fn repeat_header(
-    kinds: &[u16],
-    ev: &mut [u16],
-    dm: &mut [u16],
-    ds: &mut [u32],
-    c0: Cursor,
-) -> Cursor
-    requires { at (is repeat_word) (drop c0.pos kinds.now) ≡ true }
-    ensures { FormHeader kinds.now RepeatOp (header_of repeat_word) (entry ev dm ds c0) (exit ev dm ds result) }
+pub fn repeat_header(parser: &mut Parser, c0: Cursor) -> Cursor
+    requires { at (is repeat_word) (drop c0.pos parser.old.kinds.now) ≡ true }
+    ensures { FormHeader RepeatOp (header_of repeat_word) (entry parser c0) (exit parser result) }
 {
-    header(kinds, ev, dm, ds, c0, REPEAT_OP, REPEAT)
+    header(parser, c0, REPEAT_OP, REPEAT)
 }

@@ -9,9 +9,9 @@ use crate::step::take;
 use grammar::block::{BlockOwner, BlockParseOutcome, Terminators};
 use grammar::event::CLOSE;
 use lexer::syntax::BLOCK;
-use parser::bump::bump_regular_trivia;
-use parser::cursor::{Cursor, put};
-use parser::look::{Remembered, current};
+use parser::cursor::Cursor;
+use parser::look::Remembered;
+use parser::state::Parser;
 
 // Control-flow nodes in one another.
 const MAX_CONTROL_FLOW_NESTING: usize = 256;
@@ -35,20 +35,13 @@ pub struct Stopped {
 }
 
 // At a form. Past the limit the rest of the file is rejected, and the block has ended.
-fn form_here(
-    kinds: &[u16],
-    ev: &mut [u16],
-    dm: &mut [u16],
-    ds: &mut [u32],
-    c0: Cursor,
-    depth: usize,
-) -> Stopped
-    ensures { FormHere kinds.now depth
-        (entry ev dm ds c0) (exit ev dm ds result.c) result.outcome result.item result.control result.word }
+fn form_here(parser: &mut Parser, c0: Cursor, depth: usize) -> Stopped
+    ensures { FormHere depth
+        (entry parser c0) (exit parser result.c) result.outcome result.item result.control result.word }
 {
     if MAX_CONTROL_FLOW_NESTING <= depth {
-        let d = reject_excessive_control_flow_nesting(kinds, ev, dm, ds, c0);
-        let e = put(ev, d, CLOSE);
+        let d = reject_excessive_control_flow_nesting(parser, c0);
+        let e = parser.put(d, CLOSE);
         return Stopped {
             c: e,
             control: false,
@@ -57,7 +50,7 @@ fn form_here(
             item: false,
         };
     }
-    let word = current(kinds, c0.pos);
+    let word = parser.current(c0.pos);
     Stopped {
         c: c0,
         control: true,
@@ -70,18 +63,10 @@ fn form_here(
 // Trivia behind what a round took is taken at once, without its tests.
 // Where `item0` holds, a form before this ended at an item that starts here. A lookahead remembered before a form holds only
 // of trivia before it, so nothing is remembered over a form.
-fn rounds(
-    kinds: &[u16],
-    ev: &mut [u16],
-    dm: &mut [u16],
-    ds: &mut [u32],
-    c0: Cursor,
-    place: BlockPlace,
-    item0: bool,
-) -> Stopped
-    requires { ItemAt kinds.now c0.pos item0 }
-    ensures { BlockRounds kinds.now place.owner place.terminators place.depth
-        (entry ev dm ds c0) (exit ev dm ds result.c) result.outcome result.item result.control result.word }
+fn rounds(parser: &mut Parser, c0: Cursor, place: BlockPlace, item0: bool) -> Stopped
+    requires { ItemAt parser.old.kinds.now c0.pos item0 }
+    ensures { BlockRounds place.owner place.terminators place.depth
+        (entry parser c0) (exit parser result.c) result.outcome result.item result.control result.word }
 {
     let owner = place.owner;
     let terminators = place.terminators;
@@ -93,18 +78,18 @@ fn rounds(
         starts: false,
     };
     loop {
-        let seen = block_arm_here(kinds, c.pos, terminators, known, item);
+        let seen = block_arm_here(parser, c.pos, terminators, known, item);
         let a = seen.arm;
         known = seen.known;
         match a {
             BlockArm::Takes(t) => {
-                let d = take(kinds, ev, dm, ds, c, t);
-                c = bump_regular_trivia(kinds, ev, dm, ds, d);
+                let d = take(parser, c, t);
+                c = parser.bump_regular_trivia(d);
                 item = false;
                 continue;
             }
             BlockArm::Closes(k) => {
-                let e = close(ev, dm, ds, c, owner, k);
+                let e = close(parser, c, owner, k);
                 let ec = e.c;
                 let outcome = e.outcome;
                 return Stopped {
@@ -116,41 +101,26 @@ fn rounds(
                 };
             }
             BlockArm::Control => {
-                return form_here(kinds, ev, dm, ds, c, depth);
+                return form_here(parser, c, depth);
             }
         }
     }
 }
 
 // The block's opening event, and its rounds up to the first form.
-pub fn first_rounds(
-    kinds: &[u16],
-    ev: &mut [u16],
-    dm: &mut [u16],
-    ds: &mut [u32],
-    c0: Cursor,
-    place: BlockPlace,
-) -> Stopped
-    ensures { FirstRounds kinds.now place.owner place.terminators place.depth
-        (entry ev dm ds c0) (exit ev dm ds result.c) result.outcome result.item result.control result.word }
+pub fn first_rounds(parser: &mut Parser, c0: Cursor, place: BlockPlace) -> Stopped
+    ensures { FirstRounds place.owner place.terminators place.depth
+        (entry parser c0) (exit parser result.c) result.outcome result.item result.control result.word }
 {
-    let c = put(ev, c0, BLOCK);
-    rounds(kinds, ev, dm, ds, c, place, false)
+    let c = parser.put(c0, BLOCK);
+    rounds(parser, c, place, false)
 }
 
 // The rounds behind a form.
-pub fn next_rounds(
-    kinds: &[u16],
-    ev: &mut [u16],
-    dm: &mut [u16],
-    ds: &mut [u32],
-    c0: Cursor,
-    place: BlockPlace,
-    item0: bool,
-) -> Stopped
-    requires { ItemAt kinds.now c0.pos item0 }
-    ensures { BlockRounds kinds.now place.owner place.terminators place.depth
-        (entry ev dm ds c0) (exit ev dm ds result.c) result.outcome result.item result.control result.word }
+pub fn next_rounds(parser: &mut Parser, c0: Cursor, place: BlockPlace, item0: bool) -> Stopped
+    requires { ItemAt parser.old.kinds.now c0.pos item0 }
+    ensures { BlockRounds place.owner place.terminators place.depth
+        (entry parser c0) (exit parser result.c) result.outcome result.item result.control result.word }
 {
-    rounds(kinds, ev, dm, ds, c0, place, item0)
+    rounds(parser, c0, place, item0)
 }

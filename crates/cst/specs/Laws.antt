@@ -14,7 +14,7 @@ use Rattle.lexer.specs.Laws.{length_ends}
 use Rattle.grammar.specs.Words.{kind_of}
 use Rattle.grammar.specs.Out.{Diag, diags}
 use Rattle.grammar.specs.Source.{symbols}
-use Rattle.parser.specs.Rep.{World}
+use Rattle.items.specs.Entry.{ParserSlices}
 use Rattle.grammar.specs.Block.{MAX_CONTROL_FLOW_NESTING as limit}
 use Rattle.items.specs.Entry.{Parse}
 use Rattle.marks.specs.declared.Refusal.{Refusal}
@@ -107,7 +107,7 @@ module _ (source ends ev dm ds de k k' : List ℕ) where
 
 -- ---- The grammar and the places.
 module _
-    (s F ends : List ℕ) (anchor : ℕ) (b w : World) (de ds' de' : List ℕ)
+    (s F ends : List ℕ) (anchor : ℕ) (b w : ParserSlices) (de ds' de' : List ℕ)
     (symbols_are : F ≡ symbols s) (ends_are : ends ≡ token_ends s) (anchor_is : anchor ≡ last_char s)
     (same_de : length b.ds ≡ length de) (parsed : Parse F b w)
     (placed : Places ends anchor w.c.diags w.ds de ds' de')

@@ -4,7 +4,7 @@ use mathlib.Core.List.{List}
 use mathlib.Core.Path.{◌≡◌, sym, ap, ◌∙◌}
 use Prim.Native.Nat.{◌<◌}
 use lib.ListN.{length}
-use Rattle.grammar.specs.Words.{Sym, File}
+use Rattle.grammar.specs.Words.{Sym}
 use Rattle.grammar.specs.Run.{Forest, ◌<>◌, Res, P, pure, pick, ◌>>=◌, ◌>>◌, loop}
 use Rattle.grammar.specs.Laws.Good.{app_assoc}
 use Rattle.grammar.specs.Laws.Loops.{loop_eq}
@@ -34,19 +34,19 @@ pub five : {A B C D E G : Type 0} (f : P A) (g : P B) (h : P C) (i : P D) (j : P
 five f g h i j k r = three f g (h >> i >> j) k r ∙ later f (later g (three h i j k)) r
 
 -- the definition h is these steps f
-pub steps : {A : Type 0} {f h : P A} {F : File} {w w' : World} → ((r : List Sym) → f r ≡ h r) → Ran F f w w' → Ran F h w w'
+pub steps : {A : Type 0} {f h : P A} {w w' : World} → ((r : List Sym) → f r ≡ h r) → Ran f w w' → Ran h w w'
 steps {f} e s = like f (sym (e _)) s
 
 -- ---- a loop of rounds, each of which takes a token where there is another
 abbrev further : P Bool → Bool → P Bool
 further f u = pick u (loop f) (pure false)
 
-module _ (f : P Bool) (more : (r : List Sym) → (f r).val ≡ true → length (f r).rest < length r) {F : File} {w v : World} where
-  pub round_last : RanTo F f w v false → RanTo F (loop f) w v false
+module _ (f : P Bool) (more : (r : List Sym) → (f r).val ≡ true → length (f r).rest < length r) {w v : World} where
+  pub round_last : RanTo f w v false → RanTo (loop f) w v false
   round_last h = like_to (f >>= further f) (loop_eq f more _) (bind_to (further f) h (done_to false))
 
-  pub round_more : {w' : World} {r : Bool} → RanTo F f w v true → RanTo F (loop f) v w' r → RanTo F (loop f) w w' r
+  pub round_more : {w' : World} {r : Bool} → RanTo f w v true → RanTo (loop f) v w' r → RanTo (loop f) w w' r
   round_more h k = like_to (f >>= further f) (loop_eq f more _) (bind_to (further f) h k)
 
-  pub round_moves : RanTo F f w v true → Past F w v
+  pub round_moves : RanTo f w v true → Past w v
   round_moves h = past_here h.ran (more _ h.val)

@@ -7,45 +7,30 @@ use grammar::event::CLOSE;
 use grammar::message::{ItemMessage, Message};
 use grammar::words::ADV_MAP;
 use lexer::syntax::ADVICE_MAP;
-use parser::bump::bump_inline_whitespace;
-use parser::cursor::{Cursor, put};
+use parser::cursor::Cursor;
+use parser::state::Parser;
 
-pub fn parse_advice_map(
-    kinds: &[u16],
-    ev: &mut [u16],
-    dm: &mut [u16],
-    ds: &mut [u32],
-    c0: Cursor,
-) -> Cursor
-    ensures { Ran kinds.now parse_advice_map (entry ev dm ds c0) (exit ev dm ds result) }
+pub fn parse_advice_map(parser: &mut Parser, c0: Cursor) -> Cursor
+    ensures { Ran parse_advice_map (entry parser c0) (exit parser result) }
 {
-    let a = put(ev, c0, ADVICE_MAP);
+    let a = parser.put(c0, ADVICE_MAP);
     let b = keyword_and_name(
-        kinds,
-        ev,
-        dm,
-        ds,
+        parser,
         a,
         ADV_MAP,
         Message::Unreached,
         Message::Item(ItemMessage::ExpectedAdviceMapName),
     );
-    let d = bump_inline_whitespace(kinds, ev, dm, ds, b);
+    let d = parser.bump_inline_whitespace(b);
     let e = optional_parens(
-        kinds,
-        ev,
-        dm,
-        ds,
+        parser,
         d,
         Message::Item(ItemMessage::ExpectedAdviceMapKeyEnd),
     );
     let f = value_line(
-        kinds,
-        ev,
-        dm,
-        ds,
+        parser,
         e,
         Message::Item(ItemMessage::ExpectedAdviceMapEqual),
     );
-    put(ev, f, CLOSE)
+    parser.put(f, CLOSE)
 }

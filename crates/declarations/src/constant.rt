@@ -8,36 +8,21 @@ use grammar::event::CLOSE;
 use grammar::message::{ItemMessage, Message};
 use grammar::words::CONST;
 use lexer::syntax::CONSTANT;
-use parser::cursor::{Cursor, put};
+use parser::cursor::Cursor;
+use parser::state::Parser;
 
-pub fn parse_constant(
-    kinds: &[u16],
-    ev: &mut [u16],
-    dm: &mut [u16],
-    ds: &mut [u32],
-    c0: Cursor,
-) -> Cursor
-    ensures { Ran kinds.now parse_constant (entry ev dm ds c0) (exit ev dm ds result) }
+pub fn parse_constant(parser: &mut Parser, c0: Cursor) -> Cursor
+    ensures { Ran parse_constant (entry parser c0) (exit parser result) }
 {
-    let a = put(ev, c0, CONSTANT);
-    let b = optional_visibility(kinds, ev, dm, ds, a);
+    let a = parser.put(c0, CONSTANT);
+    let b = optional_visibility(parser, a);
     let d = keyword_and_name(
-        kinds,
-        ev,
-        dm,
-        ds,
+        parser,
         b,
         CONST,
         Message::Item(ItemMessage::ExpectedConst),
         Message::Item(ItemMessage::ExpectedConstantName),
     );
-    let e = value_line(
-        kinds,
-        ev,
-        dm,
-        ds,
-        d,
-        Message::Item(ItemMessage::ExpectedConstantEqual),
-    );
-    put(ev, e, CLOSE)
+    let e = value_line(parser, d, Message::Item(ItemMessage::ExpectedConstantEqual));
+    parser.put(e, CLOSE)
 }

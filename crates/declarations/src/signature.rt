@@ -7,62 +7,43 @@ use forms::path::parse_balanced_group;
 use grammar::event::CLOSE;
 use grammar::message::{Message, ProcedureMessage};
 use lexer::syntax::{L_PAREN, R_ARROW, R_PAREN, SIGNATURE};
-use parser::bump::bump_non_comment_trivia;
-use parser::cursor::{Cursor, bump, put};
-use parser::look::{at_kind, peek_after_non_comment_trivia};
+use parser::cursor::Cursor;
+use parser::state::Parser;
 
 // parse_signature, behind the arrow
-fn parse_results(
-    kinds: &[u16],
-    ev: &mut [u16],
-    dm: &mut [u16],
-    ds: &mut [u32],
-    c0: Cursor,
-) -> Cursor
-    ensures { Ran kinds.now parse_results (entry ev dm ds c0) (exit ev dm ds result) }
+fn parse_results(parser: &mut Parser, c0: Cursor) -> Cursor
+    ensures { Ran parse_results (entry parser c0) (exit parser result) }
 {
-    let a = bump_non_comment_trivia(kinds, ev, dm, ds, c0);
-    let b = bump(kinds, ev, dm, ds, a);
-    let d = bump_non_comment_trivia(kinds, ev, dm, ds, b);
-    if at_kind(kinds, d.pos, L_PAREN) {
+    let a = parser.bump_non_comment_trivia(c0);
+    let b = parser.bump(a);
+    let d = parser.bump_non_comment_trivia(b);
+    if parser.at_kind(d.pos, L_PAREN) {
         return parse_balanced_group(
-            kinds,
-            ev,
-            dm,
-            ds,
+            parser,
             d,
             L_PAREN,
             R_PAREN,
             Message::Procedure(ProcedureMessage::ExpectedResultsEnd),
         );
     }
-    parse_signature_result_until_line_end(kinds, ev, dm, ds, d)
+    parse_signature_result_until_line_end(parser, d)
 }
 
-pub fn parse_signature(
-    kinds: &[u16],
-    ev: &mut [u16],
-    dm: &mut [u16],
-    ds: &mut [u32],
-    c0: Cursor,
-) -> Cursor
-    ensures { Ran kinds.now parse_signature (entry ev dm ds c0) (exit ev dm ds result) }
+pub fn parse_signature(parser: &mut Parser, c0: Cursor) -> Cursor
+    ensures { Ran parse_signature (entry parser c0) (exit parser result) }
 {
-    let a = put(ev, c0, SIGNATURE);
+    let a = parser.put(c0, SIGNATURE);
     let b = parse_balanced_group(
-        kinds,
-        ev,
-        dm,
-        ds,
+        parser,
         a,
         L_PAREN,
         R_PAREN,
         Message::Procedure(ProcedureMessage::ExpectedParametersEnd),
     );
-    let next = peek_after_non_comment_trivia(kinds, b.pos);
-    if at_kind(kinds, next, R_ARROW) {
-        let d = parse_results(kinds, ev, dm, ds, b);
-        return put(ev, d, CLOSE);
+    let next = parser.peek_after_non_comment_trivia(b.pos);
+    if parser.at_kind(next, R_ARROW) {
+        let d = parse_results(parser, b);
+        return parser.put(d, CLOSE);
     }
-    put(ev, b, CLOSE)
+    parser.put(b, CLOSE)
 }

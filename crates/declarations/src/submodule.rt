@@ -9,29 +9,21 @@ use grammar::event::CLOSE;
 use grammar::message::{ItemMessage, Message};
 use grammar::words::MOD;
 use lexer::syntax::SUBMODULE;
-use parser::cursor::{Cursor, put};
+use parser::cursor::Cursor;
+use parser::state::Parser;
 
-pub fn parse_submodule(
-    kinds: &[u16],
-    ev: &mut [u16],
-    dm: &mut [u16],
-    ds: &mut [u32],
-    c0: Cursor,
-) -> Cursor
-    ensures { Ran kinds.now parse_submodule (entry ev dm ds c0) (exit ev dm ds result) }
+pub fn parse_submodule(parser: &mut Parser, c0: Cursor) -> Cursor
+    ensures { Ran parse_submodule (entry parser c0) (exit parser result) }
 {
-    let a = put(ev, c0, SUBMODULE);
-    let b = optional_visibility(kinds, ev, dm, ds, a);
+    let a = parser.put(c0, SUBMODULE);
+    let b = optional_visibility(parser, a);
     let d = keyword_and_name(
-        kinds,
-        ev,
-        dm,
-        ds,
+        parser,
         b,
         MOD,
         Message::Item(ItemMessage::ExpectedMod),
         Message::Item(ItemMessage::ExpectedSubmoduleName),
     );
-    let e = parse_line_tail(kinds, ev, dm, ds, d);
-    put(ev, e, CLOSE)
+    let e = parse_line_tail(parser, d);
+    parser.put(e, CLOSE)
 }

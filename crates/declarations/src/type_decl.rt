@@ -13,12 +13,11 @@ use grammar::event::CLOSE;
 use grammar::message::{ItemMessage, Message};
 use grammar::nesting::Nesting;
 use lexer::syntax::{NEWLINE, TYPE_BODY, TYPE_DECL};
-use parser::bump::{bump_regular_trivia, expect_name};
-use parser::cursor::{Cursor, bump, error_here, put};
+use parser::cursor::Cursor;
 use parser::kinds::{in_set, in_words};
-use parser::look::{Remembered, at_kind, current, eof, line_break_starts_new_top_level_item};
-use parser::nest::bump_nesting;
+use parser::look::Remembered;
 use parser::sets::{EQUAL_OR_COLON, TYPE_WORDS};
+use parser::state::Parser;
 
 // Whether a type's body ends here, and what is remembered of the lookahead behind newlines.
 #[derive(Clone, Copy)]
@@ -27,9 +26,9 @@ struct BodyEnd {
     known: Remembered,
 }
 
-fn at_type_end(kinds: &[u16], p: usize, nesting: Nesting, known: Remembered) -> BodyEnd
-    requires { BreakKnown kinds.now p known }
-    ensures { (result.ends ≡ type_ends nesting (drop p kinds.now)) × BreakKnown kinds.now p result.known }
+fn at_type_end(parser: &Parser, p: usize, nesting: Nesting, known: Remembered) -> BodyEnd
+    requires { BreakKnown parser.now.kinds.now p known }
+    ensures { (result.ends ≡ type_ends nesting (drop p parser.now.kinds.now)) × BreakKnown parser.now.kinds.now p result.known }
 {
     if !nesting.is_root() {
         return BodyEnd {
@@ -37,21 +36,21 @@ fn at_type_end(kinds: &[u16], p: usize, nesting: Nesting, known: Remembered) -> 
             known: known,
         };
     }
-    if !at_kind(kinds, p, NEWLINE) {
+    if !parser.at_kind(p, NEWLINE) {
         return BodyEnd {
             ends: false,
             known: known,
         };
     }
-    let b = line_break_starts_new_top_level_item(kinds, p, known);
+    let b = parser.line_break_starts_new_top_level_item(p, known);
     BodyEnd {
         ends: b.starts,
         known: b,
     }
 }
 
-fn type_tokens(kinds: &[u16], ev: &mut [u16], dm: &mut [u16], ds: &mut [u32], c0: Cursor) -> Cursor
-    ensures { Ran kinds.now (scan type_round default) (entry ev dm ds c0) (exit ev dm ds result) }
+fn type_tokens(parser: &mut Parser, c0: Cursor) -> Cursor
+    ensures { Ran (scan type_round default) (entry parser c0) (exit parser result) }
 {
     let mut c = c0;
     let mut nesting = Nesting::new();
@@ -59,88 +58,58 @@ fn type_tokens(kinds: &[u16], ev: &mut [u16], dm: &mut [u16], ds: &mut [u32], c0
         next: 0,
         starts: false,
     };
-    while !eof(kinds, c.pos) {
-        let e = at_type_end(kinds, c.pos, nesting, known);
+    while !parser.eof(c.pos) {
+        let e = at_type_end(parser, c.pos, nesting, known);
         if e.ends {
             return c;
         }
         known = e.known;
-        let b = bump_nesting(dm, ds, c, nesting, current(kinds, c.pos));
+        let b = parser.bump_nesting(c, nesting, parser.current(c.pos));
         let d = b.c;
         nesting = b.nesting;
-        c = bump(kinds, ev, dm, ds, d);
+        c = parser.bump(d);
     }
     c
 }
 
-pub fn parse_type_body(
-    kinds: &[u16],
-    ev: &mut [u16],
-    dm: &mut [u16],
-    ds: &mut [u32],
-    c0: Cursor,
-) -> Cursor
-    ensures { Ran kinds.now parse_type_body (entry ev dm ds c0) (exit ev dm ds result) }
+pub fn parse_type_body(parser: &mut Parser, c0: Cursor) -> Cursor
+    ensures { Ran parse_type_body (entry parser c0) (exit parser result) }
 {
-    let a = put(ev, c0, TYPE_BODY);
-    let b = type_tokens(kinds, ev, dm, ds, a);
-    put(ev, b, CLOSE)
+    let a = parser.put(c0, TYPE_BODY);
+    let b = type_tokens(parser, a);
+    parser.put(b, CLOSE)
 }
 
 // parse_type_decl, behind `type` or `enum`
-fn type_name_and_body(
-    kinds: &[u16],
-    ev: &mut [u16],
-    dm: &mut [u16],
-    ds: &mut [u32],
-    c0: Cursor,
-) -> Cursor
-    ensures { Ran kinds.now type_name_and_body (entry ev dm ds c0) (exit ev dm ds result) }
+fn type_name_and_body(parser: &mut Parser, c0: Cursor) -> Cursor
+    ensures { Ran type_name_and_body (entry parser c0) (exit parser result) }
 {
-    let a = bump_regular_trivia(kinds, ev, dm, ds, c0);
-    let b = expect_name(
-        kinds,
-        ev,
-        dm,
-        ds,
-        a,
-        Message::Item(ItemMessage::ExpectedTypeName),
-    );
-    let d = bump_regular_trivia(kinds, ev, dm, ds, b);
-    if in_set(EQUAL_OR_COLON, current(kinds, d.pos)) {
-        return parse_type_body(kinds, ev, dm, ds, d);
+    let a = parser.bump_regular_trivia(c0);
+    let b = parser.expect_name(a, Message::Item(ItemMessage::ExpectedTypeName));
+    let d = parser.bump_regular_trivia(b);
+    if in_set(EQUAL_OR_COLON, parser.current(d.pos)) {
+        return parse_type_body(parser, d);
     }
-    error_here(
-        dm,
-        ds,
-        d,
-        Message::Item(ItemMessage::ExpectedTypeEqualOrColon),
-    )
+    parser.error_here(d, Message::Item(ItemMessage::ExpectedTypeEqualOrColon))
 }
 
 // The keyword and what stands behind it, or a diagnostic.
-fn type_keyword(kinds: &[u16], ev: &mut [u16], dm: &mut [u16], ds: &mut [u32], c0: Cursor) -> Cursor
-    ensures { Ran kinds.now type_keyword (entry ev dm ds c0) (exit ev dm ds result) }
+fn type_keyword(parser: &mut Parser, c0: Cursor) -> Cursor
+    ensures { Ran type_keyword (entry parser c0) (exit parser result) }
 {
-    if in_words(TYPE_WORDS, current(kinds, c0.pos)) {
-        let a = bump(kinds, ev, dm, ds, c0);
-        return type_name_and_body(kinds, ev, dm, ds, a);
+    if in_words(TYPE_WORDS, parser.current(c0.pos)) {
+        let a = parser.bump(c0);
+        return type_name_and_body(parser, a);
     }
-    error_here(dm, ds, c0, Message::Item(ItemMessage::ExpectedTypeOrEnum))
+    parser.error_here(c0, Message::Item(ItemMessage::ExpectedTypeOrEnum))
 }
 
-pub fn parse_type_decl(
-    kinds: &[u16],
-    ev: &mut [u16],
-    dm: &mut [u16],
-    ds: &mut [u32],
-    c0: Cursor,
-) -> Cursor
-    ensures { Ran kinds.now parse_type_decl (entry ev dm ds c0) (exit ev dm ds result) }
+pub fn parse_type_decl(parser: &mut Parser, c0: Cursor) -> Cursor
+    ensures { Ran parse_type_decl (entry parser c0) (exit parser result) }
 {
-    let a = put(ev, c0, TYPE_DECL);
-    let b = optional_visibility(kinds, ev, dm, ds, a);
-    let d = bump_regular_trivia(kinds, ev, dm, ds, b);
-    let e = type_keyword(kinds, ev, dm, ds, d);
-    put(ev, e, CLOSE)
+    let a = parser.put(c0, TYPE_DECL);
+    let b = optional_visibility(parser, a);
+    let d = parser.bump_regular_trivia(b);
+    let e = type_keyword(parser, d);
+    parser.put(e, CLOSE)
 }

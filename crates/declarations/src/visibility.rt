@@ -6,37 +6,22 @@ use grammar::event::CLOSE;
 use grammar::message::{Message, ProcedureMessage};
 use grammar::words::{PACKAGE, PUB};
 use lexer::syntax::{L_PAREN, R_PAREN, VISIBILITY};
-use parser::bump::{bump_regular_trivia, expect_kind};
-use parser::cursor::{Cursor, bump, put};
-use parser::look::{at_kind, next_relevant_top_level_token};
+use parser::cursor::Cursor;
+use parser::state::Parser;
 
 // parse_visibility, at its parentheses
-fn package_in_parens(
-    kinds: &[u16],
-    ev: &mut [u16],
-    dm: &mut [u16],
-    ds: &mut [u32],
-    c0: Cursor,
-) -> Cursor
-    ensures { Ran kinds.now package_in_parens (entry ev dm ds c0) (exit ev dm ds result) }
+fn package_in_parens(parser: &mut Parser, c0: Cursor) -> Cursor
+    ensures { Ran package_in_parens (entry parser c0) (exit parser result) }
 {
-    let a = bump_regular_trivia(kinds, ev, dm, ds, c0);
-    let b = bump(kinds, ev, dm, ds, a);
-    let d = expect_kind(
-        kinds,
-        ev,
-        dm,
-        ds,
+    let a = parser.bump_regular_trivia(c0);
+    let b = parser.bump(a);
+    let d = parser.expect_kind(
         b,
         PACKAGE,
         Message::Procedure(ProcedureMessage::ExpectedPackage),
     );
     let dc = d.c;
-    let e = expect_kind(
-        kinds,
-        ev,
-        dm,
-        ds,
+    let e = parser.expect_kind(
         dc,
         R_PAREN,
         Message::Procedure(ProcedureMessage::ExpectedPackageEnd),
@@ -44,38 +29,26 @@ fn package_in_parens(
     e.c
 }
 
-pub fn parse_visibility(
-    kinds: &[u16],
-    ev: &mut [u16],
-    dm: &mut [u16],
-    ds: &mut [u32],
-    c0: Cursor,
-) -> Cursor
-    ensures { Ran kinds.now parse_visibility (entry ev dm ds c0) (exit ev dm ds result) }
+pub fn parse_visibility(parser: &mut Parser, c0: Cursor) -> Cursor
+    ensures { Ran parse_visibility (entry parser c0) (exit parser result) }
 {
-    let a = put(ev, c0, VISIBILITY);
-    let b = expect_kind(kinds, ev, dm, ds, a, PUB, Message::Unreached);
+    let a = parser.put(c0, VISIBILITY);
+    let b = parser.expect_kind(a, PUB, Message::Unreached);
     let bc = b.c;
-    let next = next_relevant_top_level_token(kinds, bc.pos);
-    if at_kind(kinds, next, L_PAREN) {
-        let d = package_in_parens(kinds, ev, dm, ds, bc);
-        return put(ev, d, CLOSE);
+    let next = parser.next_relevant_top_level_token(bc.pos);
+    if parser.at_kind(next, L_PAREN) {
+        let d = package_in_parens(parser, bc);
+        return parser.put(d, CLOSE);
     }
-    put(ev, bc, CLOSE)
+    parser.put(bc, CLOSE)
 }
 
 // if at_keyword("pub") { parse_visibility }
-pub fn optional_visibility(
-    kinds: &[u16],
-    ev: &mut [u16],
-    dm: &mut [u16],
-    ds: &mut [u32],
-    c0: Cursor,
-) -> Cursor
-    ensures { Ran kinds.now optional_visibility (entry ev dm ds c0) (exit ev dm ds result) }
+pub fn optional_visibility(parser: &mut Parser, c0: Cursor) -> Cursor
+    ensures { Ran optional_visibility (entry parser c0) (exit parser result) }
 {
-    if at_kind(kinds, c0.pos, PUB) {
-        return parse_visibility(kinds, ev, dm, ds, c0);
+    if parser.at_kind(c0.pos, PUB) {
+        return parse_visibility(parser, c0);
     }
     c0
 }

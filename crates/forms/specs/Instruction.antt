@@ -1,7 +1,7 @@
 -- Where instructions end, and what their first tokens are taken as. Assumes nothing: these are definitions.
-use Rattle.std.specs.Prelude.{◌≡◌, ℕ, length, Bool, cond, not, ◌&&◌, ◌||◌, List, [], ◌∷◌}
+use Rattle.std.specs.Prelude.{ℕ, Bool, cond, not, ◌&&◌, ◌||◌, List, [], ◌∷◌}
 use Rattle.lexer.specs.Syntax.{Whitespace, Newline, Comment, DocComment}
-use Rattle.grammar.specs.Words.{Sym, File}
+use Rattle.grammar.specs.Words.{Sym}
 use Rattle.grammar.specs.Look.{expects_continuation_operand, one_of, at, at_kind, at_terminator, can_start_operation, at_block_recovery_boundary}
 use Rattle.grammar.specs.declared.block.Terminators.{Terminators}
 use Rattle.grammar.specs.declared.nesting.Nesting.{Nesting}
@@ -9,8 +9,7 @@ use Rattle.grammar.specs.declared.nesting.Significant.{Significant}
 use Rattle.grammar.specs.Nesting.{default, is_root}
 use Rattle.grammar.specs.Instruction.{Inst, is_some, instruction_round, before_first, should_continue_instruction_after_whitespace, should_stop_instruction_before}
 use Rattle.grammar.specs.Run.{scan}
-use Rattle.parser.specs.declared.cursor.Cursor.{Cursor}
-use Rattle.parser.specs.Rep.{World, world, RanTo}
+use Rattle.parser.specs.Rep.{World, Onward, RanTo}
 
 -- a terminator, an operation, or what ends a block that lacks its `end`
 unfoldable pub starts_next : List Sym → Bool
@@ -39,9 +38,7 @@ unfoldable pub open_behind : Significant → ℕ
 open_behind Significant.Nothing = plain_kinds
 open_behind (Significant.Kind k) = cond (expects_continuation_operand k) plain_kinds plain_punctuation
 
--- The loop's first rounds, from c to c', leave the counts as they were: what goes on behind them goes on from the start.
-pub record PlainTokens (F : File) (ev : List ℕ) (c : Cursor) (ev' : List ℕ) (c' : Cursor) (previous : Significant) : Type 0 where
-  pub leads : (dm ds : List ℕ) (w' : World) (l : Inst)
-      → RanTo F (scan instruction_round (behind previous)) (world ev' dm ds c') w' l
-      → RanTo F (scan instruction_round before_first) (world ev dm ds c) w' l
-  pub kept : length ev' ≡ length ev
+-- The loop's first rounds, from w to v, leave the counts as they were: what goes on behind them goes on from the start.
+pub record PlainTokens (w v : World) (previous : Significant) : Type 0 where
+  pub leads : (w' : World) (l : Inst) → RanTo (scan instruction_round (behind previous)) v w' l → RanTo (scan instruction_round before_first) w w' l
+  pub onward : Onward w v

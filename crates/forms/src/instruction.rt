@@ -1,5 +1,5 @@
 // Instructions.
-ghost use Rattle.std.specs.Prelude.{◌≡◌, true, false, ◌≤◌, length, drop};
+ghost use Rattle.std.specs.Prelude.{◌≡◌, true, false, drop};
 ghost use Rattle.lexer.specs.Syntax.{DocComment};
 ghost use Rattle.grammar.specs.Words.{is};
 ghost use Rattle.grammar.specs.Look.{at};
@@ -16,16 +16,13 @@ use grammar::block::Terminators;
 use grammar::event::CLOSE;
 use grammar::nesting::{Nesting, Significant};
 use lexer::syntax::{INSTRUCTION, WHITESPACE};
-use parser::cursor::{Cursor, bump, bump_plain, put};
+use parser::cursor::Cursor;
 use parser::kinds::{
     expects_continuation_operand, in_set, in_words, is_trivia, punctuation_continues_instruction,
     starts_instruction,
 };
-use parser::look::{
-    at_terminator, current, eof, is_top_level_starter, peek_after_inline_whitespace,
-};
-use parser::nest::bump_nesting;
 use parser::sets::{CONTROL_FLOW, GOES_ON, LINE_END, PLAIN, PLAIN_PUNCTUATION};
+use parser::state::Parser;
 
 fn is_some(previous: Significant) -> bool
     ensures { result ≡ is_some previous }
@@ -46,12 +43,12 @@ fn expects_operand(previous: Significant) -> bool
 }
 
 pub fn should_continue_instruction_after_whitespace(
-    kinds: &[u16],
+    parser: &Parser,
     p: usize,
     previous: Significant,
     nesting: Nesting,
 ) -> bool
-    ensures { result ≡ should_continue previous nesting (drop p kinds.now) }
+    ensures { result ≡ should_continue previous nesting (drop p parser.now.kinds.now) }
 {
     if !nesting.is_root() {
         return true;
@@ -62,36 +59,36 @@ pub fn should_continue_instruction_after_whitespace(
     if expects_operand(previous) {
         return true;
     }
-    let next = peek_after_inline_whitespace(kinds, p);
-    punctuation_continues_instruction(current(kinds, next))
+    let next = parser.peek_after_inline_whitespace(p);
+    punctuation_continues_instruction(parser.current(next))
 }
 
 // A terminator, an operation, or what ends a block that lacks its `end`; not asked at a doc comment.
-fn at_next(kinds: &[u16], p: usize) -> bool
-    requires { at (is DocComment) (drop p kinds.now) ≡ false }
-    ensures { result ≡ starts_next (drop p kinds.now) }
+fn at_next(parser: &Parser, p: usize) -> bool
+    requires { at (is DocComment) (drop p parser.now.kinds.now) ≡ false }
+    ensures { result ≡ starts_next (drop p parser.now.kinds.now) }
 {
-    if at_terminator(kinds, p, Terminators::ElseEnd) {
+    if parser.at_terminator(p, Terminators::ElseEnd) {
         return true;
     }
-    let k = current(kinds, p);
+    let k = parser.current(p);
     if starts_instruction(k) {
         return true;
     }
     if in_words(CONTROL_FLOW, k) {
         return true;
     }
-    is_top_level_starter(kinds, p)
+    parser.is_top_level_starter(p)
 }
 
 pub fn should_stop_instruction_before(
-    kinds: &[u16],
+    parser: &Parser,
     p: usize,
     previous: Significant,
     nesting: Nesting,
 ) -> bool
-    requires { at (is DocComment) (drop p kinds.now) ≡ false }
-    ensures { result ≡ should_stop previous nesting (drop p kinds.now) }
+    requires { at (is DocComment) (drop p parser.now.kinds.now) ≡ false }
+    ensures { result ≡ should_stop previous nesting (drop p parser.now.kinds.now) }
 {
     if !nesting.is_root() {
         return false;
@@ -99,25 +96,25 @@ pub fn should_stop_instruction_before(
     if expects_operand(previous) {
         return false;
     }
-    if punctuation_continues_instruction(current(kinds, p)) {
+    if punctuation_continues_instruction(parser.current(p)) {
         return false;
     }
-    at_next(kinds, p)
+    at_next(parser, p)
 }
 
 // Whether an instruction ends before the token here.
-fn at_instruction_end(kinds: &[u16], p: usize, previous: Significant, nesting: Nesting) -> bool
-    ensures { result ≡ instruction_ends previous nesting (drop p kinds.now) }
+fn at_instruction_end(parser: &Parser, p: usize, previous: Significant, nesting: Nesting) -> bool
+    ensures { result ≡ instruction_ends previous nesting (drop p parser.now.kinds.now) }
 {
-    let k = current(kinds, p);
+    let k = parser.current(p);
     if k == WHITESPACE {
-        return !should_continue_instruction_after_whitespace(kinds, p, previous, nesting);
+        return !should_continue_instruction_after_whitespace(parser, p, previous, nesting);
     }
     if is_trivia(k) {
         return nesting.is_root();
     }
     if is_some(previous) {
-        return should_stop_instruction_before(kinds, p, previous, nesting);
+        return should_stop_instruction_before(parser, p, previous, nesting);
     }
     false
 }
@@ -140,18 +137,18 @@ struct Lead {
 }
 
 // The first rounds, for as long as one look at the token tells that it is taken and all that it changes is `previous`.
-fn plain_tokens(kinds: &[u16], ev: &mut [u16], c0: Cursor) -> Lead
-    ensures { PlainTokens kinds.now ev.old c0 ev.new result.c result.previous }
+fn plain_tokens(parser: &mut Parser, c0: Cursor) -> Lead
+    ensures { PlainTokens (entry parser c0) (exit parser result.c) result.previous }
 {
     let mut c = c0;
     let mut previous = Significant::Nothing;
     let mut mask = PLAIN;
-    while !eof(kinds, c.pos) {
-        let k = current(kinds, c.pos);
+    while !parser.eof(c.pos) {
+        let k = parser.current(c.pos);
         if !in_set(mask, k) {
             return Lead { c, previous };
         }
-        c = bump_plain(kinds, ev, c, k);
+        c = parser.bump_plain(c, k);
         previous = Significant::Kind(k);
         mask = open_behind(k);
     }
@@ -159,10 +156,10 @@ fn plain_tokens(kinds: &[u16], ev: &mut [u16], c0: Cursor) -> Lead
 }
 
 // Whether one or two tokens tell that an instruction ends here, outside delimiters. Mostly they do.
-fn ends_plainly(kinds: &[u16], p: usize, previous: Significant) -> bool
-    ensures { result ≡ true → instruction_ends previous default (drop p kinds.now) ≡ true }
+fn ends_plainly(parser: &Parser, p: usize, previous: Significant) -> bool
+    ensures { result ≡ true → instruction_ends previous default (drop p parser.now.kinds.now) ≡ true }
 {
-    let k = current(kinds, p);
+    let k = parser.current(p);
     if in_set(LINE_END, k) {
         return true;
     }
@@ -172,69 +169,50 @@ fn ends_plainly(kinds: &[u16], p: usize, previous: Significant) -> bool
     if expects_operand(previous) {
         return false;
     }
-    !in_set(GOES_ON, current(kinds, p + 1))
+    !in_set(GOES_ON, parser.current(p + 1))
 }
 
 // The rounds behind the token `previous0`.
-fn further_tokens(
-    kinds: &[u16],
-    ev: &mut [u16],
-    dm: &mut [u16],
-    ds: &mut [u32],
-    c0: Cursor,
-    previous0: Significant,
-) -> Cursor
-    ensures { Ran kinds.now (scan instruction_round (behind previous0)) (entry ev dm ds c0) (exit ev dm ds result) }
+fn further_tokens(parser: &mut Parser, c0: Cursor, previous0: Significant) -> Cursor
+    ensures { Ran (scan instruction_round (behind previous0)) (entry parser c0) (exit parser result) }
 {
     let mut c = c0;
     let mut nesting = Nesting::new();
     let mut previous = previous0;
-    while !eof(kinds, c.pos) {
-        if at_instruction_end(kinds, c.pos, previous, nesting) {
+    while !parser.eof(c.pos) {
+        if at_instruction_end(parser, c.pos, previous, nesting) {
             return c;
         }
-        let k = current(kinds, c.pos);
+        let k = parser.current(c.pos);
         if is_trivia(k) {
-            c = bump(kinds, ev, dm, ds, c);
+            c = parser.bump(c);
             continue;
         }
-        let b = bump_nesting(dm, ds, c, nesting, k);
+        let b = parser.bump_nesting(c, nesting, k);
         let d = b.c;
         nesting = b.nesting;
         previous = Significant::Kind(k);
-        c = bump(kinds, ev, dm, ds, d);
+        c = parser.bump(d);
     }
     c
 }
 
-fn instruction_tokens(
-    kinds: &[u16],
-    ev: &mut [u16],
-    dm: &mut [u16],
-    ds: &mut [u32],
-    c0: Cursor,
-) -> Cursor
-    ensures { Ran kinds.now (scan instruction_round before_first) (entry ev dm ds c0) (exit ev dm ds result) }
+fn instruction_tokens(parser: &mut Parser, c0: Cursor) -> Cursor
+    ensures { Ran (scan instruction_round before_first) (entry parser c0) (exit parser result) }
 {
-    let lead = plain_tokens(kinds, ev, c0);
+    let lead = plain_tokens(parser, c0);
     let c = lead.c;
     let previous = lead.previous;
-    if ends_plainly(kinds, c.pos, previous) {
+    if ends_plainly(parser, c.pos, previous) {
         return c;
     }
-    further_tokens(kinds, ev, dm, ds, c, previous)
+    further_tokens(parser, c, previous)
 }
 
-pub fn parse_instruction(
-    kinds: &[u16],
-    ev: &mut [u16],
-    dm: &mut [u16],
-    ds: &mut [u32],
-    c0: Cursor,
-) -> Cursor
-    ensures { Ran kinds.now parse_instruction (entry ev dm ds c0) (exit ev dm ds result) }
+pub fn parse_instruction(parser: &mut Parser, c0: Cursor) -> Cursor
+    ensures { Ran parse_instruction (entry parser c0) (exit parser result) }
 {
-    let a = put(ev, c0, INSTRUCTION);
-    let b = instruction_tokens(kinds, ev, dm, ds, a);
-    put(ev, b, CLOSE)
+    let a = parser.put(c0, INSTRUCTION);
+    let b = instruction_tokens(parser, a);
+    parser.put(b, CLOSE)
 }

@@ -1,5 +1,5 @@
 // Line forms: what runs to the end of a line.
-ghost use Rattle.std.specs.Prelude.{◌≡◌, not, ◌||◌, ◌≤◌, length, drop};
+ghost use Rattle.std.specs.Prelude.{◌≡◌, not, ◌||◌, drop};
 ghost use Rattle.grammar.specs.Look.{is_trivia};
 ghost use Rattle.grammar.specs.Run.{scan};
 ghost use Rattle.grammar.specs.Line.{parse_line_tail, expr_round, no_token, parse_expr_until_line_end};
@@ -11,29 +11,21 @@ use grammar::event::CLOSE;
 use grammar::message::{Message, ProcedureMessage};
 use grammar::nesting::Nesting;
 use lexer::syntax::{COMMENT, EXPR, WHITESPACE};
-use parser::bump::bump_regular_trivia;
-use parser::cursor::{Cursor, bump, error_here, put};
+use parser::cursor::Cursor;
 use parser::kinds::{in_set, is_trivia};
-use parser::look::{at_kind, current, eof, is_top_level_starter, next_relevant_top_level_token};
-use parser::nest::bump_nesting;
 use parser::sets::LINE_END;
+use parser::state::Parser;
 
 // Whitespace, and at most one comment.
-pub fn parse_line_tail(
-    kinds: &[u16],
-    ev: &mut [u16],
-    dm: &mut [u16],
-    ds: &mut [u32],
-    c0: Cursor,
-) -> Cursor
-    ensures { Ran kinds.now parse_line_tail (entry ev dm ds c0) (exit ev dm ds result) }
+pub fn parse_line_tail(parser: &mut Parser, c0: Cursor) -> Cursor
+    ensures { Ran parse_line_tail (entry parser c0) (exit parser result) }
 {
     let mut c = c0;
-    while at_kind(kinds, c.pos, WHITESPACE) {
-        c = bump(kinds, ev, dm, ds, c);
+    while parser.at_kind(c.pos, WHITESPACE) {
+        c = parser.bump(c);
     }
-    if at_kind(kinds, c.pos, COMMENT) {
-        return bump(kinds, ev, dm, ds, c);
+    if parser.at_kind(c.pos, COMMENT) {
+        return parser.bump(c);
     }
     c
 }
@@ -48,20 +40,20 @@ fn or_significant(saw: bool, k: u16) -> bool
 }
 
 // Whether the line ends here: outside of delimiters, at a newline or a comment.
-fn at_line_end(kinds: &[u16], p: usize, nesting: Nesting) -> bool
-    ensures { result ≡ line_ends nesting (drop p kinds.now) }
+fn at_line_end(parser: &Parser, p: usize, nesting: Nesting) -> bool
+    ensures { result ≡ line_ends nesting (drop p parser.now.kinds.now) }
 {
     if nesting.is_root() {
-        return in_set(LINE_END, current(kinds, p));
+        return in_set(LINE_END, parser.current(p));
     }
     false
 }
 
 // Whether an expression ends here: where the line does, or where whitespace stands before the next item.
-fn at_expr_end(kinds: &[u16], p: usize, nesting: Nesting, saw: bool) -> bool
-    ensures { result ≡ expr_ends nesting saw (drop p kinds.now) }
+fn at_expr_end(parser: &Parser, p: usize, nesting: Nesting, saw: bool) -> bool
+    ensures { result ≡ expr_ends nesting saw (drop p parser.now.kinds.now) }
 {
-    if at_line_end(kinds, p, nesting) {
+    if at_line_end(parser, p, nesting) {
         return true;
     }
     if !nesting.is_root() {
@@ -70,92 +62,68 @@ fn at_expr_end(kinds: &[u16], p: usize, nesting: Nesting, saw: bool) -> bool
     if !saw {
         return false;
     }
-    if !at_kind(kinds, p, WHITESPACE) {
+    if !parser.at_kind(p, WHITESPACE) {
         return false;
     }
-    let next = next_relevant_top_level_token(kinds, p + 1);
-    is_top_level_starter(kinds, next)
+    let next = parser.next_relevant_top_level_token(p + 1);
+    parser.is_top_level_starter(next)
 }
 
-fn expr_tokens(kinds: &[u16], ev: &mut [u16], dm: &mut [u16], ds: &mut [u32], c0: Cursor) -> Cursor
-    ensures { Ran kinds.now (scan expr_round no_token) (entry ev dm ds c0) (exit ev dm ds result) }
+fn expr_tokens(parser: &mut Parser, c0: Cursor) -> Cursor
+    ensures { Ran (scan expr_round no_token) (entry parser c0) (exit parser result) }
 {
     let mut c = c0;
     let mut nesting = Nesting::new();
     let mut saw_significant = false;
-    while !eof(kinds, c.pos) {
-        if at_expr_end(kinds, c.pos, nesting, saw_significant) {
+    while !parser.eof(c.pos) {
+        if at_expr_end(parser, c.pos, nesting, saw_significant) {
             return c;
         }
-        let k = current(kinds, c.pos);
+        let k = parser.current(c.pos);
         saw_significant = or_significant(saw_significant, k);
-        let b = bump_nesting(dm, ds, c, nesting, k);
+        let b = parser.bump_nesting(c, nesting, k);
         let d = b.c;
         nesting = b.nesting;
-        c = bump(kinds, ev, dm, ds, d);
+        c = parser.bump(d);
     }
     c
 }
 
-pub fn parse_expr_until_line_end(
-    kinds: &[u16],
-    ev: &mut [u16],
-    dm: &mut [u16],
-    ds: &mut [u32],
-    c0: Cursor,
-) -> Cursor
-    ensures { Ran kinds.now parse_expr_until_line_end (entry ev dm ds c0) (exit ev dm ds result) }
+pub fn parse_expr_until_line_end(parser: &mut Parser, c0: Cursor) -> Cursor
+    ensures { Ran parse_expr_until_line_end (entry parser c0) (exit parser result) }
 {
-    let a = bump_regular_trivia(kinds, ev, dm, ds, c0);
-    let b = put(ev, a, EXPR);
-    let d = expr_tokens(kinds, ev, dm, ds, b);
-    put(ev, d, CLOSE)
+    let a = parser.bump_regular_trivia(c0);
+    let b = parser.put(a, EXPR);
+    let d = expr_tokens(parser, b);
+    parser.put(d, CLOSE)
 }
 
 // A result type must have a token.
-fn result_end(
-    kinds: &[u16],
-    ev: &mut [u16],
-    dm: &mut [u16],
-    ds: &mut [u32],
-    c0: Cursor,
-    taken: bool,
-) -> Cursor
-    ensures { Ran kinds.now (result_end taken) (entry ev dm ds c0) (exit ev dm ds result) }
+fn result_end(parser: &mut Parser, c0: Cursor, taken: bool) -> Cursor
+    ensures { Ran (result_end taken) (entry parser c0) (exit parser result) }
 {
     if taken {
         return c0;
     }
-    error_here(
-        dm,
-        ds,
-        c0,
-        Message::Procedure(ProcedureMessage::ExpectedResultType),
-    )
+    parser.error_here(c0, Message::Procedure(ProcedureMessage::ExpectedResultType))
 }
 
-pub fn parse_signature_result_until_line_end(
-    kinds: &[u16],
-    ev: &mut [u16],
-    dm: &mut [u16],
-    ds: &mut [u32],
-    c0: Cursor,
-) -> Cursor
-    ensures { Ran kinds.now parse_signature_result_until_line_end (entry ev dm ds c0) (exit ev dm ds result) }
+pub fn parse_signature_result_until_line_end(parser: &mut Parser, c0: Cursor) -> Cursor
+    ensures { Ran parse_signature_result_until_line_end (entry parser c0) (exit parser result) }
 {
     let mut c = c0;
     let mut nesting = Nesting::new();
     let mut taken = false;
-    while !eof(kinds, c.pos) {
-        if at_line_end(kinds, c.pos, nesting) {
-            return result_end(kinds, ev, dm, ds, c, taken);
+    while !parser.eof(c.pos) {
+        if at_line_end(parser, c.pos, nesting) {
+            return result_end(parser, c, taken);
         }
-        let k = current(kinds, c.pos);
-        let b = bump_nesting(dm, ds, c, nesting, k);
+        let k = parser.current(c.pos);
+        let b = parser.bump_nesting(c, nesting, k);
         let d = b.c;
         nesting = b.nesting;
         taken = true;
-        c = bump(kinds, ev, dm, ds, d);
+        c = parser.bump(d);
     }
-    result_end(kinds, ev, dm, ds, c, taken)
+    result_end(parser, c, taken)
 }

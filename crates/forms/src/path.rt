@@ -8,42 +8,35 @@ ghost use Rattle.forms.specs.Path.{path_names, group_step, group_rest};
 use grammar::event::CLOSE;
 use grammar::message::{ItemMessage, Message};
 use lexer::syntax::{COLON_COLON, PATH};
-use parser::bump::{bump_at, bump_non_comment_trivia, bump_regular_trivia, expect_kind};
-use parser::cursor::{Cursor, Flow, bump, error_here, put};
+use parser::cursor::{Cursor, Flow};
 use parser::kinds::is_name_like;
-use parser::look::{at_kind, current, eof, peek_after_non_comment_trivia};
+use parser::state::Parser;
 
 // A further segment of a path, at its `::`.
-fn path_segment(kinds: &[u16], ev: &mut [u16], dm: &mut [u16], ds: &mut [u32], c0: Cursor) -> Flow
-    ensures { RanTo kinds.now path_segment (entry ev dm ds c0) (exit ev dm ds result.c) result.ok }
+fn path_segment(parser: &mut Parser, c0: Cursor) -> Flow
+    ensures { RanTo path_segment (entry parser c0) (exit parser result.c) result.ok }
 {
-    let a = bump_non_comment_trivia(kinds, ev, dm, ds, c0);
-    let b = bump(kinds, ev, dm, ds, a);
-    let d = bump_non_comment_trivia(kinds, ev, dm, ds, b);
-    if is_name_like(current(kinds, d.pos)) {
-        let e = bump(kinds, ev, dm, ds, d);
+    let a = parser.bump_non_comment_trivia(c0);
+    let b = parser.bump(a);
+    let d = parser.bump_non_comment_trivia(b);
+    if is_name_like(parser.current(d.pos)) {
+        let e = parser.bump(d);
         return Flow { c: e, ok: true };
     }
-    let e = error_here(dm, ds, d, Message::Item(ItemMessage::ExpectedPathSegment));
+    let e = parser.error_here(d, Message::Item(ItemMessage::ExpectedPathSegment));
     Flow { c: e, ok: false }
 }
 
-fn path_segments(
-    kinds: &[u16],
-    ev: &mut [u16],
-    dm: &mut [u16],
-    ds: &mut [u32],
-    c0: Cursor,
-) -> Cursor
-    ensures { Ran kinds.now (loop path_round) (entry ev dm ds c0) (exit ev dm ds result) }
+fn path_segments(parser: &mut Parser, c0: Cursor) -> Cursor
+    ensures { Ran (loop path_round) (entry parser c0) (exit parser result) }
 {
     let mut c = c0;
     loop {
-        let next = peek_after_non_comment_trivia(kinds, c.pos);
-        if !at_kind(kinds, next, COLON_COLON) {
+        let next = parser.peek_after_non_comment_trivia(c.pos);
+        if !parser.at_kind(next, COLON_COLON) {
             return c;
         }
-        let s = path_segment(kinds, ev, dm, ds, c);
+        let s = path_segment(parser, c);
         let d = s.c;
         if !s.ok {
             return d;
@@ -53,38 +46,24 @@ fn path_segments(
 }
 
 // The first name and the further segments, or a diagnostic.
-fn path_names(
-    kinds: &[u16],
-    ev: &mut [u16],
-    dm: &mut [u16],
-    ds: &mut [u32],
-    c0: Cursor,
-    m: Message,
-) -> Cursor
-    ensures { Ran kinds.now (path_names m) (entry ev dm ds c0) (exit ev dm ds result) }
+fn path_names(parser: &mut Parser, c0: Cursor, m: Message) -> Cursor
+    ensures { Ran (path_names m) (entry parser c0) (exit parser result) }
 {
-    if is_name_like(current(kinds, c0.pos)) {
-        let d = bump(kinds, ev, dm, ds, c0);
-        return path_segments(kinds, ev, dm, ds, d);
+    if is_name_like(parser.current(c0.pos)) {
+        let d = parser.bump(c0);
+        return path_segments(parser, d);
     }
-    error_here(dm, ds, c0, m)
+    parser.error_here(c0, m)
 }
 
-pub fn parse_path_with_message(
-    kinds: &[u16],
-    ev: &mut [u16],
-    dm: &mut [u16],
-    ds: &mut [u32],
-    c0: Cursor,
-    m: Message,
-) -> Cursor
-    ensures { Ran kinds.now (parse_path_with_message m) (entry ev dm ds c0) (exit ev dm ds result) }
+pub fn parse_path_with_message(parser: &mut Parser, c0: Cursor, m: Message) -> Cursor
+    ensures { Ran (parse_path_with_message m) (entry parser c0) (exit parser result) }
 {
-    let a = put(ev, c0, PATH);
-    let b = bump_at(kinds, ev, dm, ds, a, COLON_COLON);
-    let d = bump_non_comment_trivia(kinds, ev, dm, ds, b);
-    let e = path_names(kinds, ev, dm, ds, d, m);
-    put(ev, e, CLOSE)
+    let a = parser.put(c0, PATH);
+    let b = parser.bump_at(a, COLON_COLON);
+    let d = parser.bump_non_comment_trivia(b);
+    let e = path_names(parser, d, m);
+    parser.put(e, CLOSE)
 }
 
 // How many delimiters of this kind are open behind the token k.
@@ -102,50 +81,38 @@ fn group_depth(opener: u16, closer: u16, depth: usize, k: u16) -> usize
 }
 
 // The group behind its first opener.
-fn group_rest(
-    kinds: &[u16],
-    ev: &mut [u16],
-    dm: &mut [u16],
-    ds: &mut [u32],
-    c0: Cursor,
-    opener: u16,
-    closer: u16,
-    missing: Message,
-) -> Cursor
-    ensures { Ran kinds.now (group_rest opener closer missing) (entry ev dm ds c0) (exit ev dm ds result) }
+fn group_rest(parser: &mut Parser, c0: Cursor, opener: u16, closer: u16, missing: Message) -> Cursor
+    ensures { Ran (group_rest opener closer missing) (entry parser c0) (exit parser result) }
 {
     let mut c = c0;
     let mut depth: usize = 1;
-    while !eof(kinds, c.pos) {
+    while !parser.eof(c.pos) {
         if 0 == depth {
             return c;
         }
-        depth = group_depth(opener, closer, depth, current(kinds, c.pos));
-        c = bump(kinds, ev, dm, ds, c);
+        depth = group_depth(opener, closer, depth, parser.current(c.pos));
+        c = parser.bump(c);
     }
     if 0 == depth {
         return c;
     }
-    error_here(dm, ds, c, missing)
+    parser.error_here(c, missing)
 }
 
 pub fn parse_balanced_group(
-    kinds: &[u16],
-    ev: &mut [u16],
-    dm: &mut [u16],
-    ds: &mut [u32],
+    parser: &mut Parser,
     c0: Cursor,
     opener: u16,
     closer: u16,
     missing: Message,
 ) -> Cursor
-    ensures { Ran kinds.now (parse_balanced_group opener closer missing) (entry ev dm ds c0) (exit ev dm ds result) }
+    ensures { Ran (parse_balanced_group opener closer missing) (entry parser c0) (exit parser result) }
 {
-    let a = bump_regular_trivia(kinds, ev, dm, ds, c0);
-    let b = expect_kind(kinds, ev, dm, ds, a, opener, missing);
+    let a = parser.bump_regular_trivia(c0);
+    let b = parser.expect_kind(a, opener, missing);
     let d = b.c;
     if !b.ok {
         return d;
     }
-    group_rest(kinds, ev, dm, ds, d, opener, closer, missing)
+    group_rest(parser, d, opener, closer, missing)
 }

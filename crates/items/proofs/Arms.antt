@@ -7,12 +7,12 @@ use lib.Dec.{ltb}
 use borrow.Author.Tests.{ne_eqb, eqb-true, ltb-true, ltb-false}
 use mathlib.Core.Path.{◌≡◌, refl, sym, ap, subst, ◌∙◌}
 use Rattle.lexer.specs.Syntax.{Whitespace, Newline, Comment, DocComment, At}
-use Rattle.grammar.specs.Words.{Sym, File, MARK, from, is, ADV_MAP, BEGIN, CONST, ENUM, MOD, NAMESPACE, PROC, PUB, TYPE}
+use Rattle.grammar.specs.Words.{Sym, MARK, is, ADV_MAP, BEGIN, CONST, ENUM, MOD, NAMESPACE, PROC, PUB, TYPE}
 use Rattle.grammar.specs.Look.{one_of, current, regular_trivia, at}
 use Rattle.grammar.specs.Block.{Blocks}
 use Rattle.grammar.specs.Item.{at_declaration, at_procedure, parse_source_item}
 use Rattle.parser.specs.Ahead.{declared}
-use Rattle.parser.specs.Rep.{World, Ran}
+use Rattle.parser.specs.Rep.{World, remaining, Ran}
 use Rattle.parser.proofs.Kit.{like}
 use Rattle.parser.proofs.Laws.{at_current}
 use Rattle.parser.proofs.Ahead.{declaration_is}
@@ -99,9 +99,9 @@ module _ (r : List Sym) where
           rw (e, f, alone f) (sym (words_are (current r) (ltb-false (current r) MARK e) _ _ refl refl))
 
 -- the function of an arm that is known
-pub armed : {F : File} {w w' : World} {a a' : ItemArm} (block : Blocks) → a ≡ a' → Ran F (by_item_arm a' block) w w' → Ran F (by_item_arm a block) w w'
-armed {F} {w} {w'} block e h = subst (λ a. Ran F (by_item_arm a block) w w') (sym e) h
+pub armed : {w w' : World} {a a' : ItemArm} (block : Blocks) → a ≡ a' → Ran (by_item_arm a' block) w w' → Ran (by_item_arm a block) w w'
+armed {w} {w'} block e h = subst (λ a. Ran (by_item_arm a block) w w') (sym e) h
 
 -- an item, by the arm that is found
-pub by_item : {F : File} {w w' : World} (a : ItemArm) (block : Blocks) → a ≡ item_arm (from F w.c.pos) → Ran F (by_item_arm a block) w w' → Ran F (parse_source_item block) w w'
-by_item {F} {w} a block e h = like (by_item_arm a block) (item_is block _ ∙ ap (λ (x : ItemArm). by_item_arm x block (from F w.c.pos)) (sym e)) h
+pub by_item : {w w' : World} (a : ItemArm) (block : Blocks) → a ≡ item_arm (remaining w) → Ran (by_item_arm a block) w w' → Ran (parse_source_item block) w w'
+by_item {w} a block e h = like (by_item_arm a block) (item_is block _ ∙ ap (λ (x : ItemArm). by_item_arm x block (remaining w)) (sym e)) h

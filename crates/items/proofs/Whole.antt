@@ -3,7 +3,7 @@
 use mathlib.Core.Bool.{Bool}
 use mathlib.Core.List.{List, [], append-nil, map}
 use mathlib.Core.Path.{◌≡◌, refl, sym, ap, ◌∙◌}
-use Prim.Native.Nat.{◌+◌, ◌≤◌}
+use Prim.Native.Nat.{ℕ, ◌+◌, ◌≤◌}
 use native.Mathlib.Omega.{arith}
 use lib.ListN.{length}
 use Rattle.room.specs.Over.{over, length_over}
@@ -17,18 +17,16 @@ use Rattle.grammar.proofs.Theorems.AllTokens.{all_tokens}
 use Rattle.grammar.proofs.Theorems.FewEvents.{few_events}
 use Rattle.grammar.proofs.Theorems.FewDiagnostics.{few_diagnostics}
 use Rattle.grammar.specs.Block.{MAX_CONTROL_FLOW_NESTING as limit}
+use Rattle.parser.specs.declared.state.Parser.{Parser}
 use Rattle.parser.specs.Rep.{World, world, Rep, Small, Ran}
-use Rattle.items.specs.Entry.{start, Parse}
+use Rattle.items.specs.Entry.{start, ParserSlices, parser_slices, Parse}
 
 -- before the first token
 abbrev begun : File → State
 begun F = record { rest = from F 0; pos = 0; evs = []; dgs = [] }
 
-abbrev at_start : World → World
-at_start b = world b.ev b.dm b.ds start
-
-starts : (F : File) (b : World) → Rep F b (at_start b) (begun F)
-starts F b = record { rest = refl; pos = refl; events = refl; diags = refl; ev = refl; dm = refl; ds = refl }
+starts : (p : Parser) → Rep (world p start) (world p start) (begun p.kinds.now)
+starts p = record { rest = refl; pos = refl; evs = refl; dgs = refl; events = refl; messages = refl; starts = refl }
 
 -- the file in its root node
 abbrev pub root : P Bool
@@ -54,19 +52,22 @@ small F h = record {
   diags = omega (arith, ap length (root_diags F), few_diagnostics limit F);
 }
 
-pub whole : (F : File) (b : World) {w : World} → length F ≤ MAX_SOURCE → Ran F root (at_start b) w → Parse F b w
+-- e, m and t are what the parser left
+pub whole : (p : Parser) {w : World} {e m t : List ℕ} → e ≡ w.p.events.now → m ≡ w.p.messages.now → t ≡ w.p.starts.now → Ran root (world p start) w
+    → Parse p.kinds.now (parser_slices p.events.now p.messages.now p.starts.now start) (parser_slices e m t w.c)
 unfolding run
-whole F b {w} l h =
-    let r = h.sim b (begun F) (starts F b) (small F l) in
+whole p e-is m-is t-is h =
+    let F = p.kinds.now in
+    let r = h.sim (world p start) (begun F) (starts p) (small F p.short) in
     record {
       pos = sym r.pos ∙ ap (λ (t : File). 0 + length t) (root_leaves F) ∙ omega arith;
-      events = sym r.events ∙ ap length (root_events F);
-      diags = sym r.diags ∙ ap length (root_diags F);
-      ev = r.ev ∙ ap (over b.ev 0) (root_events F);
-      dm = r.dm ∙ ap (λ (l : List Diag). over b.dm 0 (map (λ d. d.msg) l)) (root_diags F);
-      ds = r.ds ∙ ap (λ (l : List Diag). over b.ds 0 (map (λ d. d.pos) l)) (root_diags F);
+      events = sym r.evs ∙ ap length (root_events F);
+      diags = sym r.dgs ∙ ap length (root_diags F);
+      ev = e-is ∙ r.events ∙ ap (over p.events.now 0) (root_events F);
+      dm = m-is ∙ r.messages ∙ ap (λ (l : List Diag). over p.messages.now 0 (map (λ d. d.msg) l)) (root_diags F);
+      ds = t-is ∙ r.starts ∙ ap (λ (l : List Diag). over p.starts.now 0 (map (λ d. d.pos) l)) (root_diags F);
     }
 
 -- the slices keep their lengths
-pub kept : {F : File} {b w : World} → Parse F b w → (length w.ev ≡ length b.ev) × (length w.dm ≡ length b.dm) × (length w.ds ≡ length b.ds)
+pub kept : {F : File} {b w : ParserSlices} → Parse F b w → (length w.ev ≡ length b.ev) × (length w.dm ≡ length b.dm) × (length w.ds ≡ length b.ds)
 kept p = (ap length p.ev ∙ simp length_over, ap length p.dm ∙ simp length_over, ap length p.ds ∙ simp length_over)

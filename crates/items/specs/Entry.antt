@@ -1,19 +1,28 @@
 -- What the parser leaves in the slices: the file's events and diagnostics, as far as each slice goes, and their numbers.
 -- Assumes nothing: these are definitions.
-use Rattle.std.specs.Prelude.{◌≡◌, map, length}
+use Rattle.std.specs.Prelude.{◌≡◌, List, ℕ, map, length}
 use Rattle.room.specs.Over.{over}
 use Rattle.grammar.specs.Words.{File}
 use Rattle.grammar.specs.Block.{MAX_CONTROL_FLOW_NESTING as limit}
 use Rattle.grammar.specs.Out.{events as events_of, diags as diags_of}
 use Rattle.parser.specs.declared.cursor.Cursor.{Cursor}
-use Rattle.parser.specs.Rep.{World}
 
 -- where the parser starts
 abbrev pub start : Cursor
 start = record { pos = 0; events = 0; diags = 0 }
 
+-- what stands in the slices, and the cursor
+pub record ParserSlices : Type 0 where
+  pub ev : List ℕ
+  pub dm : List ℕ
+  pub ds : List ℕ
+  pub c : Cursor
+
+abbrev pub parser_slices : List ℕ → List ℕ → List ℕ → Cursor → ParserSlices
+parser_slices ev dm ds c = record { ev = ev; dm = dm; ds = ds; c = c }
+
 -- w is what is left after the file F, where the slices were b's
-pub record Parse (F : File) (b w : World) : Type 0 where
+pub record Parse (F : File) (b w : ParserSlices) : Type 0 where
   pub pos : w.c.pos ≡ length F
   pub events : w.c.events ≡ length (events_of limit F)
   pub diags : w.c.diags ≡ length (diags_of limit F)

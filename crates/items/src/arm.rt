@@ -1,11 +1,11 @@
 // Which item starts at a token.
-ghost use Rattle.std.specs.Prelude.{◌≡◌, ◌≤◌, length, drop};
+ghost use Rattle.std.specs.Prelude.{◌≡◌, drop};
 ghost use Rattle.items.specs.Arms.{item_arm, declaration_arm, word_arm, plain_arm};
 
 use grammar::words::{ADV_MAP, BEGIN, CONST, ENUM, MARK, MOD, NAMESPACE_WORD, PROC, PUB, TYPE};
 use lexer::syntax::{AT, DOC_COMMENT};
 use parser::kinds::is_regular_trivia;
-use parser::look::{current, declared};
+use parser::state::Parser;
 
 // The arms of parse_source_item.
 #[derive(Clone, Copy)]
@@ -77,15 +77,15 @@ fn plain_arm(k: u16) -> ItemArm
 }
 
 // The tests of parse_source_item; few are left once it is known whether the token is a word.
-pub fn item_arm_here(kinds: &[u16], p: usize) -> ItemArm
-    ensures { result ≡ item_arm (drop p kinds.now) }
+pub fn item_arm_here(parser: &Parser, p: usize) -> ItemArm
+    ensures { result ≡ item_arm (drop p parser.now.kinds.now) }
 {
-    let k = current(kinds, p);
+    let k = parser.current(p);
     if k < MARK {
         return plain_arm(k);
     }
     if PUB == k {
-        return declaration_arm(declared(kinds, p));
+        return declaration_arm(parser.declared(p));
     }
     word_arm(k)
 }

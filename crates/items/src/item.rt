@@ -14,64 +14,38 @@ use declarations::type_decl::parse_type_decl;
 use grammar::event::CLOSE;
 use grammar::message::{ItemMessage, Message};
 use lexer::syntax::DOC;
-use parser::bump::error_token;
-use parser::cursor::{Cursor, bump, put};
+use parser::cursor::Cursor;
+use parser::state::Parser;
 
-pub fn parse_doc_form(
-    kinds: &[u16],
-    ev: &mut [u16],
-    dm: &mut [u16],
-    ds: &mut [u32],
-    c0: Cursor,
-) -> Cursor
-    ensures { Ran kinds.now parse_doc_form (entry ev dm ds c0) (exit ev dm ds result) }
+pub fn parse_doc_form(parser: &mut Parser, c0: Cursor) -> Cursor
+    ensures { Ran parse_doc_form (entry parser c0) (exit parser result) }
 {
-    let a = put(ev, c0, DOC);
-    let b = bump(kinds, ev, dm, ds, a);
-    put(ev, b, CLOSE)
+    let a = parser.put(c0, DOC);
+    let b = parser.bump(a);
+    parser.put(b, CLOSE)
 }
 
 // What the arm does.
-fn parse_arm(
-    kinds: &[u16],
-    ev: &mut [u16],
-    dm: &mut [u16],
-    ds: &mut [u32],
-    c0: Cursor,
-    a: ItemArm,
-) -> Cursor
-    ensures { Ran kinds.now (by_item_arm a (parse_block limit)) (entry ev dm ds c0) (exit ev dm ds result) }
+fn parse_arm(parser: &mut Parser, c0: Cursor, a: ItemArm) -> Cursor
+    ensures { Ran (by_item_arm a (parse_block limit)) (entry parser c0) (exit parser result) }
 {
     match a {
-        ItemArm::Doc => parse_doc_form(kinds, ev, dm, ds, c0),
-        ItemArm::Trivia => bump(kinds, ev, dm, ds, c0),
-        ItemArm::Namespace => parse_namespace(kinds, ev, dm, ds, c0),
-        ItemArm::Submodule => parse_submodule(kinds, ev, dm, ds, c0),
-        ItemArm::Procedure => parse_procedure(kinds, ev, dm, ds, c0),
-        ItemArm::Begin => parse_begin_block(kinds, ev, dm, ds, c0),
-        ItemArm::Constant => parse_constant(kinds, ev, dm, ds, c0),
-        ItemArm::Type => parse_type_decl(kinds, ev, dm, ds, c0),
-        ItemArm::AdviceMap => parse_advice_map(kinds, ev, dm, ds, c0),
-        ItemArm::Bad => error_token(
-            kinds,
-            ev,
-            dm,
-            ds,
-            c0,
-            Message::Item(ItemMessage::UnexpectedTopLevelToken),
-        ),
+        ItemArm::Doc => parse_doc_form(parser, c0),
+        ItemArm::Trivia => parser.bump(c0),
+        ItemArm::Namespace => parse_namespace(parser, c0),
+        ItemArm::Submodule => parse_submodule(parser, c0),
+        ItemArm::Procedure => parse_procedure(parser, c0),
+        ItemArm::Begin => parse_begin_block(parser, c0),
+        ItemArm::Constant => parse_constant(parser, c0),
+        ItemArm::Type => parse_type_decl(parser, c0),
+        ItemArm::AdviceMap => parse_advice_map(parser, c0),
+        ItemArm::Bad => parser.error_token(c0, Message::Item(ItemMessage::UnexpectedTopLevelToken)),
     }
 }
 
-pub fn parse_source_item(
-    kinds: &[u16],
-    ev: &mut [u16],
-    dm: &mut [u16],
-    ds: &mut [u32],
-    c0: Cursor,
-) -> Cursor
-    ensures { Ran kinds.now (parse_source_item (parse_block limit)) (entry ev dm ds c0) (exit ev dm ds result) }
+pub fn parse_source_item(parser: &mut Parser, c0: Cursor) -> Cursor
+    ensures { Ran (parse_source_item (parse_block limit)) (entry parser c0) (exit parser result) }
 {
-    let a = item_arm_here(kinds, c0.pos);
-    parse_arm(kinds, ev, dm, ds, c0, a)
+    let a = item_arm_here(parser, c0.pos);
+    parse_arm(parser, c0, a)
 }

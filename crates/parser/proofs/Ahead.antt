@@ -2,7 +2,7 @@
 -- Assumes nothing.
 use mathlib.Core.Bool.{Bool, true, false, ◌||◌, or-false}
 use mathlib.Core.List.{List, [], ◌∷◌}
-use mathlib.Core.Path.{◌≡◌, refl, sym, ap, ap₂, fun_ext, ◌∙◌}
+use mathlib.Core.Path.{◌≡◌, refl, sym, ap, ap₂, subst, fun_ext, ◌∙◌}
 use Prim.Native.Nat.{ℕ, zero, suc, ◌+◌, ◌-◌, ◌≤◌, ◌<◌}
 use native.Mathlib.Nat.{add-zero}
 use native.Mathlib.Omega.{arith}
@@ -14,7 +14,7 @@ use Rattle.grammar.specs.Look.{one_of, current, at, skip, past, next_token_after
 use Rattle.grammar.specs.Item.{at_declaration}
 use Rattle.parser.specs.declared.look.Remembered.{Remembered}
 use Rattle.parser.specs.Ahead.{Found, declared, Remembers}
-use Rattle.parser.proofs.Laws.{rest_cons, rest_nil, at_within, at_current, skip_on, skip_off, skip_end, left}
+use Rattle.parser.proofs.Laws.{rest_cons, rest_nil, at_within, at_current, skip_on, skip_off, skip_end, tokens_left}
 
 -- what is found from p on by tests that agree
 pub found_same : {F : File} {p r : ℕ} {s t : Sym → Bool} → ((k : Sym) → s k ≡ t k) → Found F p r (skip s (drop p F)) → Found F p r (skip t (drop p F))
@@ -93,7 +93,7 @@ module _ (F : File) (t : Sym → Bool) (j : ℕ) where
       by_test true k = e ∙ skip_on F t i (sym k) refl
       by_test false k =
           let l : length (from F j) ≡ length (from F i) = ap length (e ∙ sym (skip_off F t i (sym k) refl)) in
-          let n : length F ≤ i = omega (arith, l, left F i, left F j) in
+          let n : length F ≤ i = omega (arith, l, tokens_left F i, tokens_left F j) in
           rest_nil F j (omega arith) ∙ sym (rest_nil F (i + 1) (omega arith)) ∙ skip_end F (i + 1) t (omega arith)
 
   -- n places on
@@ -114,9 +114,9 @@ module _ {t : Sym → Bool} {question : List Sym → Bool} {F : File} {p : ℕ} 
   pub remembers_none : k.next ≤ p → Remembers t question F p k
   remembers_none h = record { answer = λ i a b. absurd (omega arith) }
 
-  -- from a later place on
-  pub remembers_later : (p' : ℕ) → p ≤ p' → Remembers t question F p k → Remembers t question F p' k
-  remembers_later p' h m = record { answer = λ i a b. m.answer i (omega arith) b }
+  -- from a later place on, in the same file
+  pub remembers_later : {F' : File} (p' : ℕ) → F' ≡ F → p ≤ p' → Remembers t question F p k → Remembers t question F' p' k
+  remembers_later p' e h m = subst (λ f. Remembers t question f p' k) (sym e) (record { answer = λ i a b. m.answer i (omega arith) b })
 
   -- a lookahead from behind p on, and what was asked where it came to
   pub remembers_new : from F k.next ≡ skip t (from F (p + 1)) → k.starts ≡ question (from F k.next) → Remembers t question F p k

@@ -7,7 +7,7 @@ use native.Mathlib.Nat.{pred-le}
 use native.Mathlib.Omega.{arith}
 use lib.Dec.{eqb}
 use Rattle.lexer.specs.Syntax.{LBrace, LBracket, LParen, RBrace, RBracket, RParen}
-use Rattle.grammar.specs.Words.{Sym, File, from, is}
+use Rattle.grammar.specs.Words.{Sym, is}
 use Rattle.grammar.specs.Look
 use Rattle.grammar.specs.Run.{pure, ◌>>=◌, ◌>>◌, take_token, Round, scan}
 use Rattle.grammar.specs.declared.message.Message.{Message}
@@ -16,8 +16,7 @@ use Rattle.grammar.specs.declared.nesting.Closer.{Closer}
 use Rattle.grammar.specs.declared.nesting.Nesting.{Nesting}
 use Rattle.grammar.specs.declared.nesting.Bumped.{Bumped}
 use Rattle.grammar.specs.Nesting.{default, counted, bump_nesting, bump_by, NestingBelow, open_paren, open_bracket, open_brace, close_paren, close_bracket, close_brace}
-use Rattle.parser.specs.declared.cursor.Cursor.{Cursor}
-use Rattle.parser.specs.Rep.{World, world, Ran, RanTo, ErrorHere}
+use Rattle.parser.specs.Rep.{World, remaining, Ran, RanTo, ErrorHere}
 use Rattle.parser.specs.Counts.{reported, counts, BumpNesting}
 use Rattle.parser.proofs.Kit.{scan_go_eq, scan_warn_eq, like_to, done, ◌then_to◌}
 
@@ -69,37 +68,36 @@ module _ {L : Type 0} (step : L → List Sym → Round L) where
   counted_eq n locals (Bumped.Counts n') l r z e = scan_go_eq step l (locals n') r z e
   counted_eq n locals (Bumped.Refused c) l r z e = scan_warn_eq step l (locals n) _ r z e
 
-  module _ {F : File} {ev dm ds dm' ds' : List ℕ} {c c' : Cursor} {n n' : Nesting} {k : Sym} where
+  module _ {w v w' : World} {n n' : Nesting} {k : Sym} where
     -- `locals` makes the loop's locals of the counts
-    pub scan_counted : (locals : Nesting → L) (l : L) {l' : L} {v w' : World} {a : L} → k ≡ Look.current (from F c.pos) → Look.eof (from F c.pos) ≡ false
-        → step l (from F c.pos) ≡ bump_nesting n (Look.current (from F c.pos)) locals → BumpNesting n k dm ds c dm' ds' c' n' → Ran F take_token (world ev dm' ds' c') v
-        → locals n' ≡ l' → RanTo F (scan step l') v w' a → RanTo F (scan step l) (world ev dm ds c) w' a
+    pub scan_counted : (locals : Nesting → L) (l : L) {l' : L} {u : World} {a : L} → k ≡ Look.current (remaining w) → Look.eof (remaining w) ≡ false
+        → step l (remaining w) ≡ bump_nesting n (Look.current (remaining w)) locals → BumpNesting n k w v n' → Ran take_token v u → locals n' ≡ l'
+        → RanTo (scan step l') u w' a → RanTo (scan step l) w w' a
     unfolding bump_nesting
-    scan_counted locals l {v} {w'} {a} q z e m t i h =
+    scan_counted locals l {u} {a} q z e m t i h =
         let x = bump_by n k in
         like_to (reported x >> take_token >> scan step (locals (counts n x))) (counted_eq n locals x l _ z (e ∙ ap (λ j. counted n locals (bump_by n j)) (sym q)))
-        (m.ran F ev then_to t then_to subst (λ j. RanTo F (scan step j) v w' a) (sym i ∙ ap locals m.is) h)
+        (m.ran then_to t then_to subst (λ j. RanTo (scan step j) u w' a) (sym i ∙ ap locals m.is) h)
 
 -- ---- bump_nesting
-module _ {n : Nesting} {k : Sym} {dm ds : List ℕ} {c : Cursor} (x : Bumped) (b : x ≡ bump_by n k) where
-  pub counted_go : {m : Nesting} → x ≡ Bumped.Counts m → BumpNesting n k dm ds c dm ds c m
+module _ {n : Nesting} {k : Sym} {w : World} (x : Bumped) (b : x ≡ bump_by n k) where
+  pub counted_go : {m : Nesting} → x ≡ Bumped.Counts m → BumpNesting n k w w m
   unfolding reported counts
   counted_go {m} e =
       let q = sym b ∙ e in
       record {
-        ran = λ F ev. subst (λ x. Ran F (reported x) (world ev dm ds c) (world ev dm ds c)) (sym q) (done true);
+        ran = subst (λ x. Ran (reported x) w w) (sym q) (done true);
         is = sym (ap (counts n) q);
         below = λ i h. subst (NestingBelow (i + 1)) (ap (counts n) q) (bump_below i n h k);
         pos = refl;
       }
 
-  pub counted_refused : {y : Closer} {dm' ds' : List ℕ} {c' : Cursor} → x ≡ Bumped.Refused y → ErrorHere (number (Message.UnexpectedCloser y)) dm ds c dm' ds' c'
-      → BumpNesting n k dm ds c dm' ds' c' n
+  pub counted_refused : {y : Closer} {w' : World} → x ≡ Bumped.Refused y → ErrorHere (number (Message.UnexpectedCloser y)) w w' → BumpNesting n k w w' n
   unfolding reported counts
-  counted_refused {dm'} {ds'} {c'} e s =
+  counted_refused {y} {w'} e s =
       let q = sym b ∙ e in
       record {
-        ran = λ F ev. subst (λ x. Ran F (reported x) (world ev dm ds c) (world ev dm' ds' c')) (sym q) (s.ran F ev);
+        ran = subst (λ x. Ran (reported x) w w') (sym q) s.ran;
         is = sym (ap (counts n) q);
         below = λ i h. subst (NestingBelow (i + 1)) (ap (counts n) q) (bump_below i n h k);
         pos = s.pos;

@@ -2,13 +2,13 @@
 use mathlib.Core.Bool.{true, false, false≢true}
 use mathlib.Core.List.{List, [], ◌∷◌}
 use mathlib.Core.Path.{◌≡◌, refl, sym, ap, ◌∙◌}
-use Rattle.grammar.specs.Words.{Sym, File, from, is}
+use Rattle.grammar.specs.Words.{Sym, is}
 use Rattle.grammar.specs.Look.{at, regular_trivia}
 use Rattle.grammar.specs.Run.{take_token}
 use Rattle.grammar.specs.Bump.{expect_kind}
 use Rattle.grammar.specs.Laws.Here.{expect_here}
 use Rattle.grammar.specs.declared.message.Message.{Message}
-use Rattle.parser.specs.Rep.{World, Ran, RanTo}
+use Rattle.parser.specs.Rep.{World, remaining, Ran, RanTo}
 use Rattle.parser.proofs.Kit.{like}
 
 -- at its kind, expect_kind takes the token
@@ -22,9 +22,9 @@ unfolding at take_token
 take_says k [] e = absurd (false≢true e)
 take_says k (s ∷ r) e = refl
 
-module _ {F : File} {w w' : World} (k : Sym) (m : Message) (t : regular_trivia k ≡ false) (e : at (is k) (from F w.c.pos) ≡ true) where
-  pub expected : Ran F take_token w w' → RanTo F (expect_kind k m) w w' true
+module _ {w w' : World} (k : Sym) (m : Message) (t : regular_trivia k ≡ false) (e : at (is k) (remaining w) ≡ true) where
+  pub expected : Ran take_token w w' → RanTo (expect_kind k m) w w' true
   expected h = record { ran = like take_token (expect_take k m t _ e) h; val = ap (λ x. x.val) (expect_take k m t _ e) ∙ take_says k _ e }
 
-  pub take_expected : Ran F (expect_kind k m) w w' → Ran F take_token w w'
+  pub take_expected : Ran (expect_kind k m) w w' → Ran take_token w w'
   take_expected = like (expect_kind k m) (sym (expect_take k m t _ e))

@@ -2,7 +2,7 @@
 -- Assumes nothing.
 use mathlib.Core.Bool.{Bool, true, false, false≢true}
 use mathlib.Core.List.{List, [], ◌∷◌, ◌++◌, append-nil, map, map-append}
-use mathlib.Core.Path.{◌≡◌, refl, sym, ap, subst, ◌∙◌}
+use mathlib.Core.Path.{◌≡◌, refl, sym, ap, ap₂, subst, ◌∙◌}
 use Prim.Native.Nat.{ℕ, ◌+◌, ◌-◌, ◌≤◌, ◌<◌, ◌^◌}
 use native.Mathlib.Numerals.{add-one}
 use native.Mathlib.Omega.{arith}
@@ -14,7 +14,6 @@ use Rattle.room.specs.Over.{over, over_append}
 use Rattle.lexer.specs.Syntax
 use Rattle.grammar.specs.Words.{Sym, is}
 use Rattle.grammar.specs.Words.{File, from}
-use Rattle.parser.specs.declared.cursor.Cursor.{Cursor}
 use Rattle.grammar.specs.Look.{at, skip}
 use Rattle.grammar.specs.Look
 use Rattle.grammar.specs.Look.{current}
@@ -25,7 +24,7 @@ use Rattle.grammar.specs.Message.{number}
 use Rattle.grammar.specs.Out.{kind, Diag}
 use Rattle.grammar.specs.State.{State, run, write, report}
 use Rattle.grammar.specs.Laws.Code.{run_err}
-use Rattle.parser.specs.Rep.{World, world, Rep, Small, Onward, Past, Wrote, Ran}
+use Rattle.parser.specs.Rep.{World, file, remaining, Rep, Small, Onward, Past, Wrote, Ran, PlainToken}
 use Rattle.parser.proofs.Kit.{stays, ◌farther◌, small_written}
 
 abbrev unrecognized : ℕ
@@ -48,44 +47,76 @@ unfolding Run.err
 err_rest m r = refl
 
 -- ---- one event more, one diagnostic more: the code's count is right where it fits
-module _ {F : File} {ev dm ds : List ℕ} {c c' : Cursor} where
-  pub put_event : (v : ℕ) {ev' : List ℕ} → ev' ≡ set ev c.events v → c'.pos ≡ c.pos → (c.events + 1 < 2 ^ 64 → c'.events ≡ c.events + 1)
-      → c'.diags ≡ c.diags → Wrote F v (world ev dm ds c) (world ev' dm ds c')
-  put_event v l p n d = record {
+module _ (w w' : World) (k : w'.p.kinds ≡ w.p.kinds) (p : w'.c.pos ≡ w.c.pos) where
+  remaining_is : remaining w' ≡ remaining w
+  remaining_is = ap₂ (λ (f : File) (i : ℕ). from f i) (ap (λ l. l.now) k) p
+
+  tokens_is : length (file w') ≡ length (file w)
+  tokens_is = ap (λ l. length l.now) k
+
+  pub put_event : (v : ℕ) → w'.p.events.ghost_name ≡ w.p.events.ghost_name → w'.p.events.now ≡ set w.p.events.now w.c.events v
+      → w'.p.messages ≡ w.p.messages → w'.p.starts ≡ w.p.starts → (w.c.events + 1 < 2 ^ 64 → w'.c.events ≡ w.c.events + 1) → w'.c.diags ≡ w.c.diags → Wrote v w w'
+  put_event v g l m t n d = record {
     sim = λ b s r z.
-        let fits : c.events + 1 < 2 ^ 64 = omega (arith, z.events, length_snoc s.evs v, r.events) in
+        let fits : w.c.events + 1 < 2 ^ 64 = omega (arith, z.events, length_snoc s.evs v, r.evs) in
         record {
-          rest = r.rest ∙ ap (from F) (sym p);
+          rest = r.rest ∙ sym remaining_is;
           pos = r.pos ∙ sym p;
-          events = length_snoc s.evs v ∙ ap (λ n. n + 1) r.events ∙ sym (n fits);
-          diags = r.diags ∙ sym d;
-          ev = l ∙ ap (λ (l : List ℕ). set l c.events v) r.ev ∙ sym (over_one b.ev s.evs c.events v r.events);
-          dm = r.dm;
-          ds = r.ds;
+          evs = length_snoc s.evs v ∙ ap (λ n. n + 1) r.evs ∙ sym (n fits);
+          dgs = r.dgs ∙ sym d;
+          events = l ∙ ap (λ (l : List ℕ). set l w.c.events v) r.events ∙ sym (over_one b.p.events.now s.evs w.c.events v r.evs);
+          messages = ap (λ l. l.now) m ∙ r.messages;
+          starts = ap (λ l. l.now) t ∙ r.starts;
         };
+    rest = remaining_is;
     pos = p;
-    onward = record { ahead = omega (arith, p); ev = ap length l ∙ length-set ev c.events v; dm = refl; ds = refl };
+    onward = record {
+      ahead = omega (arith, p);
+      tokens = tokens_is;
+      slices = record {
+        kinds = k;
+        events = g;
+        messages = ap (λ l. l.ghost_name) m;
+        starts = ap (λ l. l.ghost_name) t;
+        event_room = ap length l ∙ length-set w.p.events.now w.c.events v;
+        message_room = ap (λ l. length l.now) m;
+        start_room = ap (λ l. length l.now) t;
+      };
+    };
   }
 
-  pub say_here : (m : ℕ) {x : ℕ} {dm' ds' : List ℕ} → dm' ≡ set dm c.diags m → ds' ≡ set ds c.diags x → (c.pos < 2 ^ 32 → x ≡ c.pos) → c'.pos ≡ c.pos
-      → c'.events ≡ c.events → (c.diags + 1 < 2 ^ 64 → c'.diags ≡ c.diags + 1) → Ran F (Run.err m) (world ev dm ds c) (world ev dm' ds' c')
-  say_here m {x} l l' i p e n = record {
+  pub say_here : (m : ℕ) {x : ℕ} → w'.p.messages.ghost_name ≡ w.p.messages.ghost_name → w'.p.starts.ghost_name ≡ w.p.starts.ghost_name
+      → w'.p.messages.now ≡ set w.p.messages.now w.c.diags m → w'.p.starts.now ≡ set w.p.starts.now w.c.diags x → (w.c.pos < 2 ^ 32 → x ≡ w.c.pos)
+      → w'.p.events ≡ w.p.events → w'.c.events ≡ w.c.events → (w.c.diags + 1 < 2 ^ 64 → w'.c.diags ≡ w.c.diags + 1) → Ran (Run.err m) w w'
+  say_here m {x} g g' l l' i u e n = record {
     sim = λ b s r z.
         let z₁ : Small (report m s) = subst Small (run_err m s) z in
         let new : Diag = record { msg = m; pos = s.pos } in
-        let fits : c.diags + 1 < 2 ^ 64 = omega (arith, z₁.diags, length_snoc s.dgs new, r.diags) in
+        let fits : w.c.diags + 1 < 2 ^ 64 = omega (arith, z₁.diags, length_snoc s.dgs new, r.dgs) in
         let at : x ≡ s.pos = i (omega (arith, z₁.pos, r.pos)) ∙ sym r.pos in
-        subst (Rep F b _) (sym (run_err m s)) (record {
-          rest = r.rest ∙ ap (from F) (sym p);
+        subst (Rep b _) (sym (run_err m s)) (record {
+          rest = r.rest ∙ sym remaining_is;
           pos = r.pos ∙ sym p;
-          events = r.events ∙ sym e;
-          diags = length_snoc s.dgs new ∙ ap (λ n. n + 1) r.diags ∙ sym (n fits);
-          ev = r.ev;
-          dm = l ∙ over_map (λ d. d.msg) b.dm s.dgs c.diags new r.diags r.dm;
-          ds = l' ∙ ap (set ds c.diags) at ∙ over_map (λ d. d.pos) b.ds s.dgs c.diags new r.diags r.ds;
+          evs = r.evs ∙ sym e;
+          dgs = length_snoc s.dgs new ∙ ap (λ n. n + 1) r.dgs ∙ sym (n fits);
+          events = ap (λ l. l.now) u ∙ r.events;
+          messages = l ∙ over_map (λ d. d.msg) b.p.messages.now s.dgs w.c.diags new r.dgs r.messages;
+          starts = l' ∙ ap (set w.p.starts.now w.c.diags) at ∙ over_map (λ d. d.pos) b.p.starts.now s.dgs w.c.diags new r.dgs r.starts;
         });
-    rest = err_rest m _ ∙ ap (from F) (sym p);
-    onward = record { ahead = omega (arith, p); ev = refl; dm = ap length l ∙ length-set dm c.diags m; ds = ap length l' ∙ length-set ds c.diags x };
+    rest = err_rest m _ ∙ sym remaining_is;
+    onward = record {
+      ahead = omega (arith, p);
+      tokens = tokens_is;
+      slices = record {
+        kinds = k;
+        events = ap (λ l. l.ghost_name) u;
+        messages = g;
+        starts = g';
+        event_room = ap (λ l. length l.now) u;
+        message_room = ap length l ∙ length-set w.p.messages.now w.c.diags m;
+        start_room = ap length l' ∙ length-set w.p.starts.now w.c.diags x;
+      };
+    };
   }
 
 -- ---- the tokens from a place on
@@ -131,7 +162,7 @@ run_bad x l s e n = rw (e, n)
 
 -- what w' holds, one token on from w
 abbrev pub past : World → World → World
-past w w' = record { ev = w'.ev; dm = w'.dm; ds = w'.ds; c = record { pos = w.c.pos + 1; events = w'.c.events; diags = w'.c.diags } }
+past w w' = record { p = w'.p; c = record { pos = w.c.pos + 1; events = w'.c.events; diags = w'.c.diags } }
 
 take_nil : (r : List Sym) → r ≡ [] → (take_token r).rest ≡ r
 unfolding take_token
@@ -141,46 +172,60 @@ take_cons : (r : List Sym) (x : Sym) (l : List Sym) → r ≡ x ∷ l → (take_
 unfolding take_token
 take_cons r x l e = ap (λ l. (take_token l).rest) e
 
-pub take_end : {F : File} {w : World} → length F ≤ w.c.pos → Ran F take_token w w
-take_end {F} {w} h = record {
-  sim = λ b s r z. subst (Rep F b w) (sym (run_end s (r.rest ∙ rest_nil F w.c.pos h))) r;
-  rest = take_nil _ (rest_nil F w.c.pos h);
+pub take_end : {w : World} → length (file w) ≤ w.c.pos → Ran take_token w w
+take_end {w} h = record {
+  sim = λ b s r z. subst (Rep b w) (sym (run_end s (r.rest ∙ rest_nil (file w) w.c.pos h))) r;
+  rest = take_nil _ (rest_nil (file w) w.c.pos h);
   onward = stays;
 }
 
-step_on : {F : File} {b : World} (w : World) {w' : World} {s : State} → s.pos ≡ w.c.pos → Rep F b w' s → Rep F b (past w w') (one_on (from F (w.c.pos + 1)) s)
-step_on w e z = record { rest = refl; pos = ap (λ i. i + 1) e; events = z.events; diags = z.diags; ev = z.ev; dm = z.dm; ds = z.ds }
-
-head : {F : File} {w : World} (x : Sym) → w.c.pos < length F → get_or F w.c.pos 0 ≡ x
-    → {b : World} {s : State} → Rep F b w s → s.rest ≡ x ∷ from F (w.c.pos + 1)
-head {F} {w} x h e r = r.rest ∙ rest_cons F w.c.pos h ∙ ap (λ (y : Sym). y ∷ from F (w.c.pos + 1)) e
+-- what is left one token on
+abbrev behind : World → List Sym
+behind w = from (file w) (w.c.pos + 1)
 
 -- the cursor one token on
 on_past : {w w' : World} → Onward w w' → Onward w (past w w')
-on_past o = record { ahead = omega arith; ev = o.ev; dm = o.dm; ds = o.ds }
+on_past o = record { ahead = omega arith; tokens = o.tokens; slices = o.slices }
+
+behind_is : {w w' : World} → Onward w w' → remaining (past w w') ≡ behind w
+behind_is {w} o = ap (λ l. from l.now (w.c.pos + 1)) o.slices.kinds
+
+step_on : {b : World} (w : World) {w' : World} {s : State} → Onward w w' → s.pos ≡ w.c.pos → Rep b w' s → Rep b (past w w') (one_on (behind w) s)
+step_on w o e z = record {
+  rest = sym (behind_is o);
+  pos = ap (λ i. i + 1) e;
+  evs = z.evs;
+  dgs = z.dgs;
+  events = z.events;
+  messages = z.messages;
+  starts = z.starts;
+}
+
+head : {w : World} (x : Sym) → w.c.pos < length (file w) → get_or (file w) w.c.pos 0 ≡ x → {b : World} {s : State} → Rep b w s → s.rest ≡ x ∷ behind w
+head {w} x h e r = r.rest ∙ rest_cons (file w) w.c.pos h ∙ ap (λ (y : Sym). y ∷ behind w) e
 
 small_here : {l : List Sym} {s : State} → Small (one_on l s) → Small s
 small_here z = record { pos = omega (arith, z.pos); events = z.events; diags = z.diags }
 
-module _ {F : File} {w w' : World} (x : Sym) (h : w.c.pos < length F) (e : get_or F w.c.pos 0 ≡ x) where
-  take_plain : is Syntax.Error x ≡ false → Wrote F (kind x) w w' → Ran F take_token w (past w w')
+module _ {w w' : World} (x : Sym) (h : w.c.pos < length (file w)) (e : get_or (file w) w.c.pos 0 ≡ x) where
+  take_plain : is Syntax.Error x ≡ false → Wrote (kind x) w w' → Ran take_token w (past w w')
   take_plain n p = record {
     sim = λ b s r z.
-        let q = run_plain x (from F (w.c.pos + 1)) s (head {F = F} {w = w} x h e r) n in
-        subst (Rep F b (past w w')) (sym q) (step_on w r.pos (p.sim b s r (small_here (subst Small q z))));
-    rest = take_cons _ _ _ (rest_cons F w.c.pos h);
+        let q = run_plain x (behind w) s (head {w = w} x h e r) n in
+        subst (Rep b (past w w')) (sym q) (step_on w p.onward r.pos (p.sim b s r (small_here (subst Small q z))));
+    rest = take_cons _ _ _ (rest_cons (file w) w.c.pos h) ∙ sym (behind_is p.onward);
     onward = on_past p.onward;
   }
 
-  take_bad : {v : World} → is Syntax.Error x ≡ true → Ran F (Run.err unrecognized) w v → Wrote F (kind x) v w' → Ran F take_token w (past w w')
+  take_bad : {v : World} → is Syntax.Error x ≡ true → Ran (Run.err unrecognized) w v → Wrote (kind x) v w' → Ran take_token w (past w w')
   take_bad n m p = record {
     sim = λ b s r z.
-        let q = run_bad x (from F (w.c.pos + 1)) s (head {F = F} {w = w} x h e r) n in
+        let q = run_bad x (behind w) s (head {w = w} x h e r) n in
         let z₁ = small_here (subst Small q z) in
         let z₂ = subst Small (sym (run_err unrecognized s)) (small_written (kind x) _ z₁) in
-        subst (Rep F b (past w w')) (sym q)
-        (step_on w r.pos (p.sim b (report unrecognized s) (subst (Rep F b _) (run_err unrecognized s) (m.sim b s r z₂)) z₁));
-    rest = take_cons _ _ _ (rest_cons F w.c.pos h);
+        subst (Rep b (past w w')) (sym q)
+        (step_on w (m.onward farther p.onward) r.pos (p.sim b (report unrecognized s) (subst (Rep b _) (run_err unrecognized s) (m.sim b s r z₂)) z₁));
+    rest = take_cons _ _ _ (rest_cons (file w) w.c.pos h) ∙ sym (behind_is (m.onward farther p.onward));
     onward = on_past (m.onward farther p.onward);
   }
 
@@ -198,24 +243,24 @@ module _ (F : File) (p : ℕ) {x : Bool} where
   eof_within e h = leb-false _ _ (eof_is F p ∙ sym e ∙ h)
 
 -- ---- bump
-module _ {F : File} {w w' : World} where
-  pub bump_bad : {v : World} → w.c.pos < length F → get_or F w.c.pos 0 ≡ 1 → Ran F (Run.err unrecognized) w v → Wrote F 60 v w' → Ran F take_token w (past w w')
+module _ {w w' : World} where
+  pub bump_bad : {v : World} → w.c.pos < length (file w) → get_or (file w) w.c.pos 0 ≡ 1 → Ran (Run.err unrecognized) w v → Wrote 60 v w' → Ran take_token w (past w w')
   bump_bad {v} h e m p =
-      let s = get_or F w.c.pos 0 in
-      take_bad s h refl (ap (λ n. eqb 1 n) e) m (subst (λ n. Wrote F n v w') (sym (ap kind e)) p)
+      let s = get_or (file w) w.c.pos 0 in
+      take_bad s h refl (ap (λ n. eqb 1 n) e) m (subst (λ n. Wrote n v w') (sym (ap kind e)) p)
 
-  pub bump_plain : (e : ℕ) → w.c.pos < length F → (get_or F w.c.pos 0 ≡ 1 → ⊥) → e ≡ kind (get_or F w.c.pos 0) → Wrote F e w w' → Ran F take_token w (past w w')
-  bump_plain e h n ee p = take_plain (get_or F w.c.pos 0) h refl (ne_eqb 1 _ (λ z. n (sym z))) (subst (λ n. Wrote F n w w') ee p)
+  pub bump_plain : (e : ℕ) → PlainToken (file w) w.c.pos e → Wrote e w w' → Ran take_token w (past w w')
+  bump_plain e t p = take_plain (get_or (file w) w.c.pos 0) t.within refl (ne_eqb 1 _ (λ z. t.no_error (sym z))) (subst (λ n. Wrote n w w') t.event p)
 
 -- ---- what is left says where the cursor is
 module _ (F : File) where
-  pub left : (p : ℕ) → length (from F p) ≡ length F - p
-  left p = length-drop p F
+  pub tokens_left : (p : ℕ) → length (from F p) ≡ length F - p
+  tokens_left p = length-drop p F
 
-pub past_here : {A : Type 0} {F : File} {f : P A} {w w' : World} → Ran F f w w' → length (f (from F w.c.pos)).rest < length (from F w.c.pos) → Past F w w'
-past_here {F} {w} {w'} h e = record {
-  on = omega (arith, e, ap length h.rest, left F w.c.pos, left F w'.c.pos);
-  within = omega (arith, e, left F w.c.pos);
+pub past_here : {A : Type 0} {f : P A} {w w' : World} → Ran f w w' → length (f (remaining w)).rest < length (remaining w) → Past w w'
+past_here {w} {w'} h e = record {
+  on = omega (arith, e, ap length h.rest, tokens_left (file w) w.c.pos, tokens_left (file w') w'.c.pos, h.onward.tokens);
+  within = omega (arith, e, tokens_left (file w) w.c.pos);
 }
 
 -- ---- lookahead

@@ -1,14 +1,13 @@
 -- What bump_nesting does: it reports a closer that is refused, and hands back the counts. Assumes nothing: these are definitions.
-use Rattle.std.specs.Prelude.{◌≡◌, Bool, List, ℕ, ◌+◌}
-use Rattle.grammar.specs.Words.{Sym, File}
+use Rattle.std.specs.Prelude.{◌≡◌, Bool, ℕ, ◌+◌}
+use Rattle.grammar.specs.Words.{Sym}
 use Rattle.grammar.specs.Run.{P}
 use Rattle.grammar.specs.declared.message.Message.{Message}
 use Rattle.grammar.specs.declared.nesting.Nesting.{Nesting}
 use Rattle.grammar.specs.declared.nesting.Bumped.{Bumped}
 use Rattle.grammar.specs.Bump.{error_here, nop}
 use Rattle.grammar.specs.Nesting.{bump_by, NestingBelow}
-use Rattle.parser.specs.declared.cursor.Cursor.{Cursor}
-use Rattle.parser.specs.Rep.{world, Ran}
+use Rattle.parser.specs.Rep.{World, Ran}
 
 unfoldable pub reported : Bumped → P Bool
 reported (Bumped.Counts n) = nop
@@ -19,8 +18,8 @@ counts n (Bumped.Counts n') = n'
 counts n (Bumped.Refused c) = n
 
 -- the contract: a token of kind k makes of n the counts n'
-pub record BumpNesting (n : Nesting) (k : Sym) (dm ds : List ℕ) (c : Cursor) (dm' ds' : List ℕ) (c' : Cursor) (n' : Nesting) : Type 0 where
-  pub ran : (F : File) (ev : List ℕ) → Ran F (reported (bump_by n k)) (world ev dm ds c) (world ev dm' ds' c')
+pub record BumpNesting (n : Nesting) (k : Sym) (w w' : World) (n' : Nesting) : Type 0 where
+  pub ran : Ran (reported (bump_by n k)) w w'
   pub is : n' ≡ counts n (bump_by n k)
   pub below : (b : ℕ) → NestingBelow b n → NestingBelow (b + 1) n'
-  pub pos : c'.pos ≡ c.pos
+  pub pos : w'.c.pos ≡ w.c.pos

@@ -1,46 +1,52 @@
--- What it means that the code, a cursor and the slices, stands for a state of the definition; and the forms of the contracts over it.
+-- What it means that the code, a parser's slices and a cursor, stands for a state of the definition; and the forms of the contracts over it.
 -- Assumes nothing: these are definitions.
 use Rattle.std.specs.Prelude.{◌≡◌, List, map, ℕ, ◌+◌, ◌≤◌, ◌<◌, ◌^◌, length, get_or}
 use Rattle.std.specs.Borrow.{MutBor}
 use denote.Triple.Both.{Both}
 use Rattle.room.specs.Over.{over}
 use Rattle.lexer.specs.Syntax
-use Rattle.grammar.specs.Words.{File, from}
+use Rattle.grammar.specs.Words.{Sym, File, from}
 use Rattle.grammar.specs.Run.{P, take_token}
 use Rattle.grammar.specs.Run
 use Rattle.grammar.specs.Out.{kind}
 use Rattle.grammar.specs.State.{State, run, write}
 use Rattle.parser.specs.declared.cursor.Cursor.{Cursor}
+use Rattle.parser.specs.declared.state.Parser.{Parser}
 
--- the slices of events, messages and token indices, and the cursor
+-- the parser's slices, and the cursor
 pub record World : Type 0 where
-  pub ev : List ℕ
-  pub dm : List ℕ
-  pub ds : List ℕ
+  pub p : Parser
   pub c : Cursor
 
-abbrev pub world : List ℕ → List ℕ → List ℕ → Cursor → World
-world ev dm ds c = record { ev = ev; dm = dm; ds = ds; c = c }
+abbrev pub world : Parser → Cursor → World
+world p c = record { p = p; c = c }
 
 -- in a contract: the world at entry, and at exit
 abbrev pub Lent : Type 0
-Lent = Both (MutBor (List ℕ)) (MutBor (List ℕ))
+Lent = Both (MutBor Parser) (MutBor Parser)
 
-abbrev pub entry : Lent → Lent → Lent → Cursor → World
-entry ev dm ds c = world ev.entry.now dm.entry.now ds.entry.now c
+abbrev pub entry : Lent → Cursor → World
+entry p c = world p.entry.now c
 
-abbrev pub exit : Lent → Lent → Lent → Cursor → World
-exit ev dm ds c = world ev.exit.now dm.exit.now ds.exit.now c
+abbrev pub exit : Lent → Cursor → World
+exit p c = world p.exit.now c
 
--- w stands for s in the file F: what s wrote stands over what b's slices hold, as far as each goes
-pub record Rep (F : File) (b w : World) (s : State) : Type 0 where
-  pub rest : s.rest ≡ from F w.c.pos
+-- all tokens, and those from the cursor on
+abbrev pub file : World → File
+file w = w.p.kinds.now
+
+abbrev pub remaining : World → List Sym
+remaining w = from (file w) w.c.pos
+
+-- w stands for s: what s wrote stands over what b's slices hold, as far as each goes
+pub record Rep (b w : World) (s : State) : Type 0 where
+  pub rest : s.rest ≡ remaining w
   pub pos : s.pos ≡ w.c.pos
-  pub events : length s.evs ≡ w.c.events
-  pub diags : length s.dgs ≡ w.c.diags
-  pub ev : w.ev ≡ over b.ev 0 s.evs
-  pub dm : w.dm ≡ over b.dm 0 (map (λ d. d.msg) s.dgs)
-  pub ds : w.ds ≡ over b.ds 0 (map (λ d. d.pos) s.dgs)
+  pub evs : length s.evs ≡ w.c.events
+  pub dgs : length s.dgs ≡ w.c.diags
+  pub events : w.p.events.now ≡ over b.p.events.now 0 s.evs
+  pub messages : w.p.messages.now ≡ over b.p.messages.now 0 (map (λ d. d.msg) s.dgs)
+  pub starts : w.p.starts.now ≡ over b.p.starts.now 0 (map (λ d. d.pos) s.dgs)
 
 -- the numbers of s fit the code's. Every reading's do (`few_events`, `few_diagnostics`), so no function counts what it writes
 pub record Small (s : State) : Type 0 where
@@ -48,43 +54,49 @@ pub record Small (s : State) : Type 0 where
   pub events : length s.evs < 2 ^ 64
   pub diags : length s.dgs < 2 ^ 64
 
--- w' is not before w, and its slices are as long
+-- q has the slices of p, and each is as long
+pub record SameSlices (p q : Parser) : Type 0 where
+  pub kinds : q.kinds ≡ p.kinds
+  pub events : q.events.ghost_name ≡ p.events.ghost_name
+  pub messages : q.messages.ghost_name ≡ p.messages.ghost_name
+  pub starts : q.starts.ghost_name ≡ p.starts.ghost_name
+  pub event_room : length q.events.now ≡ length p.events.now
+  pub message_room : length q.messages.now ≡ length p.messages.now
+  pub start_room : length q.starts.now ≡ length p.starts.now
+
+-- w' is not before w, in the same slices
 pub record Onward (w w' : World) : Type 0 where
   pub ahead : w.c.pos ≤ w'.c.pos
-  pub ev : length w'.ev ≡ length w.ev
-  pub dm : length w'.dm ≡ length w.dm
-  pub ds : length w'.ds ≡ length w.ds
+  pub tokens : length (file w') ≡ length (file w)
+  pub slices : SameSlices w.p w'.p
 
 -- there is a token at w, and it is taken before w'
-pub record Past (F : File) (w w' : World) : Type 0 where
+pub record Past (w w' : World) : Type 0 where
   pub on : w.c.pos < w'.c.pos
-  pub within : w.c.pos < length F
+  pub within : w.c.pos < length (file w)
 
 -- the code goes from w to w' as an event is written
-pub record Wrote (F : File) (v : ℕ) (w w' : World) : Type 0 where
-  pub sim : (b : World) (s : State) → Rep F b w s → Small (write v s) → Rep F b w' (write v s)
+pub record Wrote (v : ℕ) (w w' : World) : Type 0 where
+  pub sim : (b : World) (s : State) → Rep b w s → Small (write v s) → Rep b w' (write v s)
+  pub rest : remaining w' ≡ remaining w
   pub pos : w'.c.pos ≡ w.c.pos
   pub onward : Onward w w'
 
 -- the code goes from w to w' as f does
-pub record Ran {A : Type 0} (F : File) (f : P A) (w w' : World) : Type 0 where
-  pub sim : (b : World) (s : State) → Rep F b w s → Small (run f s) → Rep F b w' (run f s)
-  pub rest : (f (from F w.c.pos)).rest ≡ from F w'.c.pos
+pub record Ran {A : Type 0} (f : P A) (w w' : World) : Type 0 where
+  pub sim : (b : World) (s : State) → Rep b w s → Small (run f s) → Rep b w' (run f s)
+  pub rest : (f (remaining w)).rest ≡ remaining w'
   pub onward : Onward w w'
 
 -- the same, and it answers r as f does
-pub record RanTo {A : Type 0} (F : File) (f : P A) (w w' : World) (r : A) : Type 0 where
-  pub ran : Ran F f w w'
-  pub val : (f (from F w.c.pos)).val ≡ r
+pub record RanTo {A : Type 0} (f : P A) (w w' : World) (r : A) : Type 0 where
+  pub ran : Ran f w w'
+  pub val : (f (remaining w)).val ≡ r
 
--- ---- the contracts of functions that are lent fewer slices, or say more
-pub record Put (v : ℕ) (ev : List ℕ) (c : Cursor) (ev' : List ℕ) (c' : Cursor) : Type 0 where
-  pub wrote : (F : File) (dm ds : List ℕ) → Wrote F v (world ev dm ds c) (world ev' dm ds c')
-  pub pos : c'.pos ≡ c.pos
-
-pub record ErrorHere (m : ℕ) (dm ds : List ℕ) (c : Cursor) (dm' ds' : List ℕ) (c' : Cursor) : Type 0 where
-  pub ran : (F : File) (ev : List ℕ) → Ran F (Run.err m) (world ev dm ds c) (world ev dm' ds' c')
-  pub pos : c'.pos ≡ c.pos
+-- ---- the contracts of functions that say more
+pub record ErrorHere (m : ℕ) (w w' : World) : Type 0 where
+  pub ran : Ran (Run.err m) w w'
+  pub pos : w'.c.pos ≡ w.c.pos
 
 -- the token at p is not Error, and its event is v
 pub record PlainToken (F : File) (p v : ℕ) : Type 0 where
@@ -92,14 +104,6 @@ pub record PlainToken (F : File) (p v : ℕ) : Type 0 where
   pub no_error : get_or F p 0 ≡ Syntax.Error → ⊥
   pub event : v ≡ kind (get_or F p 0)
 
-pub record Bump (F : File) (w w' : World) : Type 0 where
-  pub ran : Ran F take_token w w'
-  pub moved : w.c.pos < length F → w'.c.pos ≡ w.c.pos + 1
-
--- a token whose event is all that is written
-pub record BumpPlain (F : File) (ev : List ℕ) (c : Cursor) (ev' : List ℕ) (c' : Cursor) : Type 0 where
-  pub bumped : (dm ds : List ℕ) → Bump F (world ev dm ds c) (world ev' dm ds c')
-
--- a run of tokens whose events are all that is written
-pub record BumpWhile {A : Type 0} (F : File) (f : P A) (ev : List ℕ) (c : Cursor) (ev' : List ℕ) (c' : Cursor) : Type 0 where
-  pub ran : (dm ds : List ℕ) → Ran F f (world ev dm ds c) (world ev' dm ds c')
+pub record Bump (w w' : World) : Type 0 where
+  pub ran : Ran take_token w w'
+  pub moved : w.c.pos < length (file w) → w'.c.pos ≡ w.c.pos + 1

@@ -6,160 +6,107 @@ ghost use Rattle.grammar.specs.Look.{at, regular_trivia, non_comment_trivia};
 ghost use Rattle.grammar.specs.Run.{when◌then◌else◌, take_token};
 ghost use Rattle.grammar.specs.Bump.{nop, bump_while, expect_kind, expect_name, error_token};
 ghost use Rattle.parser.specs.Sets.{trivia_to};
-ghost use Rattle.parser.specs.Rep.{entry, exit, Ran, RanTo, BumpWhile};
+ghost use Rattle.parser.specs.Rep.{entry, exit, Ran, RanTo};
 
-use crate::cursor::{Cursor, Flow, bump, bump_plain, error_here, put};
+use crate::cursor::{Cursor, Flow};
 use crate::kinds::{
     NON_COMMENT_TRIVIA, REGULAR_TRIVIA, SPACE, is_name_like, is_regular_trivia, is_trivia_to,
 };
-use crate::look::{at_kind, current};
+use crate::state::Parser;
 use grammar::event::CLOSE;
 use grammar::message::Message;
 use lexer::syntax::ERROR;
 
-// while the token is trivia up to `last` { bump }. Each such kind is its own event, and `current` past the last token, 0, is none.
-fn bump_while(kinds: &[u16], ev: &mut [u16], c0: Cursor, last: u16) -> Cursor
-    requires { last < MARK }
-    ensures { BumpWhile kinds.now (bump_while (trivia_to last)) ev.old c0 ev.new result }
-{
-    let mut c = c0;
-    while is_trivia_to(last, current(kinds, c.pos)) {
-        let k = current(kinds, c.pos);
-        c = bump_plain(kinds, ev, c, k);
+impl Parser<'_> {
+    // while the token is trivia up to `last` { bump }. Each such kind is its own event, and `current` past the last token, 0, is none.
+    fn bump_while(&mut self, c0: Cursor, last: u16) -> Cursor
+        requires { last < MARK }
+        ensures { Ran (bump_while (trivia_to last)) (entry self c0) (exit self result) }
+    {
+        let mut c = c0;
+        while is_trivia_to(last, self.current(c.pos)) {
+            let k = self.current(c.pos);
+            c = self.bump_plain(c, k);
+        }
+        c
     }
-    c
-}
 
-pub fn bump_regular_trivia(
-    kinds: &[u16],
-    ev: &mut [u16],
-    dm: &mut [u16],
-    ds: &mut [u32],
-    c0: Cursor,
-) -> Cursor
-    ensures { Ran kinds.now (bump_while regular_trivia) (entry ev dm ds c0) (exit ev dm ds result) }
-{
-    bump_while(kinds, ev, c0, REGULAR_TRIVIA)
-}
-
-pub fn bump_non_comment_trivia(
-    kinds: &[u16],
-    ev: &mut [u16],
-    dm: &mut [u16],
-    ds: &mut [u32],
-    c0: Cursor,
-) -> Cursor
-    ensures { Ran kinds.now (bump_while non_comment_trivia) (entry ev dm ds c0) (exit ev dm ds result) }
-{
-    bump_while(kinds, ev, c0, NON_COMMENT_TRIVIA)
-}
-
-pub fn bump_inline_whitespace(
-    kinds: &[u16],
-    ev: &mut [u16],
-    dm: &mut [u16],
-    ds: &mut [u32],
-    c0: Cursor,
-) -> Cursor
-    ensures { Ran kinds.now (bump_while (is Whitespace)) (entry ev dm ds c0) (exit ev dm ds result) }
-{
-    bump_while(kinds, ev, c0, SPACE)
-}
-
-// Whether the token here is of kind k, and k is not trivia.
-fn stands_here(kinds: &[u16], p: usize, k: u16) -> bool
-    ensures { result ≡ true → (at (is k) (drop p kinds.now) ≡ true) × (regular_trivia k ≡ false) }
-{
-    at_kind(kinds, p, k) && !is_regular_trivia(k)
-}
-
-// expect_kind where trivia may stand before the token.
-fn expect_behind(
-    kinds: &[u16],
-    ev: &mut [u16],
-    dm: &mut [u16],
-    ds: &mut [u32],
-    c0: Cursor,
-    k: u16,
-    m: Message,
-) -> Flow
-    ensures { RanTo kinds.now (expect_kind k m) (entry ev dm ds c0) (exit ev dm ds result.c) result.ok }
-{
-    let c = bump_regular_trivia(kinds, ev, dm, ds, c0);
-    if at_kind(kinds, c.pos, k) {
-        let d = bump(kinds, ev, dm, ds, c);
-        return Flow { c: d, ok: true };
+    pub fn bump_regular_trivia(&mut self, c0: Cursor) -> Cursor
+        ensures { Ran (bump_while regular_trivia) (entry self c0) (exit self result) }
+    {
+        self.bump_while(c0, REGULAR_TRIVIA)
     }
-    let d = error_here(dm, ds, c, m);
-    Flow { c: d, ok: false }
-}
 
-// expect_kind and expect_keyword. Mostly the token is here.
-pub fn expect_kind(
-    kinds: &[u16],
-    ev: &mut [u16],
-    dm: &mut [u16],
-    ds: &mut [u32],
-    c0: Cursor,
-    k: u16,
-    m: Message,
-) -> Flow
-    ensures { RanTo kinds.now (expect_kind k m) (entry ev dm ds c0) (exit ev dm ds result.c) result.ok }
-{
-    if stands_here(kinds, c0.pos, k) {
-        let d = bump(kinds, ev, dm, ds, c0);
-        return Flow { c: d, ok: true };
+    pub fn bump_non_comment_trivia(&mut self, c0: Cursor) -> Cursor
+        ensures { Ran (bump_while non_comment_trivia) (entry self c0) (exit self result) }
+    {
+        self.bump_while(c0, NON_COMMENT_TRIVIA)
     }
-    expect_behind(kinds, ev, dm, ds, c0, k, m)
-}
 
-// A name, or a diagnostic.
-pub fn expect_name(
-    kinds: &[u16],
-    ev: &mut [u16],
-    dm: &mut [u16],
-    ds: &mut [u32],
-    c0: Cursor,
-    m: Message,
-) -> Cursor
-    ensures { Ran kinds.now (expect_name m) (entry ev dm ds c0) (exit ev dm ds result) }
-{
-    if is_name_like(current(kinds, c0.pos)) {
-        return bump(kinds, ev, dm, ds, c0);
+    pub fn bump_inline_whitespace(&mut self, c0: Cursor) -> Cursor
+        ensures { Ran (bump_while (is Whitespace)) (entry self c0) (exit self result) }
+    {
+        self.bump_while(c0, SPACE)
     }
-    error_here(dm, ds, c0, m)
-}
 
-// An Error node around one token, with a diagnostic.
-pub fn error_token(
-    kinds: &[u16],
-    ev: &mut [u16],
-    dm: &mut [u16],
-    ds: &mut [u32],
-    c0: Cursor,
-    m: Message,
-) -> Cursor
-    ensures { Ran kinds.now (error_token m) (entry ev dm ds c0) (exit ev dm ds result) }
-{
-    let a = put(ev, c0, ERROR);
-    let b = error_here(dm, ds, a, m);
-    let d = bump(kinds, ev, dm, ds, b);
-    put(ev, d, CLOSE)
-}
-
-// if at_kind(k) { bump }
-pub fn bump_at(
-    kinds: &[u16],
-    ev: &mut [u16],
-    dm: &mut [u16],
-    ds: &mut [u32],
-    c0: Cursor,
-    k: u16,
-) -> Cursor
-    ensures { Ran kinds.now (when at (is k) then take_token else nop) (entry ev dm ds c0) (exit ev dm ds result) }
-{
-    if at_kind(kinds, c0.pos, k) {
-        return bump(kinds, ev, dm, ds, c0);
+    // Whether the token here is of kind k, and k is not trivia.
+    fn stands_here(&self, p: usize, k: u16) -> bool
+        ensures { result ≡ true → (at (is k) (drop p self.now.kinds.now) ≡ true) × (regular_trivia k ≡ false) }
+    {
+        self.at_kind(p, k) && !is_regular_trivia(k)
     }
-    c0
+
+    // expect_kind where trivia may stand before the token.
+    fn expect_behind(&mut self, c0: Cursor, k: u16, m: Message) -> Flow
+        ensures { RanTo (expect_kind k m) (entry self c0) (exit self result.c) result.ok }
+    {
+        let c = self.bump_regular_trivia(c0);
+        if self.at_kind(c.pos, k) {
+            let d = self.bump(c);
+            return Flow { c: d, ok: true };
+        }
+        let d = self.error_here(c, m);
+        Flow { c: d, ok: false }
+    }
+
+    // expect_kind and expect_keyword. Mostly the token is here.
+    pub fn expect_kind(&mut self, c0: Cursor, k: u16, m: Message) -> Flow
+        ensures { RanTo (expect_kind k m) (entry self c0) (exit self result.c) result.ok }
+    {
+        if self.stands_here(c0.pos, k) {
+            let d = self.bump(c0);
+            return Flow { c: d, ok: true };
+        }
+        self.expect_behind(c0, k, m)
+    }
+
+    // A name, or a diagnostic.
+    pub fn expect_name(&mut self, c0: Cursor, m: Message) -> Cursor
+        ensures { Ran (expect_name m) (entry self c0) (exit self result) }
+    {
+        if is_name_like(self.current(c0.pos)) {
+            return self.bump(c0);
+        }
+        self.error_here(c0, m)
+    }
+
+    // An Error node around one token, with a diagnostic.
+    pub fn error_token(&mut self, c0: Cursor, m: Message) -> Cursor
+        ensures { Ran (error_token m) (entry self c0) (exit self result) }
+    {
+        let a = self.put(c0, ERROR);
+        let b = self.error_here(a, m);
+        let d = self.bump(b);
+        self.put(d, CLOSE)
+    }
+
+    // if at_kind(k) { bump }
+    pub fn bump_at(&mut self, c0: Cursor, k: u16) -> Cursor
+        ensures { Ran (when at (is k) then take_token else nop) (entry self c0) (exit self result) }
+    {
+        if self.at_kind(c0.pos, k) {
+            return self.bump(c0);
+        }
+        c0
+    }
 }

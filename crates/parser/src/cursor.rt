@@ -2,8 +2,9 @@
 ghost use Rattle.std.specs.Prelude.{◌≡◌, ◌+◌, ◌<◌, ◌^◌};
 ghost use Rattle.grammar.specs.Message.{number as number_of};
 ghost use Rattle.grammar.specs.Out.{kind};
-ghost use Rattle.parser.specs.Rep.{entry, exit, Put, ErrorHere, PlainToken, Bump, BumpPlain};
+ghost use Rattle.parser.specs.Rep.{entry, exit, Wrote, ErrorHere, PlainToken, Bump};
 
+use crate::state::Parser;
 use grammar::event::ERROR_TOKEN;
 use grammar::message::{Message, number};
 use grammar::words::MARK;
@@ -41,31 +42,33 @@ fn low_half(n: usize) -> u32
     (n % 0x1_0000_0000) as u32
 }
 
-// start_node, finish_node and the event of a token
-pub fn put(ev: &mut [u16], c: Cursor, v: u16) -> Cursor
-    ensures { Put v ev.old c ev.new result }
-{
-    let e = c.events;
-    set_u16(ev, e, v);
-    Cursor {
-        pos: c.pos,
-        events: one_more(e),
-        diags: c.diags,
+impl Parser<'_> {
+    // start_node, finish_node and the event of a token
+    pub fn put(&mut self, c: Cursor, v: u16) -> Cursor
+        ensures { Wrote v (entry self c) (exit self result) }
+    {
+        let e = c.events;
+        set_u16(self.events, e, v);
+        Cursor {
+            pos: c.pos,
+            events: one_more(e),
+            diags: c.diags,
+        }
     }
-}
 
-// The message, and the index of the token here; past the last token, their number. error_at_eof is the same at the end.
-pub fn error_here(dm: &mut [u16], ds: &mut [u32], c: Cursor, m: Message) -> Cursor
-    ensures { ErrorHere (number_of m) dm.old ds.old c dm.new ds.new result }
-{
-    let d = c.diags;
-    let p = c.pos;
-    set_u16(dm, d, number(m));
-    set_u32(ds, d, low_half(p));
-    Cursor {
-        pos: p,
-        events: c.events,
-        diags: one_more(d),
+    // The message, and the index of the token here; past the last token, their number. error_at_eof is the same at the end.
+    pub fn error_here(&mut self, c: Cursor, m: Message) -> Cursor
+        ensures { ErrorHere (number_of m) (entry self c) (exit self result) }
+    {
+        let d = c.diags;
+        let p = c.pos;
+        set_u16(self.messages, d, number(m));
+        set_u32(self.starts, d, low_half(p));
+        Cursor {
+            pos: p,
+            events: c.events,
+            diags: one_more(d),
+        }
     }
 }
 
@@ -82,37 +85,39 @@ fn event_of(k: u16) -> u16
     IDENT
 }
 
-// bump at a token that is not Error, and whose event is v.
-pub fn bump_plain(kinds: &[u16], ev: &mut [u16], c: Cursor, v: u16) -> Cursor
-    requires { PlainToken kinds.now c.pos v }
-    ensures { BumpPlain kinds.now ev.old c ev.new result }
-{
-    let next = c.pos + 1;
-    let b = put(ev, c, v);
-    Cursor {
-        pos: next,
-        events: b.events,
-        diags: b.diags,
-    }
-}
-
-pub fn bump(kinds: &[u16], ev: &mut [u16], dm: &mut [u16], ds: &mut [u32], c: Cursor) -> Cursor
-    ensures { Bump kinds.now (entry ev dm ds c) (exit ev dm ds result) }
-{
-    let p = c.pos;
-    if p < kinds.len() {
-        let k = kinds[p];
-        let next = p + 1;
-        if k == ERROR {
-            let a = error_here(dm, ds, c, Message::UnrecognizedToken);
-            let b = put(ev, a, ERROR_TOKEN);
-            return Cursor {
-                pos: next,
-                events: b.events,
-                diags: b.diags,
-            };
+impl Parser<'_> {
+    // bump at a token that is not Error, and whose event is v.
+    pub fn bump_plain(&mut self, c: Cursor, v: u16) -> Cursor
+        requires { PlainToken self.old.kinds.now c.pos v }
+        ensures { Bump (entry self c) (exit self result) }
+    {
+        let next = c.pos + 1;
+        let b = self.put(c, v);
+        Cursor {
+            pos: next,
+            events: b.events,
+            diags: b.diags,
         }
-        return bump_plain(kinds, ev, c, event_of(k));
     }
-    c
+
+    pub fn bump(&mut self, c: Cursor) -> Cursor
+        ensures { Bump (entry self c) (exit self result) }
+    {
+        let p = c.pos;
+        if p < self.kinds.len() {
+            let k = self.kinds[p];
+            let next = p + 1;
+            if k == ERROR {
+                let a = self.error_here(c, Message::UnrecognizedToken);
+                let b = self.put(a, ERROR_TOKEN);
+                return Cursor {
+                    pos: next,
+                    events: b.events,
+                    diags: b.diags,
+                };
+            }
+            return self.bump_plain(c, event_of(k));
+        }
+        c
+    }
 }

@@ -7,3 +7,4 @@ pub mod kinds;
 pub mod look;
 pub mod nest;
 pub mod sets;
+pub mod state;

@@ -15,6 +15,7 @@ use crate::kinds::{
     NON_COMMENT_TRIVIA, REGULAR_TRIVIA, SPACE, TRIVIA, in_words, is_trivia_to, starts_item,
 };
 use crate::sets::DECLARED;
+use crate::state::Parser;
 use grammar::block::Terminators;
 use grammar::words::{ELSE, END, PUB, WHILE};
 use lexer::syntax::{DOT, L_PAREN, R_PAREN};
@@ -26,176 +27,174 @@ pub struct Remembered {
     pub starts: bool,
 }
 
-pub fn eof(kinds: &[u16], p: usize) -> bool
-    ensures { result ≡ eof_of (drop p kinds.now) }
-{
-    kinds.len() <= p
-}
-
-// The token here; past the last one, a number that no token has.
-pub fn current(kinds: &[u16], p: usize) -> u16
-    ensures { result ≡ current_of (drop p kinds.now) }
-{
-    if p < kinds.len() {
-        return kinds[p];
+impl Parser<'_> {
+    pub fn eof(&self, p: usize) -> bool
+        ensures { result ≡ eof_of (drop p self.now.kinds.now) }
+    {
+        self.kinds.len() <= p
     }
-    0
-}
 
-// A plain kind, or an Ident that is a word.
-pub fn at_kind(kinds: &[u16], p: usize, k: u16) -> bool
-    ensures { result ≡ at (is k) (drop p kinds.now) }
-{
-    if p < kinds.len() {
-        return k == kinds[p];
-    }
-    false
-}
-
-// The first token from p on that is not trivia up to `last`.
-pub fn skip(kinds: &[u16], last: u16, p: usize) -> usize
-    ensures { Found kinds.now p result (skip_of (trivia_to last) (drop p kinds.now)) }
-{
-    let mut i = p;
-    while i < kinds.len() {
-        if !is_trivia_to(last, kinds[i]) {
-            return i;
+    // The token here; past the last one, a number that no token has.
+    pub fn current(&self, p: usize) -> u16
+        ensures { result ≡ current_of (drop p self.now.kinds.now) }
+    {
+        if p < self.kinds.len() {
+            return self.kinds[p];
         }
-        i += 1;
+        0
     }
-    i
-}
 
-pub fn next_relevant_top_level_token(kinds: &[u16], p: usize) -> usize
-    ensures { Found kinds.now p result (skip_of regular_trivia (drop p kinds.now)) }
-{
-    skip(kinds, REGULAR_TRIVIA, p)
-}
-
-pub fn next_relevant_block_token(kinds: &[u16], p: usize) -> usize
-    ensures { Found kinds.now p result (skip_of is_trivia (drop p kinds.now)) }
-{
-    skip(kinds, TRIVIA, p)
-}
-
-pub fn peek_after_inline_whitespace(kinds: &[u16], p: usize) -> usize
-    ensures { Found kinds.now p result (skip_of (is Whitespace) (drop p kinds.now)) }
-{
-    skip(kinds, SPACE, p)
-}
-
-pub fn peek_after_non_comment_trivia(kinds: &[u16], p: usize) -> usize
-    ensures { Found kinds.now p result (skip_of non_comment_trivia (drop p kinds.now)) }
-{
-    skip(kinds, NON_COMMENT_TRIVIA, p)
-}
-
-// Inside the parentheses of a visibility: any one token, the closer, and then the token after it.
-fn after_inside(kinds: &[u16], p: usize) -> usize
-    ensures { Found kinds.now p result (skip_of regular_trivia
-        (past (is RParen) (skip_of regular_trivia (past anyone (drop p kinds.now))))) }
-{
-    if kinds.len() <= p {
-        return p;
+    // A plain kind, or an Ident that is a word.
+    pub fn at_kind(&self, p: usize, k: u16) -> bool
+        ensures { result ≡ at (is k) (drop p self.now.kinds.now) }
+    {
+        if p < self.kinds.len() {
+            return k == self.kinds[p];
+        }
+        false
     }
-    let closer = next_relevant_top_level_token(kinds, p + 1);
-    if !at_kind(kinds, closer, R_PAREN) {
-        return kinds.len();
-    }
-    next_relevant_top_level_token(kinds, closer + 1)
-}
 
-// Of the list behind `pub`, which starts at p.
-pub fn next_token_after_visibility(kinds: &[u16], p: usize) -> usize
-    ensures { Found kinds.now p result (after_visibility (drop p kinds.now)) }
-{
-    let next = next_relevant_top_level_token(kinds, p);
-    if !at_kind(kinds, next, L_PAREN) {
-        return next;
+    // The first token from p on that is not trivia up to `last`.
+    pub fn skip(&self, last: u16, p: usize) -> usize
+        ensures { Found self.now.kinds.now p result (skip_of (trivia_to last) (drop p self.now.kinds.now)) }
+    {
+        let mut i = p;
+        while i < self.kinds.len() {
+            if !is_trivia_to(last, self.kinds[i]) {
+                return i;
+            }
+            i += 1;
+        }
+        i
     }
-    let inside = next_relevant_top_level_token(kinds, next + 1);
-    after_inside(kinds, inside)
-}
 
-// The token here or, at `pub`, the one behind the visibility: what says which declaration starts here.
-pub fn declared(kinds: &[u16], p: usize) -> u16
-    ensures { result ≡ declared_of (drop p kinds.now) }
-{
-    let k = current(kinds, p);
-    if k == PUB {
-        return current(kinds, next_token_after_visibility(kinds, p + 1));
+    pub fn next_relevant_top_level_token(&self, p: usize) -> usize
+        ensures { Found self.now.kinds.now p result (skip_of regular_trivia (drop p self.now.kinds.now)) }
+    {
+        self.skip(REGULAR_TRIVIA, p)
     }
-    k
-}
 
-pub fn is_top_level_starter(kinds: &[u16], p: usize) -> bool
-    ensures { result ≡ starter_of (drop p kinds.now) }
-{
-    let k = current(kinds, p);
-    if k == PUB {
-        return in_words(DECLARED, declared(kinds, p));
+    pub fn next_relevant_block_token(&self, p: usize) -> usize
+        ensures { Found self.now.kinds.now p result (skip_of is_trivia (drop p self.now.kinds.now)) }
+    {
+        self.skip(TRIVIA, p)
     }
-    starts_item(k)
-}
 
-pub fn at_bare_while(kinds: &[u16], p: usize) -> bool
-    ensures { result ≡ bare_while (drop p kinds.now) }
-{
-    at_kind(kinds, p, WHILE) && !at_kind(kinds, p + 1, DOT)
-}
+    pub fn peek_after_inline_whitespace(&self, p: usize) -> usize
+        ensures { Found self.now.kinds.now p result (skip_of (is Whitespace) (drop p self.now.kinds.now)) }
+    {
+        self.skip(SPACE, p)
+    }
 
-pub fn at_terminator(kinds: &[u16], p: usize, terminators: Terminators) -> bool
-    ensures { result ≡ at_terminator terminators (drop p kinds.now) }
-{
-    match terminators {
-        Terminators::End => at_kind(kinds, p, END),
-        Terminators::ElseEnd => at_kind(kinds, p, ELSE) || at_kind(kinds, p, END),
-        Terminators::While => at_bare_while(kinds, p),
+    pub fn peek_after_non_comment_trivia(&self, p: usize) -> usize
+        ensures { Found self.now.kinds.now p result (skip_of non_comment_trivia (drop p self.now.kinds.now)) }
+    {
+        self.skip(NON_COMMENT_TRIVIA, p)
     }
-}
 
-// block_recovery_boundary's test for `else`
-pub fn at_stray_else(kinds: &[u16], p: usize, terminators: Terminators) -> bool
-    ensures { result ≡ stray_else terminators (drop p kinds.now) }
-{
-    match terminators {
-        Terminators::End => at_kind(kinds, p, ELSE),
-        Terminators::ElseEnd => false,
-        Terminators::While => at_kind(kinds, p, ELSE),
+    // Inside the parentheses of a visibility: any one token, the closer, and then the token after it.
+    fn after_inside(&self, p: usize) -> usize
+        ensures { Found self.now.kinds.now p result (skip_of regular_trivia
+            (past (is RParen) (skip_of regular_trivia (past anyone (drop p self.now.kinds.now))))) }
+    {
+        if self.kinds.len() <= p {
+            return p;
+        }
+        let closer = self.next_relevant_top_level_token(p + 1);
+        if !self.at_kind(closer, R_PAREN) {
+            return self.kinds.len();
+        }
+        self.next_relevant_top_level_token(closer + 1)
     }
-}
 
-// At a newline. A run of trivia is looked through once: what is known is handed back.
-pub fn line_break_starts_new_top_level_item(
-    kinds: &[u16],
-    p: usize,
-    known: Remembered,
-) -> Remembered
-    requires { (at (is Newline) (drop p kinds.now) ≡ true) × BreakKnown kinds.now p known }
-    ensures { (result.starts ≡ line_break_starts (drop p kinds.now)) × BreakKnown kinds.now p result }
-{
-    if p < known.next {
-        return known;
+    // Of the list behind `pub`, which starts at p.
+    pub fn next_token_after_visibility(&self, p: usize) -> usize
+        ensures { Found self.now.kinds.now p result (after_visibility (drop p self.now.kinds.now)) }
+    {
+        let next = self.next_relevant_top_level_token(p);
+        if !self.at_kind(next, L_PAREN) {
+            return next;
+        }
+        let inside = self.next_relevant_top_level_token(next + 1);
+        self.after_inside(inside)
     }
-    let next = next_relevant_top_level_token(kinds, p + 1);
-    let starts = eof(kinds, next) || is_top_level_starter(kinds, next);
-    Remembered {
-        next: next,
-        starts: starts,
-    }
-}
 
-// at_top_level_form_starter_in_block at a doc comment, in the same way.
-pub fn starts_behind_doc(kinds: &[u16], p: usize, known: Remembered) -> Remembered
-    requires { (at (is DocComment) (drop p kinds.now) ≡ true) × DocKnown kinds.now p known }
-    ensures { (result.starts ≡ starter_in_block (drop p kinds.now)) × DocKnown kinds.now p result }
-{
-    if p < known.next {
-        return known;
+    // The token here or, at `pub`, the one behind the visibility: what says which declaration starts here.
+    pub fn declared(&self, p: usize) -> u16
+        ensures { result ≡ declared_of (drop p self.now.kinds.now) }
+    {
+        let k = self.current(p);
+        if k == PUB {
+            return self.current(self.next_token_after_visibility(p + 1));
+        }
+        k
     }
-    let next = next_relevant_block_token(kinds, p + 1);
-    Remembered {
-        next: next,
-        starts: is_top_level_starter(kinds, next),
+
+    pub fn is_top_level_starter(&self, p: usize) -> bool
+        ensures { result ≡ starter_of (drop p self.now.kinds.now) }
+    {
+        let k = self.current(p);
+        if k == PUB {
+            return in_words(DECLARED, self.declared(p));
+        }
+        starts_item(k)
+    }
+
+    pub fn at_bare_while(&self, p: usize) -> bool
+        ensures { result ≡ bare_while (drop p self.now.kinds.now) }
+    {
+        self.at_kind(p, WHILE) && !self.at_kind(p + 1, DOT)
+    }
+
+    pub fn at_terminator(&self, p: usize, terminators: Terminators) -> bool
+        ensures { result ≡ at_terminator terminators (drop p self.now.kinds.now) }
+    {
+        match terminators {
+            Terminators::End => self.at_kind(p, END),
+            Terminators::ElseEnd => self.at_kind(p, ELSE) || self.at_kind(p, END),
+            Terminators::While => self.at_bare_while(p),
+        }
+    }
+
+    // block_recovery_boundary's test for `else`
+    pub fn at_stray_else(&self, p: usize, terminators: Terminators) -> bool
+        ensures { result ≡ stray_else terminators (drop p self.now.kinds.now) }
+    {
+        match terminators {
+            Terminators::End => self.at_kind(p, ELSE),
+            Terminators::ElseEnd => false,
+            Terminators::While => self.at_kind(p, ELSE),
+        }
+    }
+
+    // At a newline. A run of trivia is looked through once: what is known is handed back.
+    pub fn line_break_starts_new_top_level_item(&self, p: usize, known: Remembered) -> Remembered
+        requires { (at (is Newline) (drop p self.now.kinds.now) ≡ true) × BreakKnown self.now.kinds.now p known }
+        ensures { (result.starts ≡ line_break_starts (drop p self.now.kinds.now)) × BreakKnown self.now.kinds.now p result }
+    {
+        if p < known.next {
+            return known;
+        }
+        let next = self.next_relevant_top_level_token(p + 1);
+        let starts = self.eof(next) || self.is_top_level_starter(next);
+        Remembered {
+            next: next,
+            starts: starts,
+        }
+    }
+
+    // at_top_level_form_starter_in_block at a doc comment, in the same way.
+    pub fn starts_behind_doc(&self, p: usize, known: Remembered) -> Remembered
+        requires { (at (is DocComment) (drop p self.now.kinds.now) ≡ true) × DocKnown self.now.kinds.now p known }
+        ensures { (result.starts ≡ starter_in_block (drop p self.now.kinds.now)) × DocKnown self.now.kinds.now p result }
+    {
+        if p < known.next {
+            return known;
+        }
+        let next = self.next_relevant_block_token(p + 1);
+        Remembered {
+            next: next,
+            starts: self.is_top_level_starter(next),
+        }
     }
 }

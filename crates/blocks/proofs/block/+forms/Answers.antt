@@ -43,7 +43,7 @@ block_from-returns-then-f t c =
     let form = deeper c.args.start.place.depth c.parse_control_flow-f.ensures.ran in
     let rest = bind_to _ form (on_to _ c.if-f.true (gives c.ended_file.ensures.1)) in
     let inside = here.on _ _ (round c.args.start.place.owner c.args.start.place.terminators c.args.start.place.depth BlockArm.Control (sym here.arm) refl (off_to _ (lt-leb limit c.args.start.place.depth here.below) rest)) in
-    record { ran = node_to _ begun.wrote inside (c.ended_file.ensures.0.wrote c.args.kinds.now _ _); here = said_no_item c.ended_file.ensures.2 }
+    record { ran = node_to _ begun.wrote inside c.ended_file.ensures.0; here = said_no_item c.ended_file.ensures.2 }
 
 pub block_from-next_rounds-s-requires : goal.block_from-next_rounds-s-requires
 block_from-next_rounds-s-requires t c =

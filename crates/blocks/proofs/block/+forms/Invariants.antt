@@ -1,33 +1,34 @@
 -- What falls is the tokens left; a loop's rounds up to where it began are rounds up to where it is. Assumes nothing.
 use Prim.Native.Nat.{◌+◌, ◌-◌, ◌*◌}
 use lib.ListN.{length}
+use Rattle.parser.specs.Rep.{world}
 use Rattle.blocks.proofs.Laws.{Going}
 use Rattle.blocks.proofs.block.+forms.Given as goal
 
 abbrev pub decreases-block_from : goal.decreases-block_from
-decreases-block_from l = 4 * (length l.kinds.now - l.start.c.pos) + 2
+decreases-block_from l = 4 * (length l.parser.now.kinds.now - l.start.c.pos) + 2
 
 abbrev pub decreases-inner_block : goal.decreases-inner_block
-decreases-inner_block l = 4 * (length l.kinds.now - l.c0.pos) + 3
+decreases-inner_block l = 4 * (length l.parser.now.kinds.now - l.c0.pos) + 3
 
 abbrev pub decreases-parse_control_flow : goal.decreases-parse_control_flow
-decreases-parse_control_flow l = 4 * (length l.kinds.now - l.c0.pos) + 1
+decreases-parse_control_flow l = 4 * (length l.parser.now.kinds.now - l.c0.pos) + 1
 
 abbrev pub decreases-parse_do_while : goal.decreases-parse_do_while
-decreases-parse_do_while l = 4 * (length l.kinds.now - l.c0.pos)
+decreases-parse_do_while l = 4 * (length l.parser.now.kinds.now - l.c0.pos)
 
 abbrev pub decreases-parse_if : goal.decreases-parse_if
-decreases-parse_if l = 4 * (length l.kinds.now - l.c0.pos)
+decreases-parse_if l = 4 * (length l.parser.now.kinds.now - l.c0.pos)
 
 abbrev pub decreases-parse_repeat : goal.decreases-parse_repeat
-decreases-parse_repeat l = 4 * (length l.kinds.now - l.c0.pos)
+decreases-parse_repeat l = 4 * (length l.parser.now.kinds.now - l.c0.pos)
 
 abbrev pub decreases-parse_while : goal.decreases-parse_while
-decreases-parse_while l = 4 * (length l.kinds.now - l.c0.pos)
+decreases-parse_while l = 4 * (length l.parser.now.kinds.now - l.c0.pos)
 
 abbrev pub invariant-block_from-loop-s : goal.invariant-block_from-loop-s
 invariant-block_from-loop-s l =
-    Going l.kinds l.place.owner l.place.terminators l.place.depth l.initial.ev l.initial.dm l.initial.ds l.initial.s l.ev l.dm l.ds l.s
+    Going l.place.owner l.place.terminators l.place.depth (world l.initial.parser l.initial.s.c) l.initial.s (world l.parser l.s.c) l.s
 
 abbrev pub decreases-block_from-loop-s : goal.decreases-block_from-loop-s
-decreases-block_from-loop-s l = length l.kinds - l.s.c.pos
+decreases-block_from-loop-s l = length l.parser.kinds.now - l.s.c.pos

@@ -12,8 +12,8 @@ pub returns-in-Eof : goal.returns-in-Eof
 unfolding block_ending recover
 returns-in-Eof c =
     closed c.in-Eof.is
-    (λ F. c.error_here-a.ensures.ran F _ then_to done_to BlockParseOutcome.ReachedEof)
-    (λ F. c.put-b.ensures.wrote F _ _)
+    (c.error_here-a.ensures.ran then_to done_to BlockParseOutcome.ReachedEof)
+    c.put-b.ensures
     (c.put-b.ensures.pos ∙ c.error_here-a.ensures.pos)
     (λ h. absurd (false≢true h))
 
@@ -21,8 +21,8 @@ pub returns-in-Terminator : goal.returns-in-Terminator
 unfolding block_ending recover
 returns-in-Terminator c =
     closed c.in-Terminator.is
-    (λ F. done_to BlockParseOutcome.FoundTerminator)
-    (λ F. c.put-b-in-Terminator.ensures.wrote F _ _)
+    (done_to BlockParseOutcome.FoundTerminator)
+    c.put-b-in-Terminator.ensures
     c.put-b-in-Terminator.ensures.pos
     (λ h. absurd (false≢true h))
 
@@ -30,8 +30,8 @@ pub returns-in-StrayElse : goal.returns-in-StrayElse
 unfolding block_ending recover
 returns-in-StrayElse c =
     closed c.in-StrayElse.is
-    (λ F. c.recover-a.ensures.ran F then_to done_to BlockParseOutcome.RecoveredImplicitEnd)
-    (λ F. c.put-b-in-StrayElse.ensures.wrote F _ _)
+    (c.recover-a.ensures.ran then_to done_to BlockParseOutcome.RecoveredImplicitEnd)
+    c.put-b-in-StrayElse.ensures
     (c.put-b-in-StrayElse.ensures.pos ∙ c.recover-a.ensures.pos)
     (λ h. absurd (false≢true h))
 
@@ -39,7 +39,7 @@ pub returns-in-Item : goal.returns-in-Item
 unfolding block_ending recover
 returns-in-Item c =
     closed c.in-Item.is
-    (λ F. c.recover-a-in-Item.ensures.ran F then_to done_to BlockParseOutcome.RecoveredImplicitEnd)
-    (λ F. c.put-b-in-Item.ensures.wrote F _ _)
+    (c.recover-a-in-Item.ensures.ran then_to done_to BlockParseOutcome.RecoveredImplicitEnd)
+    c.put-b-in-Item.ensures
     (c.put-b-in-Item.ensures.pos ∙ c.recover-a-in-Item.ensures.pos)
     (λ h. refl)

@@ -1,7 +1,6 @@
 -- `blocks::close::finish`: the form's `end` where its block was closed, and the closing event. Assumes nothing.
 use mathlib.Core.Bool.{true, false}
 use mathlib.Core.Path.{refl, ap, ◌∙◌}
-use lib.ListN.{drop}
 use Rattle.grammar.specs.Block.{closing, ended}
 use Rattle.grammar.specs.Look.{one_of, at_top_level_form_starter_in_block}
 use Rattle.blocks.proofs.Laws.{finished, no_item}
@@ -15,21 +14,21 @@ expect-d-requires c = refl
 pub returns-in-ReachedEof : goal.returns-in-ReachedEof
 unfolding ended closing
 returns-in-ReachedEof c =
-    finished c.in-ReachedEof.is (done_to true) (c.put-e.ensures.wrote c.args.kinds.now _ _) no_item
+    finished c.in-ReachedEof.is (done_to true) c.put-e.ensures no_item
 
 pub returns-in-FoundTerminator : goal.returns-in-FoundTerminator
 unfolding ended closing
 returns-in-FoundTerminator c =
     finished c.in-FoundTerminator.is
     (c.expect-d.ensures.ran then_to done_to false)
-    (c.put-e-in-FoundTerminator.ensures.wrote c.args.kinds.now _ _)
+    c.put-e-in-FoundTerminator.ensures
     no_item
 
 pub returns-in-RecoveredImplicitEnd : goal.returns-in-RecoveredImplicitEnd
 unfolding ended closing
 returns-in-RecoveredImplicitEnd c =
-    let same = ap (λ i. at_top_level_form_starter_in_block (drop i c.args.kinds.now)) c.put-e-in-RecoveredImplicitEnd.ensures.pos in
+    let same = ap at_top_level_form_starter_in_block c.put-e-in-RecoveredImplicitEnd.ensures.rest in
     finished c.in-RecoveredImplicitEnd.is
     (done true then_to done_to false)
-    (c.put-e-in-RecoveredImplicitEnd.ensures.wrote c.args.kinds.now _ _)
+    c.put-e-in-RecoveredImplicitEnd.ensures
     (record { starts = λ h. same ∙ c.requires.starts h })

@@ -6,6 +6,6 @@ use Rattle.blocks.proofs.close.recover.Goals as goal
 pub returns : goal.returns
 returns c =
     record {
-      ran = λ F. node _ (c.put-a.ensures.wrote F _ _) (c.error_here-b.ensures.ran F _) (c.put.ensures.wrote F _ _);
+      ran = node _ c.put-a.ensures c.error_here-b.ensures.ran c.put.ensures;
       pos = c.put.ensures.pos ∙ c.error_here-b.ensures.pos ∙ c.put-a.ensures.pos;
     }

@@ -1,6 +1,5 @@
 -- `blocks::header::do_header`: the opening event, and the line. Assumes nothing.
 use mathlib.Core.Path.{refl, ap, ◌∙◌}
-use lib.ListN.{drop}
 use Rattle.grammar.specs.Words.{is, DO}
 use Rattle.grammar.specs.Look.{at, one_of}
 use Rattle.blocks.proofs.Laws.{opened}
@@ -10,11 +9,11 @@ use Rattle.blocks.proofs.header.do_header.Goals as goal
 pub keyword_line-requires : goal.keyword_line-requires
 unfolding one_of
 keyword_line-requires c =
-    (ap (λ i. at (is DO) (drop i c.args.kinds.now)) c.put-a.ensures.pos ∙ c.requires, refl)
+    (ap (at (is DO)) c.put-a.ensures.rest ∙ c.requires, refl)
 
 pub returns : goal.returns
 returns c =
-    opened (c.put-a.ensures.wrote c.args.kinds.now _ _)
+    opened c.put-a.ensures
     (λ next u r h. c.keyword_line.ensures.key then_to c.keyword_line.ensures.line then_to h)
     c.keyword_line.ensures.onward
     c.keyword_line.ensures.past

@@ -7,21 +7,21 @@ use Rattle.parser.proofs.Kit.{node, ◌then◌, begins, goes_on, scan_end, scan_
 use Rattle.parser.proofs.Laws.{eof_within}
 use Rattle.blocks.proofs.reject.reject_excessive_control_flow_nesting.Goals as goal
 
-pub loop-ev-init : goal.loop-ev-init
-loop-ev-init c = begins
+pub loop-parser-init : goal.loop-parser-init
+loop-parser-init c = begins
 
-pub loop-ev-smaller : goal.loop-ev-smaller
-loop-ev-smaller c =
-    let h = eof_within c.args.kinds.now c.loop-ev.c.pos c.eof.ensures c.loop-ev-test.true in
+pub loop-parser-smaller : goal.loop-parser-smaller
+loop-parser-smaller c =
+    let h = eof_within c.loop-parser.parser.kinds.now c.loop-parser.c.pos c.eof.ensures c.loop-parser-test.true in
     omega (arith, h, c.bump-c.ensures.moved h)
 
-pub loop-ev-preserved : goal.loop-ev-preserved
+pub loop-parser-preserved : goal.loop-parser-preserved
 unfolding all_round
-loop-ev-preserved c =
-    goes_on c.loop-ev.invariant (λ w' r k. scan_go all_round true true (sym c.eof.ensures ∙ c.loop-ev-test.true) refl c.bump-c.ensures.ran k)
+loop-parser-preserved c =
+    goes_on c.loop-parser.invariant (λ w' r k. scan_go all_round true true (sym c.eof.ensures ∙ c.loop-parser-test.true) refl c.bump-c.ensures.ran k)
 
 pub returns : goal.returns
 unfolding reject_excessive_control_flow_nesting
 returns c =
-    let rest = c.loop-ev.invariant.on _ _ (scan_end all_round true (sym c.eof.ensures ∙ c.loop-ev-test.false)) in
-    node _ (c.put-a.ensures.wrote c.args.kinds.now _ _) (c.error_here-c.ensures.ran c.args.kinds.now _ then rest.ran) (c.put.ensures.wrote c.args.kinds.now _ _)
+    let rest = c.loop-parser.invariant.on _ _ (scan_end all_round true (sym c.eof.ensures ∙ c.loop-parser-test.false)) in
+    node _ c.put-a.ensures (c.error_here-c.ensures.ran then rest.ran) c.put.ensures

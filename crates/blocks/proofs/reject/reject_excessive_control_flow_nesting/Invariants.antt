@@ -8,8 +8,8 @@ use Rattle.parser.specs.Rep.{world}
 use Rattle.parser.proofs.Kit.{Leads}
 use Rattle.blocks.proofs.reject.reject_excessive_control_flow_nesting.Given as goal
 
-abbrev pub invariant-loop-ev : goal.invariant-loop-ev
-invariant-loop-ev l = Leads l.kinds (scan all_round true) (world l.initial.ev l.initial.dm l.initial.ds l.initial.c) (scan all_round true) (world l.ev l.dm l.ds l.c)
+abbrev pub invariant-loop-parser : goal.invariant-loop-parser
+invariant-loop-parser l = Leads (scan all_round true) (world l.initial.parser l.initial.c) (scan all_round true) (world l.parser l.c)
 
-abbrev pub decreases-loop-ev : goal.decreases-loop-ev
-decreases-loop-ev l = length l.kinds - l.c.pos
+abbrev pub decreases-loop-parser : goal.decreases-loop-parser
+decreases-loop-parser l = length l.parser.kinds.now - l.c.pos

@@ -1,14 +1,13 @@
 -- `blocks::rounds::rounds`: its loop, round by round. Assumes nothing.
 use mathlib.Core.Path.{sym, ap, ◌∙◌}
 use native.Mathlib.Omega.{arith}
-use lib.ListN.{drop}
 use Rattle.grammar.specs.Look.{at_top_level_form_starter_in_block}
 use Rattle.blocks.specs.declared.arm.BlockArm.{BlockArm}
 use Rattle.blocks.specs.declared.arm.Closing.{Closing}
 use Rattle.blocks.specs.Arms.{by_block_arm}
 use Rattle.blocks.proofs.Laws.{meant, takes, round, absorbs, no_item, from_here}
 use Rattle.parser.proofs.Ahead.{remembers_none, remembers_later}
-use Rattle.parser.proofs.Kit.{stays, ◌farther◌, ◌then_to◌, begins, goes_on}
+use Rattle.parser.proofs.Kit.{stays, same_file, same_remaining, ◌farther◌, ◌then_to◌, begins, goes_on}
 use Rattle.parser.proofs.Laws.{past_here}
 use Rattle.grammar.specs.Block.{MAX_CONTROL_FLOW_NESTING as limit}
 use mathlib.Core.Bool.{false≢true}
@@ -37,7 +36,7 @@ loop-t-preserved c =
           round p.owner p.terminators p.depth (BlockArm.Takes _) c.block_arm_here-seen.ensures.0 c.in-Takes.is
           (t.ensures then_to absorbs limit p.owner p.terminators p.depth v.ensures k)),
       c.loop-t.invariant.1 farther t.ensures.onward farther v.ensures.onward,
-      remembers_later _ (omega (arith, t.ensures.onward, v.ensures.onward)) c.block_arm_here-seen.ensures.1,
+      remembers_later _ (same_file (t.ensures.onward farther v.ensures.onward)) (omega (arith, t.ensures.onward, v.ensures.onward)) c.block_arm_here-seen.ensures.1,
       no_item,
     )
 
@@ -50,10 +49,10 @@ returns-in-Closes c =
       form = λ h. absurd (false≢true h);
       over = λ h. record {
         mid = _;
-        ran = c.loop-t.invariant.0.on _ _ (round c.args.place.owner c.args.place.terminators c.args.place.depth (BlockArm.Closes _) c.block_arm_here-seen.ensures.0 told (c.close-e.ensures.ran c.args.kinds.now));
-        wrote = c.close-e.ensures.wrote c.args.kinds.now;
+        ran = c.loop-t.invariant.0.on _ _ (round c.args.place.owner c.args.place.terminators c.args.place.depth (BlockArm.Closes _) c.block_arm_here-seen.ensures.0 told c.close-e.ensures.ran);
+        wrote = c.close-e.ensures.wrote;
         here = record {
-          starts = λ i. ap (λ p. at_top_level_form_starter_in_block (drop p c.args.kinds.now)) c.close-e.ensures.pos
+          starts = λ i. ap at_top_level_form_starter_in_block (same_remaining c.close-e.ensures.onward c.close-e.ensures.pos)
               ∙ meant c.args.place.terminators _ (BlockArm.Closes Closing.Item) c.block_arm_here-seen.ensures.0 (told ∙ ap BlockArm.Closes (c.close-e.ensures.at_item i));
         };
       };

@@ -10,8 +10,8 @@ use Rattle.blocks.proofs.rounds.rounds.Given as goal
 
 abbrev pub invariant-loop-t : goal.invariant-loop-t
 invariant-loop-t l =
-    Leads l.kinds (block_in limit l.owner l.terminators l.depth) (world l.initial.ev l.initial.dm l.initial.ds l.initial.c) (block_in limit l.owner l.terminators l.depth) (world l.ev l.dm l.ds l.c)
-    × Onward (world l.initial.ev l.initial.dm l.initial.ds l.initial.c) (world l.ev l.dm l.ds l.c) × DocKnown l.kinds l.c.pos l.known × ItemAt l.kinds l.c.pos l.item
+    Leads (block_in limit l.owner l.terminators l.depth) (world l.initial.parser l.initial.c) (block_in limit l.owner l.terminators l.depth) (world l.parser l.c)
+    × Onward (world l.initial.parser l.initial.c) (world l.parser l.c) × DocKnown l.parser.kinds.now l.c.pos l.known × ItemAt l.parser.kinds.now l.c.pos l.item
 
 abbrev pub decreases-loop-t : goal.decreases-loop-t
-decreases-loop-t l = length l.kinds - l.c.pos
+decreases-loop-t l = length l.parser.kinds.now - l.c.pos

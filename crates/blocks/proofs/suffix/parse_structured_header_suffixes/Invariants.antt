@@ -7,7 +7,7 @@ use Rattle.parser.proofs.Kit.{Leads}
 use Rattle.blocks.proofs.suffix.parse_structured_header_suffixes.Given as goal
 
 abbrev pub invariant-loop-sc : goal.invariant-loop-sc
-invariant-loop-sc l = Leads l.kinds parse_structured_header_suffixes (world l.initial.ev l.initial.dm l.initial.ds l.initial.c) parse_structured_header_suffixes (world l.ev l.dm l.ds l.c)
+invariant-loop-sc l = Leads parse_structured_header_suffixes (world l.initial.parser l.initial.c) parse_structured_header_suffixes (world l.parser l.c)
 
 abbrev pub decreases-loop-sc : goal.decreases-loop-sc
-decreases-loop-sc l = length l.kinds - l.c.pos
+decreases-loop-sc l = length l.parser.kinds.now - l.c.pos

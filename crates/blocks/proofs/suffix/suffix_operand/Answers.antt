@@ -32,4 +32,4 @@ returns c =
     let test = sym (at_or name_like (one_of (Number ∷ QuotedString ∷ [])) _) ∙ operand in
     let no-group = at_not LBracket _ refl c.current-k.ensures c.if-k-eq-L_BRACKET.false in
     no_to _ _ refl no-group
-    (like_to _ (neither (at name_like) (at (one_of (Number ∷ QuotedString ∷ []))) _ _ _ test) (c.error_here-e.ensures.ran c.args.kinds.now _ then_to done_to false))
+    (like_to _ (neither (at name_like) (at (one_of (Number ∷ QuotedString ∷ []))) _ _ _ test) (c.error_here-e.ensures.ran then_to done_to false))

@@ -8,7 +8,7 @@ use Rattle.parser.proofs.Kit.{Leads}
 use Rattle.declarations.proofs.attribute.attributes.Given as goal
 
 abbrev pub invariant-loop-sc : goal.invariant-loop-sc
-invariant-loop-sc l = Leads l.kinds (loop attribute_round) (world l.initial.ev l.initial.dm l.initial.ds l.initial.c) (loop attribute_round) (world l.ev l.dm l.ds l.c)
+invariant-loop-sc l = Leads (loop attribute_round) (world l.initial.parser l.initial.c) (loop attribute_round) (world l.parser l.c)
 
 abbrev pub decreases-loop-sc : goal.decreases-loop-sc
-decreases-loop-sc l = length l.kinds - l.c.pos
+decreases-loop-sc l = length l.parser.kinds.now - l.c.pos

@@ -7,4 +7,4 @@ use Rattle.declarations.proofs.attribute.parse_attribute.Goals as goal
 pub returns : goal.returns
 unfolding parse_attribute
 returns c =
-    node _ (c.put-a.ensures.wrote c.args.kinds.now _ _) (steps (three _ _ _ _) (c.keyword_and_name-b.ensures then c.bump_inline_whitespace-d.ensures then c.optional_parens-e.ensures)) (c.put.ensures.wrote c.args.kinds.now _ _)
+    node _ c.put-a.ensures (steps (three _ _ _ _) (c.keyword_and_name-b.ensures then c.bump_inline_whitespace-d.ensures then c.optional_parens-e.ensures)) c.put.ensures

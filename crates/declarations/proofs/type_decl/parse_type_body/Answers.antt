@@ -6,4 +6,4 @@ use Rattle.declarations.proofs.type_decl.parse_type_body.Goals as goal
 pub returns : goal.returns
 unfolding parse_type_body
 returns c =
-    node _ (c.put-a.ensures.wrote c.args.kinds.now _ _) c.type_tokens-b.ensures (c.put.ensures.wrote c.args.kinds.now _ _)
+    node _ c.put-a.ensures c.type_tokens-b.ensures c.put.ensures

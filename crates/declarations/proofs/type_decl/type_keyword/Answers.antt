@@ -20,4 +20,4 @@ returns-then-in_words c =
 
 pub returns : goal.returns
 returns c =
-    no _ _ (type_or_enum _ c.in_words.ensures c.current.ensures) c.if-in_words.false (c.error_here.ensures.ran c.args.kinds.now _)
+    no _ _ (type_or_enum _ c.in_words.ensures c.current.ensures) c.if-in_words.false (c.error_here.ensures.ran)

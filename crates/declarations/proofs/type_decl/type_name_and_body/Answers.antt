@@ -24,4 +24,4 @@ returns-then-in_set c =
 pub returns : goal.returns
 unfolding type_name_and_body
 returns c =
-    c.bump_regular_trivia-a.ensures then c.expect_name-b.ensures then c.bump_regular_trivia-d.ensures then no _ _ (equal_or_colon _ c.in_set.ensures c.current.ensures) c.if-in_set.false (c.error_here.ensures.ran c.args.kinds.now _)
+    c.bump_regular_trivia-a.ensures then c.expect_name-b.ensures then c.bump_regular_trivia-d.ensures then no _ _ (equal_or_colon _ c.in_set.ensures c.current.ensures) c.if-in_set.false (c.error_here.ensures.ran)

@@ -10,7 +10,7 @@ use Rattle.parser.proofs.Kit.{Leads}
 use Rattle.declarations.proofs.type_decl.type_tokens.Given as goal
 
 abbrev pub invariant-loop-nesting : goal.invariant-loop-nesting
-invariant-loop-nesting l = Leads l.kinds (scan type_round default) (world l.initial.ev l.initial.dm l.initial.ds l.initial.c) (scan type_round l.nesting) (world l.ev l.dm l.ds l.c) × NestingBelow (l.c.pos + 1) l.nesting × BreakKnown l.kinds l.c.pos l.known
+invariant-loop-nesting l = Leads (scan type_round default) (world l.initial.parser l.initial.c) (scan type_round l.nesting) (world l.parser l.c) × NestingBelow (l.c.pos + 1) l.nesting × BreakKnown l.parser.kinds.now l.c.pos l.known
 
 abbrev pub decreases-loop-nesting : goal.decreases-loop-nesting
-decreases-loop-nesting l = length l.kinds - l.c.pos
+decreases-loop-nesting l = length l.parser.kinds.now - l.c.pos

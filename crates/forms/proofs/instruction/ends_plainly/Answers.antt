@@ -28,7 +28,7 @@ pub overflow_add-p : goal.overflow_add-p
 overflow_add-p c =
     let a = c.args in
     let w = at_here Whitespace _ refl c.current-k.ensures c.if-k-ne-WHITESPACE.false in
-    let h = at_within a.kinds.now a.p (is Whitespace) refl w in
+    let h = at_within a.parser.now.kinds.now a.p (is Whitespace) refl w in
     search rules
 
 pub returns : goal.returns
@@ -36,7 +36,7 @@ unfolding at
 returns c t =
     let a = c.args in
     let w = at_here Whitespace _ refl c.current-k.ensures c.if-k-ne-WHITESPACE.false in
-    let q = rest_cons a.kinds.now a.p (at_within a.kinds.now a.p (is Whitespace) refl w) in
+    let q = rest_cons a.parser.now.kinds.now a.p (at_within a.parser.now.kinds.now a.p (is Whitespace) refl w) in
     ap (instruction_ends a.previous default) q
     ∙ ends_at_space a.previous _ _ (sym (ap (at (is Whitespace)) q) ∙ w) (sym c.expects_operand.ensures ∙ c.if-expects_operand.false)
     (ap (bit _) (sym c.current.ensures) ∙ sym c.in_set-2.ensures ∙ not-true _ t)

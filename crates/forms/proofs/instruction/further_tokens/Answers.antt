@@ -24,14 +24,14 @@ returns-then-at_instruction_end c =
 
 pub loop-nesting-smaller-then-is_trivia : goal.loop-nesting-smaller-then-is_trivia
 loop-nesting-smaller-then-is_trivia c =
-    let h = eof_within c.args.kinds.now c.loop-nesting.c.pos c.eof.ensures c.loop-nesting-test.true in
+    let h = eof_within c.loop-nesting.parser.kinds.now c.loop-nesting.c.pos c.eof.ensures c.loop-nesting-test.true in
     omega (arith, h, c.bump-c.ensures.moved h)
 
 pub loop-nesting-preserved-then-is_trivia : goal.loop-nesting-preserved-then-is_trivia
 unfolding one_of
 loop-nesting-preserved-then-is_trivia c =
     let l : Inst = record { nesting = c.loop-nesting.nesting; previous = c.loop-nesting.previous } in
-    let m = c.bump-c.ensures.moved (eof_within c.args.kinds.now c.loop-nesting.c.pos c.eof.ensures c.loop-nesting-test.true) in
+    let m = c.bump-c.ensures.moved (eof_within c.loop-nesting.parser.kinds.now c.loop-nesting.c.pos c.eof.ensures c.loop-nesting-test.true) in
     let z = sym c.eof.ensures ∙ c.loop-nesting-test.true in
     let t = at_by is_trivia _ refl c.is_trivia.ensures c.current-k.ensures in
     let e = instruction_takes l _ c.at_instruction_end.ensures c.if-at_instruction_end.false (sym t ∙ c.if-is_trivia.true) in
@@ -43,12 +43,12 @@ loop-nesting-preserved-then-is_trivia c =
 
 pub bump_nesting-b-requires : goal.bump_nesting-b-requires
 bump_nesting-b-requires c =
-    let h = eof_within c.args.kinds.now c.loop-nesting.c.pos c.eof.ensures c.loop-nesting-test.true in
+    let h = eof_within c.loop-nesting.parser.kinds.now c.loop-nesting.c.pos c.eof.ensures c.loop-nesting-test.true in
     below_le (omega (arith, h)) c.loop-nesting.invariant.1
 
 pub loop-nesting-smaller : goal.loop-nesting-smaller
 loop-nesting-smaller c =
-    let h = eof_within c.args.kinds.now c.loop-nesting.c.pos c.eof.ensures c.loop-nesting-test.true in
+    let h = eof_within c.loop-nesting.parser.kinds.now c.loop-nesting.c.pos c.eof.ensures c.loop-nesting-test.true in
     let m = c.bump-c-in-loop-nesting.ensures.moved (omega (arith, h, c.bump_nesting-b.ensures.pos)) in
     omega (arith, h, m, c.bump_nesting-b.ensures.pos)
 
@@ -56,7 +56,7 @@ pub loop-nesting-preserved : goal.loop-nesting-preserved
 unfolding one_of
 loop-nesting-preserved c =
     let l : Inst = record { nesting = c.loop-nesting.nesting; previous = c.loop-nesting.previous } in
-    let h = eof_within c.args.kinds.now c.loop-nesting.c.pos c.eof.ensures c.loop-nesting-test.true in
+    let h = eof_within c.loop-nesting.parser.kinds.now c.loop-nesting.c.pos c.eof.ensures c.loop-nesting-test.true in
     let m = c.bump-c-in-loop-nesting.ensures.moved (omega (arith, h, c.bump_nesting-b.ensures.pos)) in
     let z = sym c.eof.ensures ∙ c.loop-nesting-test.true in
     let t = at_by is_trivia _ refl c.is_trivia.ensures c.current-k.ensures in

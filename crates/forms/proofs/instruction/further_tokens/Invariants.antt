@@ -11,9 +11,9 @@ use Rattle.forms.proofs.instruction.further_tokens.Given as goal
 
 abbrev pub invariant-loop-nesting : goal.invariant-loop-nesting
 invariant-loop-nesting l =
-    Leads l.kinds (scan instruction_round (behind l.initial.previous)) (world l.initial.ev l.initial.dm l.initial.ds l.initial.c)
-    (scan instruction_round (record { nesting = l.nesting; previous = l.previous })) (world l.ev l.dm l.ds l.c)
+    Leads (scan instruction_round (behind l.initial.previous)) (world l.initial.parser l.initial.c)
+    (scan instruction_round (record { nesting = l.nesting; previous = l.previous })) (world l.parser l.c)
     × NestingBelow (l.c.pos + 1) l.nesting
 
 abbrev pub decreases-loop-nesting : goal.decreases-loop-nesting
-decreases-loop-nesting l = length l.kinds - l.c.pos
+decreases-loop-nesting l = length l.parser.kinds.now - l.c.pos

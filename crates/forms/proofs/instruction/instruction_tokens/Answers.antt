@@ -10,10 +10,10 @@ pub returns-then-ends_plainly : goal.returns-then-ends_plainly
 returns-then-ends_plainly c =
     let p = c.plain_tokens-lead in
     let l = behind p.result.previous in
-    (p.ensures.leads _ _ _ _ (scan_stop instruction_round l (instruction_stops l _ refl (c.ends_plainly.ensures c.if-ends_plainly.true)))).ran
+    (p.ensures.leads _ _ (scan_stop instruction_round l (instruction_stops l _ refl (c.ends_plainly.ensures c.if-ends_plainly.true)))).ran
 
 pub returns : goal.returns
 returns c =
     let f = c.further_tokens.ensures in
     let l = c.plain_tokens-lead.ensures in
-    (l.leads _ _ _ _ (record { ran = f; val = refl })).ran
+    (l.leads _ _ (record { ran = f; val = refl })).ran

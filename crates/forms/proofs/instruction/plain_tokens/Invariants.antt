@@ -2,11 +2,12 @@
 use mathlib.Core.Path.{◌≡◌}
 use Prim.Native.Nat.{◌-◌}
 use lib.ListN.{length}
+use Rattle.parser.specs.Rep.{world}
 use Rattle.forms.specs.Instruction.{open_behind, PlainTokens}
 use Rattle.forms.proofs.instruction.plain_tokens.Given as goal
 
-abbrev pub invariant-loop-k : goal.invariant-loop-k
-invariant-loop-k l = PlainTokens l.kinds l.initial.ev l.initial.c l.ev l.c l.previous × (l.mask ≡ open_behind l.previous)
+abbrev pub invariant-loop-parser : goal.invariant-loop-parser
+invariant-loop-parser l = PlainTokens (world l.initial.parser l.initial.c) (world l.parser l.c) l.previous × (l.mask ≡ open_behind l.previous)
 
-abbrev pub decreases-loop-k : goal.decreases-loop-k
-decreases-loop-k l = length l.kinds - l.c.pos
+abbrev pub decreases-loop-parser : goal.decreases-loop-parser
+decreases-loop-parser l = length l.parser.kinds.now - l.c.pos

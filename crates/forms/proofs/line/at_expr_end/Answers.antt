@@ -33,7 +33,7 @@ returns-then-not-at_kind c =
 
 pub overflow_add-p : goal.overflow_add-p
 overflow_add-p c =
-    let w = next_within c.args.kinds.now c.args.p (is Whitespace) c.at_kind.ensures c.if-not-at_kind.false in omega arith
+    let w = next_within c.args.parser.now.kinds.now c.args.p (is Whitespace) c.at_kind.ensures c.if-not-at_kind.false in omega arith
 
 pub returns : goal.returns
 unfolding expr_ends space_before_top_level_item
@@ -41,6 +41,6 @@ returns c =
     let l = sym c.at_line_end.ensures ∙ c.if-at_line_end.false in
     let n = sym c.is_root.ensures ∙ c.if-not-is_root.false in
     let w = c.if-not-at_kind.false in
-    let p = past_on c.args.kinds.now c.args.p (is Whitespace) refl c.at_kind.ensures w in
+    let p = past_on c.args.parser.now.kinds.now c.args.p (is Whitespace) refl c.at_kind.ensures w in
     rw (l, n, c.if-not-saw.false, sym c.at_kind.ensures ∙ w)
     (c.is_top_level_starter.ensures ∙ ap is_top_level_starter (c.next_relevant_top_level_token-next.ensures.is ∙ ap (skip regular_trivia) (sym p)))

@@ -24,19 +24,19 @@ returns-then-at_expr_end c =
 
 pub bump_nesting-b-requires : goal.bump_nesting-b-requires
 bump_nesting-b-requires c =
-    let h = eof_within c.args.kinds.now c.loop-nesting.c.pos c.eof.ensures c.loop-nesting-test.true in
+    let h = eof_within c.loop-nesting.parser.kinds.now c.loop-nesting.c.pos c.eof.ensures c.loop-nesting-test.true in
     below_le (omega (arith, h)) c.loop-nesting.invariant.1
 
 pub loop-nesting-smaller : goal.loop-nesting-smaller
 loop-nesting-smaller c =
-    let h = eof_within c.args.kinds.now c.loop-nesting.c.pos c.eof.ensures c.loop-nesting-test.true in
+    let h = eof_within c.loop-nesting.parser.kinds.now c.loop-nesting.c.pos c.eof.ensures c.loop-nesting-test.true in
     let m = c.bump-c.ensures.moved (omega (arith, h, c.bump_nesting-b.ensures.pos)) in
     omega (arith, h, m, c.bump_nesting-b.ensures.pos)
 
 pub loop-nesting-preserved : goal.loop-nesting-preserved
 loop-nesting-preserved c =
     let l : Expression = record { nesting = c.loop-nesting.nesting; saw_significant = c.loop-nesting.saw_significant } in
-    let h = eof_within c.args.kinds.now c.loop-nesting.c.pos c.eof.ensures c.loop-nesting-test.true in
+    let h = eof_within c.loop-nesting.parser.kinds.now c.loop-nesting.c.pos c.eof.ensures c.loop-nesting-test.true in
     let m = c.bump-c.ensures.moved (omega (arith, h, c.bump_nesting-b.ensures.pos)) in
     let z = sym c.eof.ensures ∙ c.loop-nesting-test.true in
     let e = expr_counts l _ c.at_expr_end.ensures c.if-at_expr_end.false in

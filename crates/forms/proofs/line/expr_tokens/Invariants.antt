@@ -10,9 +10,9 @@ use Rattle.forms.proofs.line.expr_tokens.Given as goal
 
 abbrev pub invariant-loop-nesting : goal.invariant-loop-nesting
 invariant-loop-nesting l =
-    Leads l.kinds (scan expr_round no_token) (world l.initial.ev l.initial.dm l.initial.ds l.initial.c)
-    (scan expr_round (record { nesting = l.nesting; saw_significant = l.saw_significant })) (world l.ev l.dm l.ds l.c)
+    Leads (scan expr_round no_token) (world l.initial.parser l.initial.c)
+    (scan expr_round (record { nesting = l.nesting; saw_significant = l.saw_significant })) (world l.parser l.c)
     × NestingBelow (l.c.pos + 1) l.nesting
 
 abbrev pub decreases-loop-nesting : goal.decreases-loop-nesting
-decreases-loop-nesting l = length l.kinds - l.c.pos
+decreases-loop-nesting l = length l.parser.kinds.now - l.c.pos

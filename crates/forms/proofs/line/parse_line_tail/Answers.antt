@@ -28,32 +28,32 @@ tail_done : (r : List Sym) → tail_round false r ≡ stop
 unfolding tail_round
 tail_done r = refl
 
-pub loop-ev-init : goal.loop-ev-init
-loop-ev-init c = begins
+pub loop-parser-init : goal.loop-parser-init
+loop-parser-init c = begins
 
-pub loop-ev-smaller : goal.loop-ev-smaller
-loop-ev-smaller c =
-    let h = at_within c.args.kinds.now c.loop-ev.c.pos (is Whitespace) c.at_kind.ensures c.loop-ev-test.true in
+pub loop-parser-smaller : goal.loop-parser-smaller
+loop-parser-smaller c =
+    let h = at_within c.loop-parser.parser.kinds.now c.loop-parser.c.pos (is Whitespace) c.at_kind.ensures c.loop-parser-test.true in
     omega (arith, h, c.bump-c.ensures.moved h)
 
-pub loop-ev-preserved : goal.loop-ev-preserved
-loop-ev-preserved c =
-    let i = c.loop-ev.invariant in
-    let e = sym c.at_kind.ensures ∙ c.loop-ev-test.true in
+pub loop-parser-preserved : goal.loop-parser-preserved
+loop-parser-preserved c =
+    let i = c.loop-parser.invariant in
+    let e = sym c.at_kind.ensures ∙ c.loop-parser-test.true in
     goes_on i (λ w' r k.
     scan_go tail_round true true (at_some (is Whitespace) _ e) (tail_space _ e) c.bump-c.ensures.ran k)
 
 pub returns-then-at_kind : goal.returns-then-at_kind
 unfolding parse_line_tail
 returns-then-at_kind c =
-    let n = sym c.at_kind.ensures ∙ c.loop-ev-test.false in
+    let n = sym c.at_kind.ensures ∙ c.loop-parser-test.false in
     let e = sym c.at_kind-2.ensures ∙ c.if-at_kind.true in
-    (c.loop-ev.invariant.on _ _
+    (c.loop-parser.invariant.on _ _
     (scan_go tail_round true false (at_some (is Comment) _ e) (tail_comment _ n e) c.bump.ensures.ran (scan_stop tail_round false (tail_done _)))).ran
 
 pub returns : goal.returns
 unfolding parse_line_tail
 returns c =
-    let n = sym c.at_kind.ensures ∙ c.loop-ev-test.false in
+    let n = sym c.at_kind.ensures ∙ c.loop-parser-test.false in
     let e = sym c.at_kind-2.ensures ∙ c.if-at_kind.false in
-    (c.loop-ev.invariant.on _ _ (scan_stop tail_round true (tail_ends _ n e))).ran
+    (c.loop-parser.invariant.on _ _ (scan_stop tail_round true (tail_ends _ n e))).ran

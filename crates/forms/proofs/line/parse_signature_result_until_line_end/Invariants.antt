@@ -14,8 +14,8 @@ first = record { nesting = default; taken = false }
 
 abbrev pub invariant-loop-nesting : goal.invariant-loop-nesting
 invariant-loop-nesting l =
-    Leads l.kinds (scan result_round first) (world l.initial.ev l.initial.dm l.initial.ds l.initial.c) (scan result_round (record { nesting = l.nesting; taken = l.taken })) (world l.ev l.dm l.ds l.c)
+    Leads (scan result_round first) (world l.initial.parser l.initial.c) (scan result_round (record { nesting = l.nesting; taken = l.taken })) (world l.parser l.c)
     × NestingBelow (l.c.pos + 1) l.nesting
 
 abbrev pub decreases-loop-nesting : goal.decreases-loop-nesting
-decreases-loop-nesting l = length l.kinds - l.c.pos
+decreases-loop-nesting l = length l.parser.kinds.now - l.c.pos

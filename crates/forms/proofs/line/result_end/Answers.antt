@@ -12,4 +12,4 @@ returns-then-taken c =
 pub returns : goal.returns
 unfolding result_end
 returns c =
-    off _ c.if-taken.false (c.error_here.ensures.ran c.args.kinds.now _)
+    off _ c.if-taken.false (c.error_here.ensures.ran)

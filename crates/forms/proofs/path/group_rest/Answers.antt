@@ -11,7 +11,7 @@ use Rattle.grammar.specs.Bump.{error_here}
 use Rattle.grammar.specs.Look.{eof, current}
 use Rattle.grammar.specs.Path.{group_round}
 use Rattle.grammar.specs.Run.{go, stop, scan}
-use Rattle.grammar.specs.Words.{File, Sym, is}
+use Rattle.grammar.specs.Words.{Sym, is}
 use Rattle.grammar.specs.declared.message.Message.{Message}
 use Rattle.parser.specs.Rep.{World, Ran, RanTo}
 use Rattle.parser.proofs.Kit.{on, off, done, bind, begins, goes_on, scan_stop, scan_end, scan_go}
@@ -37,12 +37,12 @@ step_up opener closer depth k = by_tests (is opener k) (is closer k)
     by_tests false false = omega arith
 
 -- how the loop ends
-module _ (opener closer : Sym) (missing : Message) {F : File} {w₀ w : World} {depth : ℕ} (h : RanTo F (scan (group_round opener closer) 1) w₀ w depth) where
-  closes : 0 ≡ depth → Ran F (group_rest opener closer missing) w₀ w
+module _ (opener closer : Sym) (missing : Message) {w₀ w : World} {depth : ℕ} (h : RanTo (scan (group_round opener closer) 1) w₀ w depth) where
+  closes : 0 ≡ depth → Ran (group_rest opener closer missing) w₀ w
   unfolding group_rest
   closes e = bind _ h (on _ (eq-eqb 0 depth e) (done true))
 
-  lacks : {w' : World} → (0 ≡ depth → ⊥) → Ran F (error_here missing) w w' → Ran F (group_rest opener closer missing) w₀ w'
+  lacks : {w' : World} → (0 ≡ depth → ⊥) → Ran (error_here missing) w w' → Ran (group_rest opener closer missing) w₀ w'
   unfolding group_rest
   lacks n s = bind _ h (off _ (ne_eqb 0 depth n) s)
 
@@ -55,18 +55,18 @@ returns-then-depth-eq0 c =
 
 pub group_depth-depth-requires : goal.group_depth-depth-requires
 group_depth-depth-requires c =
-    let h = eof_within c.args.kinds.now c.loop-missing.c.pos c.eof.ensures c.loop-missing-test.true in
+    let h = eof_within c.loop-missing.parser.kinds.now c.loop-missing.c.pos c.eof.ensures c.loop-missing-test.true in
     omega (arith, c.if-depth-eq0.false, c.loop-missing.invariant.1, h)
 
 pub loop-missing-smaller : goal.loop-missing-smaller
 loop-missing-smaller c =
-    let h = eof_within c.args.kinds.now c.loop-missing.c.pos c.eof.ensures c.loop-missing-test.true in
+    let h = eof_within c.loop-missing.parser.kinds.now c.loop-missing.c.pos c.eof.ensures c.loop-missing-test.true in
     omega (arith, h, c.bump-c.ensures.moved h)
 
 pub loop-missing-preserved : goal.loop-missing-preserved
 loop-missing-preserved c =
     let i = c.loop-missing.invariant.0 in
-    let m = c.bump-c.ensures.moved (eof_within c.args.kinds.now _ c.eof.ensures c.loop-missing-test.true) in
+    let m = c.bump-c.ensures.moved (eof_within c.loop-missing.parser.kinds.now _ c.eof.ensures c.loop-missing-test.true) in
     let z = sym c.eof.ensures ∙ c.loop-missing-test.true in
     let e = round_goes c.args.opener c.args.closer _ _ _ _ z c.if-depth-eq0.false c.current.ensures c.group_depth-depth.ensures in
     let u = step_up c.args.opener c.args.closer c.loop-missing.depth c.current.result in (
@@ -83,4 +83,4 @@ returns-then-depth-eq0-2 c =
 pub returns : goal.returns
 returns c =
     let z = sym c.eof.ensures ∙ c.loop-missing-test.false in
-    lacks c.args.opener c.args.closer c.args.missing (c.loop-missing.invariant.0.on _ _ (scan_end _ _ z)) c.if-depth-eq0-2.false (c.error_here.ensures.ran c.args.kinds.now _)
+    lacks c.args.opener c.args.closer c.args.missing (c.loop-missing.invariant.0.on _ _ (scan_end _ _ z)) c.if-depth-eq0-2.false c.error_here.ensures.ran

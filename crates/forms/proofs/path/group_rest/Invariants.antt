@@ -9,8 +9,8 @@ use Rattle.forms.proofs.path.group_rest.Given as goal
 
 abbrev pub invariant-loop-missing : goal.invariant-loop-missing
 invariant-loop-missing l =
-    Leads l.kinds (scan (group_round l.opener l.closer) 1) (world l.initial.ev l.initial.dm l.initial.ds l.initial.c) (scan (group_round l.opener l.closer) l.depth) (world l.ev l.dm l.ds l.c)
+    Leads (scan (group_round l.opener l.closer) 1) (world l.initial.parser l.initial.c) (scan (group_round l.opener l.closer) l.depth) (world l.parser l.c)
     × (l.depth ≤ l.c.pos + 1)
 
 abbrev pub decreases-loop-missing : goal.decreases-loop-missing
-decreases-loop-missing l = length l.kinds - l.c.pos
+decreases-loop-missing l = length l.parser.kinds.now - l.c.pos

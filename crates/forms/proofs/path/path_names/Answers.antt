@@ -16,4 +16,4 @@ pub returns : goal.returns
 unfolding path_names name_like one_of
 returns c =
     let e = at_by name_like _ refl c.is_name_like.ensures c.current.ensures in
-    no _ _ e c.if-is_name_like.false (c.error_here.ensures.ran c.args.kinds.now _)
+    no _ _ e c.if-is_name_like.false (c.error_here.ensures.ran)

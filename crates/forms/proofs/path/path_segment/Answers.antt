@@ -19,4 +19,4 @@ unfolding path_segment name_like one_of
 returns c =
     let e = at_by name_like _ refl c.is_name_like.ensures c.current.ensures in
     c.bump_non_comment_trivia-a.ensures then_to c.bump-b.ensures.ran then_to c.bump_non_comment_trivia-d.ensures then_to
-    no_to _ _ e c.if-is_name_like.false (c.error_here-e.ensures.ran c.args.kinds.now _ then_to done_to false)
+    no_to _ _ e c.if-is_name_like.false (c.error_here-e.ensures.ran then_to done_to false)

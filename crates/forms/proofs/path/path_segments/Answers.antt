@@ -9,21 +9,21 @@ use Rattle.grammar.specs.Look.{at, skip, non_comment_trivia}
 use Rattle.grammar.specs.Path.{path_segment, path_round}
 use Rattle.grammar.specs.Run.{pure, pick, loop, ◌>>=◌, P}
 use Rattle.grammar.proofs.Theorems.NoFuel.{path_eq}
-use Rattle.grammar.specs.Words.{File, from, is}
+use Rattle.grammar.specs.Words.{from, is}
 use Rattle.lexer.specs.Syntax.{ColonColon}
 use Rattle.parser.specs.Ahead.{Found}
-use Rattle.parser.specs.Rep.{Past, World, RanTo}
+use Rattle.parser.specs.Rep.{World, file, remaining, Past, RanTo}
 use Rattle.parser.proofs.Kit.{like_to, yes_to, no_to, done_to, bind_to, begins, goes_on, answers}
 use Rattle.parser.proofs.Laws.{past_here}
 use Rattle.forms.proofs.path.path_segments.Goals as goal
 
 -- a round, by what lookahead found
-module _ {F : File} {w : World} {p : ℕ} (f : Found F w.c.pos p (skip non_comment_trivia (from F w.c.pos))) {x : Bool} (a : x ≡ at (is ColonColon) (from F p)) where
-  round_stops : x ≡ false → RanTo F path_round w w false
+module _ {w : World} {p : ℕ} (f : Found (file w) w.c.pos p (skip non_comment_trivia (remaining w))) {x : Bool} (a : x ≡ at (is ColonColon) (from (file w) p)) where
+  round_stops : x ≡ false → RanTo path_round w w false
   unfolding path_round
   round_stops h = no_to _ _ (a ∙ ap (at (is ColonColon)) f.is) h (done_to false)
 
-  round_goes : {v : World} {u : Bool} → x ≡ true → RanTo F path_segment w v u → RanTo F path_round w v u
+  round_goes : {v : World} {u : Bool} → x ≡ true → RanTo path_segment w v u → RanTo path_round w v u
   unfolding path_round
   round_goes h s = yes_to _ _ (a ∙ ap (at (is ColonColon)) f.is) h s
 
@@ -31,13 +31,13 @@ abbrev further : Bool → P Bool
 further u = pick u (loop path_round) (pure false)
 
 -- the last round, and one that goes on
-ends : {F : File} {w v : World} → RanTo F path_round w v false → RanTo F (loop path_round) w v false
+ends : {w v : World} → RanTo path_round w v false → RanTo (loop path_round) w v false
 ends h = like_to (path_round >>= further) (path_eq _) (bind_to further h (done_to false))
 
-goes : {F : File} {w v w' : World} {r : Bool} → RanTo F path_round w v true → RanTo F (loop path_round) v w' r → RanTo F (loop path_round) w w' r
+goes : {w v w' : World} {r : Bool} → RanTo path_round w v true → RanTo (loop path_round) v w' r → RanTo (loop path_round) w w' r
 goes h k = like_to (path_round >>= further) (path_eq _) (bind_to further h k)
 
-moves : {F : File} {w v : World} → RanTo F path_round w v true → Past F w v
+moves : {w v : World} → RanTo path_round w v true → Past w v
 moves h = past_here h.ran (truly_path_round.truly _ h.val)
 
 pub loop-c-init : goal.loop-c-init

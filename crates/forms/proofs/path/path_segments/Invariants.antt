@@ -8,7 +8,7 @@ use Rattle.parser.proofs.Kit.{Leads}
 use Rattle.forms.proofs.path.path_segments.Given as goal
 
 abbrev pub invariant-loop-c : goal.invariant-loop-c
-invariant-loop-c l = Leads l.kinds (loop path_round) (world l.initial.ev l.initial.dm l.initial.ds l.initial.c) (loop path_round) (world l.ev l.dm l.ds l.c)
+invariant-loop-c l = Leads (loop path_round) (world l.initial.parser l.initial.c) (loop path_round) (world l.parser l.c)
 
 abbrev pub decreases-loop-c : goal.decreases-loop-c
-decreases-loop-c l = length l.kinds - l.c.pos
+decreases-loop-c l = length l.parser.kinds.now - l.c.pos

@@ -1,8 +1,8 @@
 -- `items::file::parse`: from the empty cursor, the root node around the items. Assumes nothing.
+use borrow.Author.Rules.{rules}
 use Rattle.items.proofs.Whole.{whole}
 use Rattle.parser.proofs.Kit.{node}
 use Rattle.items.proofs.file.parse.Goals as goal
 
 pub returns : goal.returns
-returns c =
-    whole c.args.kinds.now _ c.requires (node _ (c.put-a.ensures.wrote c.args.kinds.now _ _) c.source_items-b.ensures (c.put.ensures.wrote c.args.kinds.now _ _))
+returns c = whole _ (search rules) (search rules) (search rules) (node _ c.put-a.ensures c.source_items-b.ensures c.put.ensures)

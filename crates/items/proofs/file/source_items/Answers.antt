@@ -14,8 +14,8 @@ use Rattle.grammar.specs.Look.{one_of, at, eof, regular_trivia}
 use Rattle.grammar.specs.Run.{leaf, pure, peek, take_token, scan, ◌>>=◌, ◌>>◌, when◌then◌else◌, P}
 use Rattle.grammar.proofs.Theorems.NoFuel.{items_eq}
 use Rattle.grammar.proofs.Theorems.Rounds.{round_takes}
-use Rattle.grammar.specs.Words.{File, from, Sym, is}
-use Rattle.parser.specs.Rep.{World, Ran, RanTo}
+use Rattle.grammar.specs.Words.{Sym, is}
+use Rattle.parser.specs.Rep.{World, remaining, Ran, RanTo}
 use Rattle.parser.proofs.Kit.{like_to, yes_to, no_to, done_to, ◌then◌, ◌then_to◌, begins, goes_on}
 use Rattle.parser.proofs.Laws.{past_here}
 use Rattle.items.proofs.file.source_items.Goals as goal
@@ -26,10 +26,10 @@ one = parse_source_item (parse_block limit)
 abbrev round : P Bool
 round = when eof then pure true else (one >> items_in limit)
 
-last : {F : File} {w : World} → eof (from F w.c.pos) ≡ true → RanTo F (items_in limit) w w true
+last : {w : World} → eof (remaining w) ≡ true → RanTo (items_in limit) w w true
 last e = like_to round (items_eq limit _) (yes_to eof _ refl e (done_to true))
 
-next : {F : File} {w v w' : World} {r : Bool} → eof (from F w.c.pos) ≡ false → Ran F one w v → RanTo F (items_in limit) v w' r → RanTo F (items_in limit) w w' r
+next : {w v w' : World} {r : Bool} → eof (remaining w) ≡ false → Ran one w v → RanTo (items_in limit) v w' r → RanTo (items_in limit) w w' r
 next e h k = like_to round (items_eq limit _) (no_to eof _ refl e (h then_to k))
 
 takes : (r : List Sym) → eof r ≡ false → length (one r).rest < length r
@@ -57,22 +57,22 @@ trivia_first (s ∷ r) = by_test (regular_trivia s) refl (trivia_first r)
         rw e (items_eq limit (s ∷ r) ∙ trivia_round s r e ∙ ap (λ x. record { rest = x.rest; out = leaf s x.out; val = x.val }) h)
     by_test false e h = rw e refl
 
-absorbs : {F : File} {w v w' : World} {r : Bool} → Ran F (bump_while regular_trivia) w v → RanTo F (items_in limit) v w' r → RanTo F (items_in limit) w w' r
+absorbs : {w v w' : World} {r : Bool} → Ran (bump_while regular_trivia) w v → RanTo (items_in limit) v w' r → RanTo (items_in limit) w w' r
 absorbs h k = like_to (bump_while regular_trivia >> items_in limit) (trivia_first _) (h then_to k)
 
-pub loop-ev-init : goal.loop-ev-init
-loop-ev-init c = begins
+pub loop-parser-init : goal.loop-parser-init
+loop-parser-init c = begins
 
-pub loop-ev-smaller : goal.loop-ev-smaller
-loop-ev-smaller c =
-    let m = past_here c.parse_source_item-d.ensures (takes _ (sym c.eof.ensures ∙ c.loop-ev-test.true)) in
+pub loop-parser-smaller : goal.loop-parser-smaller
+loop-parser-smaller c =
+    let m = past_here c.parse_source_item-d.ensures (takes _ (sym c.eof.ensures ∙ c.loop-parser-test.true)) in
     omega (arith, m, c.bump_regular_trivia-c.ensures.onward)
 
-pub loop-ev-preserved : goal.loop-ev-preserved
-loop-ev-preserved c =
-    let z = sym c.eof.ensures ∙ c.loop-ev-test.true in
-    goes_on c.loop-ev.invariant (λ w' r k. next z c.parse_source_item-d.ensures (absorbs c.bump_regular_trivia-c.ensures k))
+pub loop-parser-preserved : goal.loop-parser-preserved
+loop-parser-preserved c =
+    let z = sym c.eof.ensures ∙ c.loop-parser-test.true in
+    goes_on c.loop-parser.invariant (λ w' r k. next z c.parse_source_item-d.ensures (absorbs c.bump_regular_trivia-c.ensures k))
 
 pub returns : goal.returns
 returns c =
-    (c.loop-ev.invariant.on _ _ (last (sym c.eof.ensures ∙ c.loop-ev-test.false))).ran
+    (c.loop-parser.invariant.on _ _ (last (sym c.eof.ensures ∙ c.loop-parser-test.false))).ran

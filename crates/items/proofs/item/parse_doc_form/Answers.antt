@@ -4,4 +4,4 @@ use Rattle.items.proofs.item.parse_doc_form.Goals as goal
 
 pub returns : goal.returns
 returns c =
-    node _ (c.put-a.ensures.wrote c.args.kinds.now _ _) c.bump-b.ensures.ran (c.put.ensures.wrote c.args.kinds.now _ _)
+    node _ c.put-a.ensures c.bump-b.ensures.ran c.put.ensures

@@ -1,0 +1,36 @@
+-- `parser::look::at_terminator` meets its contract, for each kind of terminators. Assumes nothing.
+use mathlib.Core.Path.{◌≡◌, refl, sym, ap, ◌∙◌}
+use mathlib.Core.Bool.{◌||◌, or-false}
+use mathlib.Core.List.{List, [], ◌∷◌}
+use lib.ListN.{drop}
+use Rattle.grammar.specs.Words.{Sym, is, ELSE, END}
+use Rattle.grammar.specs.Look.{one_of, at, at_terminator}
+use Rattle.parser.proofs.state.Parser.at_terminator.Goals as goal
+
+either : (r : List Sym) → at (one_of (ELSE ∷ END ∷ [])) r ≡ (at (is ELSE) r || at (is END) r)
+unfolding at one_of
+either [] = refl
+either (s ∷ r) = ap (λ u. is ELSE s || u) (or-false _)
+
+pub returns-in-End : goal.returns-in-End
+unfolding at_terminator
+returns-in-End c =
+    let a = c.args in
+    c.at_kind.ensures ∙ sym (ap (λ t. at_terminator t (drop a.p a.self.now.kinds.now)) c.in-End.is)
+
+-- `else`
+pub returns-then-at_kind : goal.returns-then-at_kind
+unfolding at_terminator
+returns-then-at_kind c = rw (c.in-ElseEnd.is, either, ← c.at_kind-in-ElseEnd.ensures, c.if-at_kind.true)
+
+-- `end`
+pub returns-else-at_kind : goal.returns-else-at_kind
+unfolding at_terminator
+returns-else-at_kind c =
+    rw (c.in-ElseEnd.is, either, ← c.at_kind-in-ElseEnd.ensures, c.if-at_kind.false) c.at_kind-else-at_kind.ensures
+
+pub returns-in-While : goal.returns-in-While
+unfolding at_terminator
+returns-in-While c =
+    let a = c.args in
+    c.at_bare_while.ensures ∙ sym (ap (λ t. at_terminator t (drop a.p a.self.now.kinds.now)) c.in-While.is)

@@ -1,0 +1,7 @@
+-- `parser::state::Parser::bump_plain`: the event is written and the cursor goes one on. Assumes nothing.
+use mathlib.Core.Path.{refl}
+use Rattle.parser.proofs.Laws.{bump_plain}
+use Rattle.parser.proofs.state.Parser.bump_plain.Goals as goal
+
+pub returns : goal.returns
+returns c = record { ran = bump_plain _ c.requires c.put-b.ensures; moved = λ h. refl }

@@ -1,0 +1,12 @@
+-- `parser::bump::bump_regular_trivia`: one computed test of the run. Assumes nothing.
+use mathlib.Core.List.{[], ◌∷◌}
+use Rattle.grammar.specs.Look.{one_of}
+use Rattle.lexer.specs.Syntax.{Whitespace, Newline, Comment}
+use Rattle.parser.specs.Sets.{trivia_to, trivia_is}
+use Rattle.parser.proofs.Kit.{of_set}
+use Rattle.parser.proofs.state.Parser.bump_regular_trivia.Goals as goal
+
+pub returns : goal.returns
+unfolding one_of trivia_to
+returns c =
+    of_set (λ k. trivia_is _ (Whitespace ∷ Newline ∷ Comment ∷ []) k tt tt) c.bump_while.ensures
