@@ -44,7 +44,7 @@ def defined(name, path):
     if path.endswith(".antt"):
         form = rf"^(?:\s*(?:abbrev|unfoldable) pub|pub (?:record|data)|pub) {name} "
     else:
-        form = rf'^\s*(?:pub )?(?:(?:extern "C" )?fn {name}\(|(?:struct|enum|const) {name}\b)'
+        form = rf'^\s*(?:pub )?(?:(?:extern "C" )?fn {name}[(<]|(?:struct|enum|const|static) {name}\b)'
     return re.search(form, read(path), re.MULTILINE)
 
 

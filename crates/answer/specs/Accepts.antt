@@ -1,6 +1,6 @@
 -- When the call returns 0, and what it then gives.
 -- Assumes nothing.
-use Rattle.std.specs.Prelude.{ℕ, ◌≤◌, min, ◌≡◌, Bool, cond, ◌||◌, List, ◌∷◌, map, drop}
+use Rattle.std.specs.Prelude.{Option, None, Some, Ok, Err, ℕ, ◌≤◌, min, ◌≡◌, Bool, cond, ◌||◌, List, ◌∷◌, map, drop}
 use Rattle.std.proofs.Math.Path.{refl}
 use Rattle.std.proofs.Common.{sym, ap, ap₂, ◌∙◌, arith}
 use Rattle.std.proofs.Math.Bool.{true, false}
@@ -8,15 +8,11 @@ use borrow.Author.Tests.{ltb-false, le-ltb}
 use Rattle.std.proofs.Math.Dec.{ltb}
 use Rattle.std.proofs.Math.ListN.{length}
 use Rattle.std.proofs.lemmas.List.{length-map}
-use Rattle.utf8.specs.declared.Utf8.{Utf8}
-use Rattle.utf8.specs.declared.Utf8.TheVariants.{Valid, At}
-use Rattle.utf8.specs.Validate.{validate}
+use Rattle.utf8.specs.Validate.{Validity, validate}
 use Rattle.lexer.specs.Lexer.{tokenize}
 use Rattle.room.specs.Over.{fit_first, length_fit}
 use Rattle.lexer.specs.Tokens.{MAX_SOURCE, token_kind, token_kinds, token_ends}
 use Rattle.lexer.specs.Laws.{length_ends}
-use Rattle.marks.specs.declared.Refusal.{Refusal}
-use Rattle.marks.specs.declared.Refusal.TheVariants as refusal
 use Rattle.marks.specs.Marks.{first_refused}
 use Rattle.answer.specs.declared.Answer.{Answer}
 use Rattle.answer.specs.declared.Answer.TheVariants.{OutputRoom}
@@ -31,9 +27,9 @@ use Rattle.answer.specs.Given.{token_count, event_count, diagnostic_count, given
 pub record LastRow (source : List ℕ) (s : Slices) (counts : List ℕ) : Type 0 where
   pub words : 3 ≤ length counts
   pub small : length source ≤ MAX_SOURCE
-  pub utf8 : validate source ≡ Valid
+  pub utf8 : validate source ≡ Ok tt
   pub tokens : length (tokenize source) ≤ token_room s
-  pub no_refusal : first_refused 0 (tokenize source) ≡ refusal.Nothing
+  pub no_refusal : first_refused 0 (tokenize source) ≡ None
   pub events : length (events_of source) ≤ length s.events
   pub places : length (places_of source) ≤ diagnostic_room s
 
@@ -61,16 +57,16 @@ module _ (source : List ℕ) (s : Slices) where
   same_room =
       ap₂ min (length_fit (token_room s) (token_kinds source) s.kinds (omega arith)) (length_fit (token_room s) (token_ends source) s.ends (omega arith))
 
-  not_refused : (q : Refusal) → status_of (from_row_4 q source (with_tokens source s)).answer ≡ 0
-      → (q ≡ refusal.Nothing) × (status_of (from_row_5 source (with_tokens source s)).answer ≡ 0)
+  not_refused : (q : Option ℕ) → status_of (from_row_4 q source (with_tokens source s)).answer ≡ 0
+      → (q ≡ None) × (status_of (from_row_5 source (with_tokens source s)).answer ≡ 0)
   unfolding from_row_4
-  not_refused refusal.Nothing h = (refl, h)
-  not_refused (refusal.At n) h = absurd (omega arith)
+  not_refused None h = (refl, h)
+  not_refused (Some n) h = absurd (omega arith)
 
-  is_valid : (q : Utf8) → status_of (from_row_2 q source s).answer ≡ 0 → (q ≡ Valid) × (status_of (from_row_3 source (with_tokens source s)).answer ≡ 0)
+  is_valid : (q : Validity) → status_of (from_row_2 q source s).answer ≡ 0 → (q ≡ Ok tt) × (status_of (from_row_3 source (with_tokens source s)).answer ≡ 0)
   unfolding from_row_2
-  is_valid Valid h = (refl, h)
-  is_valid (At n) h = absurd (omega arith)
+  is_valid (Ok _) h = (refl, h)
+  is_valid (Err e) h = absurd (omega arith)
 
   by_tokens : status_of (from_row_3 source (with_tokens source s)).answer ≡ 0
       → (t ≤ token_room s) × (status_of (from_row_4 (first_refused 0 (tokenize source)) source (with_tokens source s)).answer ≡ 0)

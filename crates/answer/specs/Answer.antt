@@ -1,19 +1,15 @@
 -- What a reading answers and leaves in the slices: document 01's table, in its order.
 -- Assumes nothing: these are definitions.
-use Rattle.std.specs.Prelude.{ℕ, min, Bool, cond, ◌||◌, List, map, ltb, length}
+use Rattle.std.specs.Prelude.{Option, None, Some, Ok, Err, ℕ, min, Bool, cond, ◌||◌, List, map, ltb, length}
 use Rattle.std.specs.Borrow.{MutBor}
 use denote.Triple.Both.{Both}
-use Rattle.utf8.specs.declared.Utf8.{Utf8}
-use Rattle.utf8.specs.declared.Utf8.TheVariants.{Valid, At}
-use Rattle.utf8.specs.Validate.{validate}
+use Rattle.utf8.specs.Validate.{Validity, validate}
 use Rattle.lexer.specs.Lexer.{tokenize}
 use Rattle.room.specs.Over.{fit}
 use Rattle.lexer.specs.Tokens.{MAX_SOURCE, token_kinds, token_ends}
 use Rattle.grammar.specs.Out.{Place}
 use Rattle.grammar.specs.Source.{source_events, source_places}
 use Rattle.grammar.specs.Block.{MAX_CONTROL_FLOW_NESTING as limit}
-use Rattle.marks.specs.declared.Refusal.{Refusal}
-use Rattle.marks.specs.declared.Refusal.TheVariants as refusal
 use Rattle.marks.specs.Marks.{first_refused}
 use Rattle.answer.specs.declared.Answer.{Answer}
 use Rattle.answer.specs.declared.Answer.TheVariants.{TooLong, NotUtf8, TokenRoom, Refused, OutputRoom, Accepted}
@@ -102,9 +98,9 @@ from_row_5 source s =
     (with_output source s)
 
 -- Row 4: an Ident `use` or `extern`, the first of them at n.
-unfoldable pub from_row_4 : Refusal → List ℕ → Slices → Outcome
-from_row_4 refusal.Nothing source s = from_row_5 source s
-from_row_4 (refusal.At n) source s = outcome (Refused n) s
+unfoldable pub from_row_4 : Option ℕ → List ℕ → Slices → Outcome
+from_row_4 None source s = from_row_5 source s
+from_row_4 (Some n) source s = outcome (Refused n) s
 
 -- Row 3: no room for the tokens.
 unfoldable pub from_row_3 : List ℕ → Slices → Outcome
@@ -114,9 +110,9 @@ from_row_3 source s =
     (from_row_4 (first_refused 0 (tokenize source)) source s)
 
 -- Row 2: not UTF-8, the longest valid start ends at n. Behind it the tokens that fit are in the slices, whatever is answered.
-unfoldable pub from_row_2 : Utf8 → List ℕ → Slices → Outcome
-from_row_2 Valid source s = from_row_3 source (with_tokens source s)
-from_row_2 (At n) source s = outcome (NotUtf8 n) s
+unfoldable pub from_row_2 : Validity → List ℕ → Slices → Outcome
+from_row_2 (Ok _) source s = from_row_3 source (with_tokens source s)
+from_row_2 (Err e) source s = outcome (NotUtf8 e.valid_up_to) s
 
 -- Row 1, too long, and so the whole: the reading of any bytes into any slices.
 unfoldable pub parse_text : List ℕ → Slices → Outcome

@@ -1,10 +1,9 @@
 -- A source of spaces is accepted up to the limit, with one token. So there is a join that is one byte too long and whose parts are accepted:
 -- demand 3's premise on the limit is needed.
 -- Assumes nothing.
-use Rattle.std.specs.Prelude.{ℕ, zero, suc, ◌+◌, ◌≤◌, ◌≡◌, refl, false, List, [], ◌∷◌, ◌++◌, length, take, replicate}
+use Rattle.std.specs.Prelude.{None, Ok, ℕ, zero, suc, ◌+◌, ◌≤◌, ◌≡◌, refl, false, List, [], ◌∷◌, ◌++◌, length, take, replicate}
 use Rattle.std.proofs.Common.{ap, ◌∙◌, arith}
 use Rattle.std.proofs.lemmas.List.{length-replicate}
-use Rattle.utf8.specs.declared.Utf8.TheVariants.{Valid}
 use Rattle.utf8.specs.Validate.{validate_from}
 use Rattle.lexer.specs.Syntax.{Whitespace, RParen}
 use Rattle.lexer.specs.Chars.{blank}
@@ -13,7 +12,6 @@ use Rattle.lexer.specs.Tokens.{MAX_SOURCE, token_kinds}
 use Rattle.grammar.specs.Words.{is}
 use Rattle.grammar.specs.Look.{at, next_relevant_block_token}
 use Rattle.grammar.specs.Compute.{bytes}
-use Rattle.marks.specs.declared.Refusal.TheVariants.{Nothing}
 use Rattle.marks.specs.Marks.{first_refused}
 use Rattle.answer.specs.Answer.{Slices, events_of, places_of}
 use Rattle.answer.specs.Given.{token_count, event_count, diagnostic_count}
@@ -27,7 +25,7 @@ many : (n : ℕ) → length (spaces n) ≡ n
 unfolding spaces
 many n = length-replicate n 32
 
-well : (m n : ℕ) → validate_from 0 m (spaces n) ≡ Valid
+well : (m n : ℕ) → validate_from 0 m (spaces n) ≡ Ok tt
 unfolding spaces made
 well m zero = refl
 well m (suc n) = well (m + 1) n
@@ -59,7 +57,7 @@ no_places : (n : ℕ) → places_of (spaces (suc n)) ≡ []
 unfolding made
 no_places n = rw (one_token n)
 
-not_refused : (n : ℕ) → first_refused 0 (tokenize (spaces (suc n))) ≡ Nothing
+not_refused : (n : ℕ) → first_refused 0 (tokenize (spaces (suc n))) ≡ None
 unfolding made
 not_refused n = rw (one_token n)
 

@@ -12,6 +12,7 @@ use parser::look::Remembered;
 use parser::sets::CONTROL_FLOW;
 use parser::state::Parser;
 
+// The arms are values, and no closures: what arm a round takes is proved of the definition's tests, in another order than the code's.
 // Tokens are taken, and there is another round.
 #[derive(Clone, Copy)]
 pub enum Taken {
@@ -58,7 +59,7 @@ fn inner_arm(parser: &Parser, p: usize, known: Remembered, item: bool) -> Seen
     if item {
         return Seen {
             arm: BlockArm::Closes(Closing::Item),
-            known: known,
+            known,
         };
     }
     let k = parser.current(p);
@@ -78,24 +79,24 @@ fn inner_arm(parser: &Parser, p: usize, known: Remembered, item: bool) -> Seen
     if parser.is_top_level_starter(p) {
         return Seen {
             arm: BlockArm::Closes(Closing::Item),
-            known: known,
+            known,
         };
     }
     if is_control_flow(k) {
         return Seen {
             arm: BlockArm::Control,
-            known: known,
+            known,
         };
     }
     if starts_instruction(k) {
         return Seen {
             arm: BlockArm::Takes(Taken::Instruction),
-            known: known,
+            known,
         };
     }
     Seen {
         arm: BlockArm::Takes(Taken::Bad),
-        known: known,
+        known,
     }
 }
 
@@ -116,31 +117,31 @@ pub fn block_arm_here(
     if is_regular_trivia(k) {
         return Seen {
             arm: BlockArm::Takes(Taken::Trivia),
-            known: known,
+            known,
         };
     }
     if k == IDENT {
         return Seen {
             arm: BlockArm::Takes(Taken::Instruction),
-            known: known,
+            known,
         };
     }
     if parser.eof(p) {
         return Seen {
             arm: BlockArm::Closes(Closing::Eof),
-            known: known,
+            known,
         };
     }
     if parser.at_terminator(p, terminators) {
         return Seen {
             arm: BlockArm::Closes(Closing::Terminator),
-            known: known,
+            known,
         };
     }
     if parser.at_stray_else(p, terminators) {
         return Seen {
             arm: BlockArm::Closes(Closing::StrayElse),
-            known: known,
+            known,
         };
     }
     inner_arm(parser, p, known, item)

@@ -17,7 +17,7 @@ use lexer::syntax::ERROR;
 use parser::cursor::Cursor;
 use parser::state::Parser;
 
-// A block's end; `item` says that an item is known to start here.
+// A block's end; `item` says that an item is known to start here. That speaks of the file too, so no ghost field says it (`ItemAt`).
 #[derive(Clone, Copy)]
 pub struct BlockEnd {
     pub c: Cursor,
@@ -25,7 +25,7 @@ pub struct BlockEnd {
     pub item: bool,
 }
 
-// A form's end, and whether the file ended in it.
+// A form's end, and whether the file ended in it: the Rust's answer, beside the cursor that goes on either way.
 #[derive(Clone, Copy)]
 pub struct Form {
     pub c: Cursor,
@@ -143,21 +143,13 @@ pub fn finish(parser: &mut Parser, b: BlockEnd, owner: BlockOwner) -> Form
 pub fn found_terminator(outcome: BlockParseOutcome) -> bool
     ensures { result ≡ found_terminator outcome }
 {
-    match outcome {
-        BlockParseOutcome::FoundTerminator => true,
-        BlockParseOutcome::RecoveredImplicitEnd => false,
-        BlockParseOutcome::ReachedEof => false,
-    }
+    matches!(outcome, BlockParseOutcome::FoundTerminator)
 }
 
 fn reached_eof(outcome: BlockParseOutcome) -> bool
     ensures { result ≡ reached_eof outcome }
 {
-    match outcome {
-        BlockParseOutcome::FoundTerminator => false,
-        BlockParseOutcome::RecoveredImplicitEnd => false,
-        BlockParseOutcome::ReachedEof => true,
-    }
+    matches!(outcome, BlockParseOutcome::ReachedEof)
 }
 
 // Whether an `else` follows the block of an `if`.

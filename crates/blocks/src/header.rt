@@ -49,6 +49,7 @@ pub fn do_header(parser: &mut Parser, c0: Cursor) -> Cursor
     keyword_line(parser, a, DO)
 }
 
+// The next three differ in constants alone: calls of `header` in their places would make a level of the cycle deeper.
 // The opening event of an `if`, and its first line.
 pub fn if_header(parser: &mut Parser, c0: Cursor) -> Cursor
     requires { at (is if_word) (drop c0.pos parser.old.kinds.now) ≡ true }

@@ -61,10 +61,9 @@ pub fn parse_structured_header_suffixes(parser: &mut Parser, c0: Cursor) -> Curs
     let mut c = c0;
     loop {
         let s = suffix_round(parser, c);
-        let sc = s.c;
         if !s.ok {
-            return sc;
+            return s.c;
         }
-        c = sc;
+        c = s.c;
     }
 }

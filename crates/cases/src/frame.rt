@@ -1,239 +1,118 @@
 // The frames of the input: eight little-endian numbers (the part, bytes of the source, entries of the six slices), then the source.
-ghost use Rattle.std.specs.Prelude.{◌≤◌, length};
-ghost use Rattle.frames.specs.Ready.{Ready};
-
 use crate::{lexing, reading};
+use cst::Slices;
 use frames::header::frame_number;
 use frames::input::read_input;
-use frames::output;
-use std::io::Read;
+use std::io;
+use std::io::{Read, Write};
 
-// The parts: the lexer alone, the whole reading, and the text of `tree`.
-const LEXER: usize = 0;
-
-const READING: usize = 1;
-
-const TREE: usize = 2;
-
-// How much of the buffer is used, and whether a frame was answered.
+// What is printed of a source: the lexer's slices, the whole reading, or the text of `tree`.
 #[derive(Clone, Copy)]
-pub struct Step {
-    pub used: usize,
-    pub more: bool,
+enum Part {
+    Lexer,
+    Reading,
+    Tree,
+}
+
+// A number that names no part.
+#[derive(Clone, Copy, Debug)]
+struct UnknownPart(usize);
+
+impl TryFrom<usize> for Part {
+    type Error = UnknownPart;
+
+    fn try_from(number: usize) -> Result<Part, UnknownPart> {
+        match number {
+            0 => Ok(Part::Lexer),
+            1 => Ok(Part::Reading),
+            2 => Ok(Part::Tree),
+            _ => Err(UnknownPart(number)),
+        }
+    }
+}
+
+// The numbers of a frame.
+#[derive(Clone, Copy)]
+struct Header {
+    part: Part,
+    source: usize,
+    kinds: usize,
+    ends: usize,
+    events: usize,
+    messages: usize,
+    starts: usize,
+    stops: usize,
+}
+
+// Fills the buffer, or says that the input has too little.
+fn read_whole(from: &mut impl Read, buf: &mut [u8]) -> Option<()> {
+    let got = read_input(from, buf).ok()?;
+    if got == buf.len() { Some(()) } else { None }
+}
+
+// The next header, or `None` where the input ends or there is no such part.
+fn read_header(from: &mut impl Read) -> Option<Header> {
+    let mut head = [0u8; 32];
+    read_whole(from, &mut head)?;
+    Some(Header {
+        part: Part::try_from(frame_number(&head, 0)).ok()?,
+        source: frame_number(&head, 4),
+        kinds: frame_number(&head, 8),
+        ends: frame_number(&head, 12),
+        events: frame_number(&head, 16),
+        messages: frame_number(&head, 20),
+        starts: frame_number(&head, 24),
+        stops: frame_number(&head, 28),
+    })
 }
 
 // Answers a source.
-fn answer(
-    rt: &impl Print,
-    part: usize,
+fn put_part(
+    out: &mut impl Write,
+    part: Part,
     source: &[u8],
-    kinds: &mut [u16],
-    ends: &mut [u32],
-    events: &mut [u16],
-    messages: &mut [u16],
-    starts: &mut [u32],
-    stops: &mut [u32],
-    out: &mut [u8],
-    used: usize,
-) -> usize
-    requires { Ready used out.old }
-    ensures { Ready result out.new }
-{
-    if part == LEXER {
-        return lexing::put_lexing(rt, source, kinds, ends, out, used);
+    slices: &mut Slices<'_>,
+) -> io::Result<()> {
+    match part {
+        Part::Lexer => lexing::put_lexing(out, source, slices),
+        Part::Reading => reading::put_reading(out, source, slices),
+        Part::Tree => show::put_tree(out, source, slices),
     }
-    if part == READING {
-        return reading::put_reading(
-            rt, source, kinds, ends, events, messages, starts, stops, out, used,
-        );
-    }
-    show::put_tree(
-        rt, source, kinds, ends, events, messages, starts, stops, out, used,
-    )
 }
 
-// Reads the source and answers it.
-fn body(
-    rt: &impl Print,
+// One frame, or `None` where the input ends, there is no such part, or a number is too large.
+fn answer_frame(
+    out: &mut impl Write,
     from: &mut impl Read,
-    part: usize,
     source: &mut [u8],
-    kinds: &mut [u16],
-    ends: &mut [u32],
-    events: &mut [u16],
-    messages: &mut [u16],
-    starts: &mut [u32],
-    stops: &mut [u32],
-    out: &mut [u8],
-    used: usize,
-) -> Step
-    requires { Ready used out.old }
-    ensures { Ready result.used out.new }
-{
-    let got = read_input(from, source).got;
-    if got < source.len() {
-        return Step { used, more: false };
-    }
-    let used = answer(
-        rt, part, source, kinds, ends, events, messages, starts, stops, out, used,
-    );
-    Step { used, more: true }
+    slices: &mut Slices<'_>,
+) -> Option<io::Result<()>> {
+    let header = read_header(from)?;
+    let source = source.get_mut(..header.source)?;
+    let mut lent = Slices {
+        kinds: slices.kinds.get_mut(..header.kinds)?,
+        ends: slices.ends.get_mut(..header.ends)?,
+        events: slices.events.get_mut(..header.events)?,
+        messages: slices.messages.get_mut(..header.messages)?,
+        starts: slices.starts.get_mut(..header.starts)?,
+        stops: slices.stops.get_mut(..header.stops)?,
+    };
+    read_whole(from, source)?;
+    Some(put_part(out, header.part, source, &mut lent))
 }
 
-// Cuts the slices of events and diagnostics to what the header asks for.
-fn cut_output(
-    rt: &impl Print,
-    from: &mut impl Read,
-    head: &[u8],
-    source: &mut [u8],
-    kinds: &mut [u16],
-    ends: &mut [u32],
-    events: &mut [u16],
-    messages: &mut [u16],
-    starts: &mut [u32],
-    stops: &mut [u32],
-    out: &mut [u8],
-    used: usize,
-) -> Step
-    requires { (Ready used out.old) × (32 ≤ length head.now) }
-    ensures { Ready result.used out.new }
-{
-    let part = frame_number(head, 0);
-    let v = frame_number(head, 16);
-    let m = frame_number(head, 20);
-    let s = frame_number(head, 24);
-    let e = frame_number(head, 28);
-    if events.len() < v || messages.len() < m || starts.len() < s || stops.len() < e {
-        return Step { used, more: false };
-    }
-    body(
-        rt,
-        from,
-        part,
-        source,
-        kinds,
-        ends,
-        &mut events[..v],
-        &mut messages[..m],
-        &mut starts[..s],
-        &mut stops[..e],
-        out,
-        used,
-    )
-}
-
-// Cuts the source and the slices of tokens.
-fn cut_tokens(
-    rt: &impl Print,
-    from: &mut impl Read,
-    head: &[u8],
-    source: &mut [u8],
-    kinds: &mut [u16],
-    ends: &mut [u32],
-    events: &mut [u16],
-    messages: &mut [u16],
-    starts: &mut [u32],
-    stops: &mut [u32],
-    out: &mut [u8],
-    used: usize,
-) -> Step
-    requires { (Ready used out.old) × (32 ≤ length head.now) }
-    ensures { Ready result.used out.new }
-{
-    let n = frame_number(head, 4);
-    let k = frame_number(head, 8);
-    let e = frame_number(head, 12);
-    if source.len() < n || kinds.len() < k || ends.len() < e {
-        return Step { used, more: false };
-    }
-    cut_output(
-        rt,
-        from,
-        head,
-        &mut source[..n],
-        &mut kinds[..k],
-        &mut ends[..e],
-        events,
-        messages,
-        starts,
-        stops,
-        out,
-        used,
-    )
-}
-
-// One frame, or none where the input ends, there is no such part, or a number is too large.
-fn frame(
-    rt: &impl Print,
+// All frames. The count makes the loop end, and no input has as many frames.
+pub fn answer_frames(
+    out: &mut impl Write,
     from: &mut impl Read,
     source: &mut [u8],
-    kinds: &mut [u16],
-    ends: &mut [u32],
-    events: &mut [u16],
-    messages: &mut [u16],
-    starts: &mut [u32],
-    stops: &mut [u32],
-    out: &mut [u8],
-    used: usize,
-) -> Step
-    requires { Ready used out.old }
-    ensures { Ready result.used out.new }
-{
-    let mut head = [0u8; 32];
-    let got = read_input(from, &mut head).got;
-    if got < 32 || TREE < frame_number(&head, 0) {
-        return Step { used, more: false };
-    }
-    cut_tokens(
-        rt, from, &head, source, kinds, ends, events, messages, starts, stops, out, used,
-    )
-}
-
-// All frames; how much of the buffer is used at the end. The count makes the loop end, and no input has as many frames.
-fn frames(
-    rt: &impl Print,
-    from: &mut impl Read,
-    source: &mut [u8],
-    kinds: &mut [u16],
-    ends: &mut [u32],
-    events: &mut [u16],
-    messages: &mut [u16],
-    starts: &mut [u32],
-    stops: &mut [u32],
-    out: &mut [u8],
-) -> usize
-    requires { Ready 0 out.old }
-    ensures { Ready result out.new }
-{
-    let mut used = 0;
-    for i in 0usize..1000000000000 {
-        let step = frame(
-            rt, from, source, kinds, ends, events, messages, starts, stops, out, used,
-        );
-        used = step.used;
-        if !step.more {
-            return used;
+    slices: &mut Slices<'_>,
+) -> io::Result<()> {
+    for _ in 0..u64::MAX {
+        match answer_frame(out, from, source, slices) {
+            Some(written) => written?,
+            None => break,
         }
     }
-    used
-}
-
-pub fn run_cases(
-    rt: &impl Print,
-    from: &mut impl Read,
-    source: &mut [u8],
-    kinds: &mut [u16],
-    ends: &mut [u32],
-    events: &mut [u16],
-    messages: &mut [u16],
-    starts: &mut [u32],
-    stops: &mut [u32],
-    out: &mut [u8],
-)
-    requires { Ready 0 out.old }
-{
-    let used = frames(
-        rt, from, source, kinds, ends, events, messages, starts, stops, out,
-    );
-    output::flush(rt, out, used);
+    out.flush()
 }

@@ -1,60 +1,34 @@
 // The lexer alone on one source: its slices filled, the call, and what is left in the slices.
-ghost use Rattle.frames.specs.Ready.{Ready};
-
-use frames::fill::{fill_u16, fill_u32};
-use frames::output;
+use crate::filling;
+use answer::{Answer, FourNumbers};
+use cst::Slices;
+use frames::output::put_line;
 use lexer::MAX_SOURCE;
-use utf8::Utf8;
+use std::io;
+use std::io::Write;
 
-// The first line of an answer.
-fn put_status(rt: &impl Print, out: &mut [u8], used: usize, status: usize, value: usize) -> usize
-    requires { Ready used out.old }
-    ensures { Ready result out.new }
-{
-    let first = output::put_entry(rt, out, used, 0, status);
-    let second = output::put_entry(rt, out, first, 1, value);
-    output::put_byte(rt, out, second, b'\n')
-}
-
-// 1 where the source is too long, 2 and the offset where it is not UTF-8, else 0 and the number of tokens.
-fn tokenize(
-    rt: &impl Print,
-    source: &[u8],
-    kinds: &mut [u16],
-    ends: &mut [u32],
-    out: &mut [u8],
-    used: usize,
-) -> usize
-    requires { Ready used out.old }
-    ensures { Ready result out.new }
-{
+// The number of tokens, or why there are none.
+fn tokenize(source: &[u8], slices: &mut Slices<'_>) -> Result<usize, Answer> {
     if MAX_SOURCE < source.len() {
-        return put_status(rt, out, used, 1, 0);
+        return Err(Answer::TooLong);
     }
     match utf8::validate(source) {
-        Utf8::At(n) => put_status(rt, out, used, 2, n),
-        Utf8::Valid => {
-            let t = lexer::tokenize(source, kinds, ends);
-            put_status(rt, out, used, 0, t)
-        }
+        Err(e) => Err(Answer::NotUtf8(e.valid_up_to)),
+        Ok(()) => Ok(lexer::tokenize(source, slices.kinds, slices.ends)),
     }
 }
 
-// The three lines of an answer.
-pub fn put_lexing(
-    rt: &impl Print,
-    source: &[u8],
-    kinds: &mut [u16],
-    ends: &mut [u32],
-    out: &mut [u8],
-    used: usize,
-) -> usize
-    requires { Ready used out.old }
-    ensures { Ready result out.new }
-{
-    fill_u16(kinds);
-    fill_u32(ends);
-    let first = tokenize(rt, source, kinds, ends, out, used);
-    let second = output::put_u16(rt, out, first, kinds);
-    output::put_u32(rt, out, second, ends)
+// The three lines of an answer. The first has 0 and the number of tokens, or the refusal's status and offset.
+pub fn put_lexing(out: &mut impl Write, source: &[u8], slices: &mut Slices<'_>) -> io::Result<()> {
+    slices.kinds.fill(filling::SHORT);
+    slices.ends.fill(filling::LONG);
+    match tokenize(source, slices) {
+        Ok(count) => put_line(out, &[0, count as u64])?,
+        Err(refusal) => {
+            let row = FourNumbers::from(refusal);
+            put_line(out, &[row.status, row.first])?;
+        }
+    }
+    put_line(out, slices.kinds)?;
+    put_line(out, slices.ends)
 }

@@ -2,8 +2,11 @@
 // `tree`.
 #![tactic(auto)]
 
+use cst::Slices;
+use frames::output::Output;
 use lexer::MAX_SOURCE;
 
+mod filling;
 mod frame;
 mod lexing;
 mod reading;
@@ -11,23 +14,15 @@ mod reading;
 // The slices stand on the stack, all together in less than the 8 MiB that a process is given.
 fn main(rt: HostRuntime) {
     let mut source = [0u8; MAX_SOURCE + 1];
-    let mut kinds = [0u16; 262144];
-    let mut ends = [0u32; 262144];
-    let mut events = [0u16; 917506];
-    let mut messages = [0u16; 262144];
-    let mut starts = [0u32; 262144];
-    let mut stops = [0u32; 262144];
-    let mut out = [0u8; 65536];
-    frame::run_cases(
-        &rt,
-        &mut rt.stdin(),
-        &mut source,
-        &mut kinds,
-        &mut ends,
-        &mut events,
-        &mut messages,
-        &mut starts,
-        &mut stops,
-        &mut out,
-    );
+    let mut slices = Slices {
+        kinds: &mut [0u16; 262144],
+        ends: &mut [0u32; 262144],
+        events: &mut [0u16; 917506],
+        messages: &mut [0u16; 262144],
+        starts: &mut [0u32; 262144],
+        stops: &mut [0u32; 262144],
+    };
+    let mut buf = [0u8; 65536];
+    let mut out = Output::new(&rt, &mut buf);
+    let _ = frame::answer_frames(&mut out, &mut rt.stdin(), &mut source, &mut slices);
 }

@@ -1,6 +1,6 @@
 -- What the passes behind the lexer come to, together.
 -- Assumes nothing.
-use Rattle.std.specs.Prelude.{ℕ, zero, suc, pred, ◌+◌, ◌≤◌, min, ◌≡◌, Bool, cond, List, [], ◌∷◌, ◌++◌, map, ltb, length, take, drop}
+use Rattle.std.specs.Prelude.{Option, None, Some, ℕ, zero, suc, pred, ◌+◌, ◌≤◌, min, ◌≡◌, Bool, cond, List, [], ◌∷◌, ◌++◌, map, ltb, length, take, drop}
 use Rattle.std.proofs.Math.Path.{refl, ap}
 use Rattle.std.proofs.Common.{sym, ap₂, ◌∙◌, arith, length-take, take_at, drop_at}
 use Rattle.std.proofs.Math.Bool.{true, false}
@@ -14,20 +14,17 @@ use Rattle.lexer.specs.Laws.{length_ends}
 use Rattle.grammar.specs.Words.{kind_of}
 use Rattle.grammar.specs.Out.{Diag, diags}
 use Rattle.grammar.specs.Source.{symbols}
-use Rattle.items.specs.Entry.{ParserSlices}
 use Rattle.grammar.specs.Block.{MAX_CONTROL_FLOW_NESTING as limit}
-use Rattle.items.specs.Entry.{Parse}
-use Rattle.marks.specs.declared.Refusal.{Refusal}
-use Rattle.marks.specs.declared.Refusal.TheVariants.{Nothing, At}
+use Rattle.items.specs.Entry.{ParserSlices, Parse}
 use Rattle.marks.specs.Marks.{first_refused}
 use Rattle.marks.specs.Code.{mark}
 use Rattle.marks.specs.Laws.{marks_unmarked}
 use Rattle.places.specs.Places.{Places}
 use Rattle.places.proofs.Laws.{messages_of_places}
 use Rattle.places.proofs.Writes.{places_over}
+use Rattle.answer.specs.declared.Answer.{Answer}
 use Rattle.answer.specs.declared.Answer.TheVariants.{TokenRoom}
-use Rattle.answer.specs.Answer.{slices, Outcome, outcome, places_of, from_row_3, from_row_4, from_row_5}
-use Rattle.cst.specs.declared.rows.Counts.{Counts}
+use Rattle.answer.specs.Answer.{Slices, slices, Outcome, outcome, places_of, from_row_3, from_row_4, from_row_5}
 use Rattle.cst.specs.Reading.{MarkedTokens, WriteReading}
 
 last_below : (k m n : ℕ) (s : List ℕ) → m ≤ n → last_from k m n s ≤ n + length s
@@ -91,19 +88,30 @@ abbrev pub with_kinds : List ℕ → Outcome → Outcome
 with_kinds k o = outcome o.answer (slices k o.slices.ends o.slices.events o.slices.messages o.slices.starts o.slices.stops)
 
 module _ (source ends ev dm ds de k k' : List ℕ) where
-  by_rows : (u : Bool) (q : Refusal)
+  by_rows : (u : Bool) (q : Option ℕ)
       → with_kinds k' (cond u (outcome (TokenRoom (length (tokenize source))) (slices k ends ev dm ds de)) (from_row_4 q source (slices k ends ev dm ds de)))
       ≡ cond u (outcome (TokenRoom (length (tokenize source))) (slices k' ends ev dm ds de)) (from_row_4 q source (slices k' ends ev dm ds de))
   unfolding from_row_4 from_row_5
   by_rows true q = refl
-  by_rows false Nothing = refl
-  by_rows false (At n) = refl
+  by_rows false None = refl
+  by_rows false (Some n) = refl
 
   pub other_kinds : length k ≡ length k' → with_kinds k' (from_row_3 source (slices k ends ev dm ds de)) ≡ from_row_3 source (slices k' ends ev dm ds de)
   unfolding from_row_3
   other_kinds e =
       ap (λ n. with_kinds k' (cond (ltb (min n (length ends)) (length (tokenize source))) (outcome (TokenRoom (length (tokenize source))) (slices k ends ev dm ds de)) (from_row_4 (first_refused 0 (tokenize source)) source (slices k ends ev dm ds de)))) e
       ∙ by_rows (ltb (min (length k') (length ends)) (length (tokenize source))) (first_refused 0 (tokenize source))
+
+-- Row 3 and those behind it leave the kinds.
+kept_by_rows : (u : Bool) (q : Option ℕ) (a : Answer) (source : List ℕ) (s : Slices) → (cond u (outcome a s) (from_row_4 q source s)).slices.kinds ≡ s.kinds
+unfolding from_row_4 from_row_5
+kept_by_rows true q a source s = refl
+kept_by_rows false None a source s = refl
+kept_by_rows false (Some n) a source s = refl
+
+pub kinds_stay : (source : List ℕ) (s : Slices) → (from_row_3 source s).slices.kinds ≡ s.kinds
+unfolding from_row_3
+kinds_stay source s = kept_by_rows _ _ _ source s
 
 -- ---- The grammar and the places.
 module _
@@ -121,10 +129,7 @@ module _
     written : (ds' ≡ over b.ds 0 (map (λ p. p.start) (places_of s))) × (de' ≡ over de 0 (map (λ p. p.stop) (places_of s)))
     written = places_over (token_ends s) (last_char s) said b.ds de ds' de' same_de (rw (ends_are, anchor_is, p.diags, p.ds) at placed)
 
-    abbrev counts : Counts
-    counts = record { events = w.c.events; diagnostics = w.c.diags }
-
-    pub reading_is : WriteReading s b.ev b.dm b.ds de counts w.ev w.dm ds' de'
+    pub reading_is : WriteReading s b.ev b.dm b.ds de w.c.events w.c.diags w.ev w.dm ds' de'
     reading_is = record {
       event_count = p.events;
       diagnostic_count = p.diags ∙ sym (length-map said _);

@@ -6,7 +6,6 @@ use Rattle.lexer.specs.Lexer.{tokenize}
 use Rattle.lexer.specs.Tokens.{room, token_ends}
 use Rattle.marks.specs.Code.{mark}
 use Rattle.answer.specs.Answer.{events_of, places_of}
-use Rattle.cst.specs.declared.rows.Counts.{Counts}
 
 -- t tokens, and where they have room, all of them marked.
 pub record MarkedTokens (source : List ℕ) (t : ℕ) (kinds ends : List ℕ) : Type 0 where
@@ -14,10 +13,10 @@ pub record MarkedTokens (source : List ℕ) (t : ℕ) (kinds ends : List ℕ) : 
   pub kinds_are : t ≤ room kinds ends → take t kinds ≡ map mark (tokenize source)
   pub ends_are : t ≤ room kinds ends → take t ends ≡ token_ends source
 
--- Events and diagnostics, each slice as far as it goes.
-pub record WriteReading (source events messages starts stops : List ℕ) (counts : Counts) (events' messages' starts' stops' : List ℕ) : Type 0 where
-  pub event_count : counts.events ≡ length (events_of source)
-  pub diagnostic_count : counts.diagnostics ≡ length (places_of source)
+-- e events and d diagnostics, each slice as far as it goes.
+pub record WriteReading (source events messages starts stops : List ℕ) (e d : ℕ) (events' messages' starts' stops' : List ℕ) : Type 0 where
+  pub event_count : e ≡ length (events_of source)
+  pub diagnostic_count : d ≡ length (places_of source)
   pub events_are : events' ≡ over events 0 (events_of source)
   pub messages_are : messages' ≡ over messages 0 (map (λ p. p.msg) (places_of source))
   pub starts_are : starts' ≡ over starts 0 (map (λ p. p.start) (places_of source))

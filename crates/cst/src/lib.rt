@@ -1,65 +1,55 @@
 // The reading of a source into lent slices: UTF-8, lexer, words, grammar, places.
 #![tactic(auto)]
 
-ghost use Rattle.std.specs.Prelude.{◌≡◌, ◌≤◌, length};
-ghost use Rattle.utf8.specs.WellFormed.{WellFormed};
+ghost use Rattle.std.specs.Prelude.{◌≡◌, ◌≤◌, length, Ok};
+ghost use Rattle.utf8.specs.Validate.{validate};
 ghost use Rattle.lexer.specs.Tokens.{MAX_SOURCE};
 ghost use Rattle.answer.specs.Answer.{entry_slices, exit_slices, outcome, with_tokens, from_row_3, parse_text};
 ghost use Rattle.answer.specs.Call.{MasmParseText};
+ghost use Rattle.answer.specs.Lent.{lists, SameSlices};
 
-use answer::{Answer, numbers};
+use answer::{Answer, FourNumbers};
 use lexer::MAX_SOURCE;
-use room::least;
-use utf8::Utf8;
 
 mod rows;
 
-// A text that is not too long: its tokens with their marks, the rows from 3 on, and the marks taken off.
-fn parse_utf8(
-    source: &[u8],
-    kinds: &mut [u16],
-    ends: &mut [u32],
-    events: &mut [u16],
-    messages: &mut [u16],
-    starts: &mut [u32],
-    stops: &mut [u32],
-) -> Answer
-    requires { (length source.now ≤ MAX_SOURCE) × WellFormed source.now }
-    ensures { outcome result (exit_slices kinds ends events messages starts stops)
-        ≡ from_row_3 source.now
-        (with_tokens source.now (entry_slices kinds ends events messages starts stops)) }
+pub use answer::Slices;
+
+// A source that is not too long and is UTF-8.
+#[derive(Clone, Copy)]
+pub struct Text<'a> {
+    bytes: &'a [u8],
+    ghost within_limit: { length bytes.now ≤ MAX_SOURCE },
+    ghost is_utf8: { validate bytes.now ≡ Ok tt },
+}
+
+// A text's tokens with their marks, the rows from 3 on, and the marks taken off.
+fn parse_utf8(text: Text, slices: &mut Slices) -> Answer
+    ensures same_slices { SameSlices slices.old slices.new }
+    ensures answer { outcome result (lists slices.new)
+        ≡ from_row_3 text.entry.bytes.now
+        (with_tokens text.entry.bytes.now (lists slices.old)) }
 {
-    let read = marks::mark_source(source, kinds, ends);
-    let t = read.count;
-    let refusal = read.refusal;
-    let n = least(least(kinds.len(), ends.len()), t);
-    let answer = rows::parse_from_row_3(
-        source, t, refusal, kinds, ends, events, messages, starts, stops,
-    );
-    marks::unmark(&mut kinds[..n]);
+    let read = marks::mark_source(text.bytes, slices.kinds, slices.ends);
+    let n = slices.kinds.len().min(slices.ends.len()).min(read.count);
+    let answer = rows::parse_from_row_3(text, read, slices);
+    marks::unmark(&mut slices.kinds[..n]);
     answer
 }
 
-// The whole reading, of any bytes into any slices.
-pub fn parse_text(
-    source: &[u8],
-    kinds: &mut [u16],
-    ends: &mut [u32],
-    events: &mut [u16],
-    messages: &mut [u16],
-    starts: &mut [u32],
-    stops: &mut [u32],
-) -> Answer
-    ensures { outcome result (exit_slices kinds ends events messages starts stops)
-        ≡ parse_text source.now (entry_slices kinds ends events messages starts stops) }
+// The whole reading, of any bytes into any slices. Inlined, so that the slices stand in one frame.
+#[inline(always)]
+pub fn parse_text(source: &[u8], slices: &mut Slices) -> Answer
+    ensures same_slices { SameSlices slices.old slices.new }
+    ensures answer { outcome result (lists slices.new) ≡ parse_text source.now (lists slices.old) }
 {
     if MAX_SOURCE < source.len() {
         return Answer::TooLong;
     }
     let found = utf8::validate(source);
     match found {
-        Utf8::At(n) => Answer::NotUtf8(n),
-        Utf8::Valid => parse_utf8(source, kinds, ends, events, messages, starts, stops),
+        Err(e) => Answer::NotUtf8(e.valid_up_to),
+        Ok(()) => parse_utf8(Text { bytes: source }, slices),
     }
 }
 
@@ -81,8 +71,16 @@ pub fn masm_parse_text(
     if counts.len() < 3 {
         return 6;
     }
-    let answer = parse_text(source, kinds, ends, events, messages, starts, stops);
-    let n = numbers(answer);
+    let mut slices = Slices {
+        kinds,
+        ends,
+        events,
+        messages,
+        starts,
+        stops,
+    };
+    let answer = parse_text(source, &mut slices);
+    let n = FourNumbers::from(answer);
     counts[0] = n.first;
     counts[1] = n.second;
     counts[2] = n.third;

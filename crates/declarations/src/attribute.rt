@@ -48,10 +48,9 @@ pub fn attributes(parser: &mut Parser, c0: Cursor) -> Cursor
     let mut c = c0;
     loop {
         let s = attribute_round(parser, c);
-        let sc = s.c;
         if !s.ok {
-            return sc;
+            return s.c;
         }
-        c = sc;
+        c = s.c;
     }
 }

@@ -16,8 +16,7 @@ pub fn parse_namespace(parser: &mut Parser, c0: Cursor) -> Cursor
 {
     let a = parser.put(c0, NAMESPACE);
     let b = parser.expect_kind(a, NAMESPACE_WORD, Message::Unreached);
-    let bc = b.c;
-    let d = parser.bump_regular_trivia(bc);
+    let d = parser.bump_regular_trivia(b.c);
     let e = parse_path_with_message(parser, d, Message::Item(ItemMessage::ExpectedNamespacePath));
     let f = parse_line_tail(parser, e);
     parser.put(f, CLOSE)

@@ -20,8 +20,7 @@ pub fn keyword_and_name(
     ensures { Ran (keyword_and_name k m name) (entry parser c0) (exit parser result) }
 {
     let a = parser.expect_kind(c0, k, m);
-    let ac = a.c;
-    let b = parser.bump_regular_trivia(ac);
+    let b = parser.bump_regular_trivia(a.c);
     parser.expect_name(b, name)
 }
 
@@ -40,7 +39,6 @@ pub fn value_line(parser: &mut Parser, c0: Cursor, missing: Message) -> Cursor
     ensures { Ran (value_line missing) (entry parser c0) (exit parser result) }
 {
     let a = parser.expect_kind(c0, EQUAL, missing);
-    let ac = a.c;
-    let b = parse_expr_until_line_end(parser, ac);
+    let b = parse_expr_until_line_end(parser, a.c);
     parse_line_tail(parser, b)
 }

@@ -19,7 +19,7 @@ use parser::look::Remembered;
 use parser::sets::{EQUAL_OR_COLON, TYPE_WORDS};
 use parser::state::Parser;
 
-// Whether a type's body ends here, and what is remembered of the lookahead behind newlines.
+// Whether a type's body ends here, and what is remembered of the lookahead behind newlines: each is of use without the other.
 #[derive(Clone, Copy)]
 struct BodyEnd {
     ends: bool,
@@ -31,16 +31,10 @@ fn at_type_end(parser: &Parser, p: usize, nesting: Nesting, known: Remembered) -
     ensures { (result.ends ≡ type_ends nesting (drop p parser.now.kinds.now)) × BreakKnown parser.now.kinds.now p result.known }
 {
     if !nesting.is_root() {
-        return BodyEnd {
-            ends: false,
-            known: known,
-        };
+        return BodyEnd { ends: false, known };
     }
     if !parser.at_kind(p, NEWLINE) {
-        return BodyEnd {
-            ends: false,
-            known: known,
-        };
+        return BodyEnd { ends: false, known };
     }
     let b = parser.line_break_starts_new_top_level_item(p, known);
     BodyEnd {
@@ -53,7 +47,7 @@ fn type_tokens(parser: &mut Parser, c0: Cursor) -> Cursor
     ensures { Ran (scan type_round default) (entry parser c0) (exit parser result) }
 {
     let mut c = c0;
-    let mut nesting = Nesting::new();
+    let mut nesting = Nesting::default();
     let mut known = Remembered {
         next: 0,
         starts: false,
@@ -65,9 +59,8 @@ fn type_tokens(parser: &mut Parser, c0: Cursor) -> Cursor
         }
         known = e.known;
         let b = parser.bump_nesting(c, nesting, parser.current(c.pos));
-        let d = b.c;
         nesting = b.nesting;
-        c = parser.bump(d);
+        c = parser.bump(b.c);
     }
     c
 }

@@ -20,9 +20,8 @@ fn package_in_parens(parser: &mut Parser, c0: Cursor) -> Cursor
         PACKAGE,
         Message::Procedure(ProcedureMessage::ExpectedPackage),
     );
-    let dc = d.c;
     let e = parser.expect_kind(
-        dc,
+        d.c,
         R_PAREN,
         Message::Procedure(ProcedureMessage::ExpectedPackageEnd),
     );
@@ -34,13 +33,12 @@ pub fn parse_visibility(parser: &mut Parser, c0: Cursor) -> Cursor
 {
     let a = parser.put(c0, VISIBILITY);
     let b = parser.expect_kind(a, PUB, Message::Unreached);
-    let bc = b.c;
-    let next = parser.next_relevant_top_level_token(bc.pos);
+    let next = parser.next_relevant_top_level_token(b.c.pos);
     if parser.at_kind(next, L_PAREN) {
-        let d = package_in_parens(parser, bc);
+        let d = package_in_parens(parser, b.c);
         return parser.put(d, CLOSE);
     }
-    parser.put(bc, CLOSE)
+    parser.put(b.c, CLOSE)
 }
 
 // if at_keyword("pub") { parse_visibility }

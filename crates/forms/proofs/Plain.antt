@@ -3,6 +3,7 @@ use Prim.Native.Nat.{ℕ}
 use mathlib.Core.Bool.{Bool, true, false, false≢true, cond, not, ◌&&◌, ◌||◌, and-false}
 use mathlib.Core.List.{List, [], ◌∷◌}
 use mathlib.Core.Path.{◌≡◌, refl, sym, ap, ap₂, subst, ◌∙◌}
+use Rattle.std.specs.Prelude.{Option, Some, None, is_some}
 use borrow.Author.Tests.{eqb-true, ne_eqb}
 use lib.Dec.{eqb}
 use Rattle.lexer.specs.Syntax.{Error, Whitespace, Newline, Comment, DocComment, Dot, Equal, Comma, DotDot, DotDotDot, Colon, ColonColon, RArrow, Plus, Minus, Star, Slash, SlashSlash, LBrace, LBracket, LParen, RBrace, RBracket, RParen}
@@ -11,8 +12,7 @@ use Rattle.grammar.specs.Look.{one_of, at, current, eof, skip, is_trivia, expect
 use Rattle.grammar.specs.Out.{kind}
 use Rattle.grammar.specs.Run.{go}
 use Rattle.grammar.specs.Nesting.{default, is_root, bump_by, bump_nesting, counted}
-use Rattle.grammar.specs.Instruction.{Inst, instruction_round, is_some, expects_operand, should_continue_instruction_after_whitespace, should_stop_instruction_before}
-use Rattle.grammar.specs.declared.nesting.Significant.{Significant}
+use Rattle.grammar.specs.Instruction.{Inst, instruction_round, expects_operand, should_continue_instruction_after_whitespace, should_stop_instruction_before}
 use Rattle.parser.specs.Sets.{bit, bits_are, each_of}
 use Rattle.forms.specs.Instruction.{instruction_ends, behind, plain_kinds, plain_punctuation, open_behind}
 use Rattle.forms.proofs.Rounds.{instruction_locals, instruction_counts, or_off}
@@ -25,21 +25,21 @@ abbrev ordinary : Sym → Bool
 ordinary k = not (one_of special k)
 
 -- what is taken behind any token is plain
-open_plain : (previous : Significant) (k : Sym) → bit (open_behind previous) k ≡ true → bit plain_kinds k ≡ true
+open_plain : (previous : Option Sym) (k : Sym) → bit (open_behind previous) k ≡ true → bit plain_kinds k ≡ true
 unfolding open_behind bit
-open_plain Significant.Nothing k b = b
-open_plain (Significant.Kind p) k b = by_test (expects_continuation_operand p) b
+open_plain None k b = b
+open_plain (Some p) k b = by_test (expects_continuation_operand p) b
   where
     by_test : (u : Bool) → bit (cond u plain_kinds plain_punctuation) k ≡ true → bit plain_kinds k ≡ true
     by_test true b = b
     by_test false b = each_of plain_punctuation (bit plain_kinds) k tt b
 
-open_ordinary : (previous : Significant) (k : Sym) → bit (open_behind previous) k ≡ true → ordinary k ≡ true
+open_ordinary : (previous : Option Sym) (k : Sym) → bit (open_behind previous) k ≡ true → ordinary k ≡ true
 unfolding one_of
 open_ordinary previous k b = each_of plain_kinds ordinary k tt (open_plain previous k b)
 
 -- the token is its own event
-pub open_own : (previous : Significant) (k : Sym) → bit (open_behind previous) k ≡ true → k ≡ kind k
+pub open_own : (previous : Option Sym) (k : Sym) → bit (open_behind previous) k ≡ true → k ≡ kind k
 open_own previous k b = eqb-true k (kind k) (each_of plain_kinds (λ i. eqb i (kind i)) k tt (open_plain previous k b))
 
 -- behind a token that expects no operand
@@ -61,32 +61,32 @@ module _ (k : Sym) (o : ordinary k ≡ true) where
   no_trivia = rw (apart Whitespace k refl o, apart Newline k refl o, apart Comment k refl o, apart DocComment k refl o)
 
   -- nor does the instruction end before it
-  goes_on_by : (previous : Significant) (r : List Sym) → bit (open_behind previous) k ≡ true → instruction_ends previous default (k ∷ r) ≡ false
-  unfolding instruction_ends at one_of is_some should_stop_instruction_before is_root expects_operand open_behind
-  goes_on_by Significant.Nothing r b = rw (apart Whitespace k refl o, apart Newline k refl o, apart Comment k refl o, apart DocComment k refl o)
-  goes_on_by (Significant.Kind p) r b = by_test (expects_continuation_operand p) refl b
+  goes_on_by : (previous : Option Sym) (r : List Sym) → bit (open_behind previous) k ≡ true → instruction_ends previous default (k ∷ r) ≡ false
+  unfolding instruction_ends at one_of should_stop_instruction_before is_root expects_operand open_behind
+  goes_on_by None r b = rw (apart Whitespace k refl o, apart Newline k refl o, apart Comment k refl o, apart DocComment k refl o)
+  goes_on_by (Some p) r b = by_test (expects_continuation_operand p) refl b
     where
       by_test : (u : Bool) → expects_continuation_operand p ≡ u → bit (cond u plain_kinds plain_punctuation) k ≡ true
-          → instruction_ends (Significant.Kind p) default (k ∷ r) ≡ false
+          → instruction_ends (Some p) default (k ∷ r) ≡ false
       by_test true e b = rw (apart Whitespace k refl o, apart Newline k refl o, apart Comment k refl o, apart DocComment k refl o, e)
       by_test false e b = rw (apart Whitespace k refl o, apart Newline k refl o, apart Comment k refl o, apart DocComment k refl o, e, open_continues k b)
 
-pub not_error : (previous : Significant) (k : Sym) → bit (open_behind previous) k ≡ true → k ≡ 1 → ⊥
+pub not_error : (previous : Option Sym) (k : Sym) → bit (open_behind previous) k ≡ true → k ≡ 1 → ⊥
 unfolding one_of
 not_error previous k b e = false≢true (ap ordinary (sym e) ∙ open_ordinary previous k b)
 
-pub plain_round : (previous : Significant) (r : List Sym) (k : ℕ) → eof r ≡ false → k ≡ current r → bit (open_behind previous) k ≡ true
-    → instruction_round (behind previous) r ≡ go (behind (Significant.Kind k))
+pub plain_round : (previous : Option Sym) (r : List Sym) (k : ℕ) → eof r ≡ false → k ≡ current r → bit (open_behind previous) k ≡ true
+    → instruction_round (behind previous) r ≡ go (behind (Some k))
 unfolding eof current at
 plain_round previous [] k z c b = absurd (false≢true (sym z))
 plain_round previous (s ∷ r) k z c b =
     let l = behind previous in
     let b' = subst (λ i. bit (open_behind previous) i ≡ true) c b in
     let o = open_ordinary previous s b' in
-    instruction_counts l (s ∷ r) refl (goes_on_by s o previous r b') (no_trivia s o) ∙ unchanged s o l (s ∷ r) ∙ ap (λ i. go (behind (Significant.Kind i))) (sym c)
+    instruction_counts l (s ∷ r) refl (goes_on_by s o previous r b') (no_trivia s o) ∙ unchanged s o l (s ∷ r) ∙ ap (λ i. go (behind (Some i))) (sym c)
 
 -- ---- the end of an instruction, outside delimiters
-pub ends_at_line : (previous : Significant) (r : List Sym) → at (one_of (Newline ∷ Comment ∷ DocComment ∷ [])) r ≡ true → instruction_ends previous default r ≡ true
+pub ends_at_line : (previous : Option Sym) (r : List Sym) → at (one_of (Newline ∷ Comment ∷ DocComment ∷ [])) r ≡ true → instruction_ends previous default r ≡ true
 unfolding instruction_ends at one_of is_root
 ends_at_line previous [] e = absurd (false≢true e)
 ends_at_line previous (s ∷ r) e = by_test (is Whitespace s) refl
@@ -113,7 +113,7 @@ none_behind (s ∷ r) e =
     let o = or_off (is Whitespace s) _ (sym (goes_on_is s) ∙ e) in
     ap (λ (u : Bool). at punctuation_continues_instruction (elim u [ true ↦ skip (is Whitespace) r | false ↦ s ∷ r ])) o.0 ∙ o.1
 
-module _ (previous : Significant) (s : Sym) (r : List Sym) (w : is Whitespace s ≡ true) (o : expects_operand previous ≡ false) (e : bit goes_on (current r) ≡ false) where
+module _ (previous : Option Sym) (s : Sym) (r : List Sym) (w : is Whitespace s ≡ true) (o : expects_operand previous ≡ false) (e : bit goes_on (current r) ≡ false) where
   no_more : should_continue_instruction_after_whitespace previous default (s ∷ r) ≡ false
   unfolding should_continue_instruction_after_whitespace is_root skip
   no_more =

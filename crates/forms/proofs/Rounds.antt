@@ -2,6 +2,7 @@
 use mathlib.Core.Bool.{Bool, true, false, false≢true, cond, not, ◌&&◌, ◌||◌}
 use mathlib.Core.List.{List, [], ◌∷◌}
 use mathlib.Core.Path.{◌≡◌, refl, sym, ap, ap₂, ◌∙◌}
+use Rattle.std.specs.Prelude.{Some, is_some}
 use borrow.Author.Tests.{ne_eqb}
 use Rattle.lexer.specs.Syntax.{Whitespace, Newline, Comment, DocComment}
 use Rattle.grammar.specs.Words.{Sym, is, ELSE}
@@ -9,10 +10,9 @@ use Rattle.grammar.specs.Look.{one_of, is_trivia, current, at, skip, past, at_ki
 use Rattle.grammar.specs.Run.{Round, stop, go}
 use Rattle.grammar.specs.Nesting.{is_root, bump_nesting}
 use Rattle.grammar.specs.Line.{Expression, expr_round, ResultType, result_round}
-use Rattle.grammar.specs.Instruction.{Inst, instruction_round, is_some, should_continue_instruction_after_whitespace, should_stop_instruction_before}
+use Rattle.grammar.specs.Instruction.{Inst, instruction_round, should_continue_instruction_after_whitespace, should_stop_instruction_before}
 use Rattle.grammar.specs.declared.block.Terminators.{Terminators}
 use Rattle.grammar.specs.declared.nesting.Nesting.{Nesting}
-use Rattle.grammar.specs.declared.nesting.Significant.{Significant}
 use Rattle.parser.specs.Sets.{bit, bits_are}
 use Rattle.parser.proofs.Laws.{at_by}
 use Rattle.forms.specs.Line.{line_ends, expr_ends}
@@ -104,9 +104,9 @@ trivia_kinds (s ∷ r) = refl
 
 module _ (l : Inst) (r : List Sym) where
   abbrev pub instruction_locals : Nesting → Inst
-  instruction_locals n = record { nesting = n; previous = Significant.Kind (current r) }
+  instruction_locals n = record { nesting = n; previous = Some (current r) }
 
-  pub instruction_next : (n : Nesting) (k : Sym) → k ≡ current r → instruction_locals n ≡ record { nesting = n; previous = Significant.Kind k }
+  pub instruction_next : (n : Nesting) (k : Sym) → k ≡ current r → instruction_locals n ≡ record { nesting = n; previous = Some k }
   instruction_next n k c = rw (← c)
 
   abbrev instruction_goes : Round Inst

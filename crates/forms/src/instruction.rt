@@ -1,20 +1,19 @@
 // Instructions.
-ghost use Rattle.std.specs.Prelude.{◌≡◌, true, false, drop};
+ghost use Rattle.std.specs.Prelude.{◌≡◌, true, false, drop, Some};
 ghost use Rattle.lexer.specs.Syntax.{DocComment};
 ghost use Rattle.grammar.specs.Words.{is};
 ghost use Rattle.grammar.specs.Look.{at};
 ghost use Rattle.grammar.specs.Run.{scan};
 ghost use Rattle.grammar.specs.Nesting.{default};
-ghost use Rattle.grammar.specs.Instruction.{is_some, expects_operand, should_continue_instruction_after_whitespace as should_continue};
+ghost use Rattle.grammar.specs.Instruction.{expects_operand, should_continue_instruction_after_whitespace as should_continue};
 ghost use Rattle.grammar.specs.Instruction.{should_stop_instruction_before as should_stop, instruction_round, before_first};
 ghost use Rattle.grammar.specs.Instruction.{parse_instruction};
 ghost use Rattle.parser.specs.Rep.{entry, exit, Ran};
-ghost use Rattle.grammar.specs.declared.nesting.Significant.TheVariants.{Kind};
 ghost use Rattle.forms.specs.Instruction.{starts_next, instruction_ends, behind, open_behind, PlainTokens};
 
 use grammar::block::Terminators;
 use grammar::event::CLOSE;
-use grammar::nesting::{Nesting, Significant};
+use grammar::nesting::Nesting;
 use lexer::syntax::{INSTRUCTION, WHITESPACE};
 use parser::cursor::Cursor;
 use parser::kinds::{
@@ -24,28 +23,17 @@ use parser::kinds::{
 use parser::sets::{CONTROL_FLOW, GOES_ON, LINE_END, PLAIN, PLAIN_PUNCTUATION};
 use parser::state::Parser;
 
-fn is_some(previous: Significant) -> bool
-    ensures { result ≡ is_some previous }
-{
-    match previous {
-        Significant::Nothing => false,
-        Significant::Kind(_) => true,
-    }
-}
-
-fn expects_operand(previous: Significant) -> bool
+// Whether the last token that an instruction took, trivia aside, expects an operand.
+fn expects_operand(previous: Option<u16>) -> bool
     ensures { result ≡ expects_operand previous }
 {
-    match previous {
-        Significant::Nothing => false,
-        Significant::Kind(k) => expects_continuation_operand(k),
-    }
+    previous.is_some_and(expects_continuation_operand)
 }
 
 pub fn should_continue_instruction_after_whitespace(
     parser: &Parser,
     p: usize,
-    previous: Significant,
+    previous: Option<u16>,
     nesting: Nesting,
 ) -> bool
     ensures { result ≡ should_continue previous nesting (drop p parser.now.kinds.now) }
@@ -53,7 +41,7 @@ pub fn should_continue_instruction_after_whitespace(
     if !nesting.is_root() {
         return true;
     }
-    if !is_some(previous) {
+    if previous.is_none() {
         return false;
     }
     if expects_operand(previous) {
@@ -84,7 +72,7 @@ fn at_next(parser: &Parser, p: usize) -> bool
 pub fn should_stop_instruction_before(
     parser: &Parser,
     p: usize,
-    previous: Significant,
+    previous: Option<u16>,
     nesting: Nesting,
 ) -> bool
     requires { at (is DocComment) (drop p parser.now.kinds.now) ≡ false }
@@ -103,7 +91,7 @@ pub fn should_stop_instruction_before(
 }
 
 // Whether an instruction ends before the token here.
-fn at_instruction_end(parser: &Parser, p: usize, previous: Significant, nesting: Nesting) -> bool
+fn at_instruction_end(parser: &Parser, p: usize, previous: Option<u16>, nesting: Nesting) -> bool
     ensures { result ≡ instruction_ends previous nesting (drop p parser.now.kinds.now) }
 {
     let k = parser.current(p);
@@ -113,7 +101,7 @@ fn at_instruction_end(parser: &Parser, p: usize, previous: Significant, nesting:
     if is_trivia(k) {
         return nesting.is_root();
     }
-    if is_some(previous) {
+    if previous.is_some() {
         return should_stop_instruction_before(parser, p, previous, nesting);
     }
     false
@@ -121,7 +109,7 @@ fn at_instruction_end(parser: &Parser, p: usize, previous: Significant, nesting:
 
 // Which plain kinds an instruction goes on with behind a token, outside delimiters.
 fn open_behind(k: u16) -> u64
-    ensures { result ≡ open_behind (Kind k) }
+    ensures { result ≡ open_behind (Some k) }
 {
     if expects_continuation_operand(k) {
         return PLAIN;
@@ -133,7 +121,7 @@ fn open_behind(k: u16) -> u64
 #[derive(Clone, Copy)]
 struct Lead {
     c: Cursor,
-    previous: Significant,
+    previous: Option<u16>,
 }
 
 // The first rounds, for as long as one look at the token tells that it is taken and all that it changes is `previous`.
@@ -141,7 +129,7 @@ fn plain_tokens(parser: &mut Parser, c0: Cursor) -> Lead
     ensures { PlainTokens (entry parser c0) (exit parser result.c) result.previous }
 {
     let mut c = c0;
-    let mut previous = Significant::Nothing;
+    let mut previous = None;
     let mut mask = PLAIN;
     while !parser.eof(c.pos) {
         let k = parser.current(c.pos);
@@ -149,14 +137,14 @@ fn plain_tokens(parser: &mut Parser, c0: Cursor) -> Lead
             return Lead { c, previous };
         }
         c = parser.bump_plain(c, k);
-        previous = Significant::Kind(k);
+        previous = Some(k);
         mask = open_behind(k);
     }
     Lead { c, previous }
 }
 
 // Whether one or two tokens tell that an instruction ends here, outside delimiters. Mostly they do.
-fn ends_plainly(parser: &Parser, p: usize, previous: Significant) -> bool
+fn ends_plainly(parser: &Parser, p: usize, previous: Option<u16>) -> bool
     ensures { result ≡ true → instruction_ends previous default (drop p parser.now.kinds.now) ≡ true }
 {
     let k = parser.current(p);
@@ -173,11 +161,11 @@ fn ends_plainly(parser: &Parser, p: usize, previous: Significant) -> bool
 }
 
 // The rounds behind the token `previous0`.
-fn further_tokens(parser: &mut Parser, c0: Cursor, previous0: Significant) -> Cursor
+fn further_tokens(parser: &mut Parser, c0: Cursor, previous0: Option<u16>) -> Cursor
     ensures { Ran (scan instruction_round (behind previous0)) (entry parser c0) (exit parser result) }
 {
     let mut c = c0;
-    let mut nesting = Nesting::new();
+    let mut nesting = Nesting::default();
     let mut previous = previous0;
     while !parser.eof(c.pos) {
         if at_instruction_end(parser, c.pos, previous, nesting) {
@@ -189,10 +177,9 @@ fn further_tokens(parser: &mut Parser, c0: Cursor, previous0: Significant) -> Cu
             continue;
         }
         let b = parser.bump_nesting(c, nesting, k);
-        let d = b.c;
         nesting = b.nesting;
-        previous = Significant::Kind(k);
-        c = parser.bump(d);
+        previous = Some(k);
+        c = parser.bump(b.c);
     }
     c
 }
@@ -201,12 +188,10 @@ fn instruction_tokens(parser: &mut Parser, c0: Cursor) -> Cursor
     ensures { Ran (scan instruction_round before_first) (entry parser c0) (exit parser result) }
 {
     let lead = plain_tokens(parser, c0);
-    let c = lead.c;
-    let previous = lead.previous;
-    if ends_plainly(parser, c.pos, previous) {
-        return c;
+    if ends_plainly(parser, lead.c.pos, lead.previous) {
+        return lead.c;
     }
-    further_tokens(parser, c, previous)
+    further_tokens(parser, lead.c, lead.previous)
 }
 
 pub fn parse_instruction(parser: &mut Parser, c0: Cursor) -> Cursor

@@ -73,7 +73,7 @@ fn expr_tokens(parser: &mut Parser, c0: Cursor) -> Cursor
     ensures { Ran (scan expr_round no_token) (entry parser c0) (exit parser result) }
 {
     let mut c = c0;
-    let mut nesting = Nesting::new();
+    let mut nesting = Nesting::default();
     let mut saw_significant = false;
     while !parser.eof(c.pos) {
         if at_expr_end(parser, c.pos, nesting, saw_significant) {
@@ -82,9 +82,8 @@ fn expr_tokens(parser: &mut Parser, c0: Cursor) -> Cursor
         let k = parser.current(c.pos);
         saw_significant = or_significant(saw_significant, k);
         let b = parser.bump_nesting(c, nesting, k);
-        let d = b.c;
         nesting = b.nesting;
-        c = parser.bump(d);
+        c = parser.bump(b.c);
     }
     c
 }
@@ -112,7 +111,7 @@ pub fn parse_signature_result_until_line_end(parser: &mut Parser, c0: Cursor) ->
     ensures { Ran parse_signature_result_until_line_end (entry parser c0) (exit parser result) }
 {
     let mut c = c0;
-    let mut nesting = Nesting::new();
+    let mut nesting = Nesting::default();
     let mut taken = false;
     while !parser.eof(c.pos) {
         if at_line_end(parser, c.pos, nesting) {
@@ -120,10 +119,9 @@ pub fn parse_signature_result_until_line_end(parser: &mut Parser, c0: Cursor) ->
         }
         let k = parser.current(c.pos);
         let b = parser.bump_nesting(c, nesting, k);
-        let d = b.c;
         nesting = b.nesting;
         taken = true;
-        c = parser.bump(d);
+        c = parser.bump(b.c);
     }
     result_end(parser, c, taken)
 }

@@ -37,11 +37,10 @@ fn path_segments(parser: &mut Parser, c0: Cursor) -> Cursor
             return c;
         }
         let s = path_segment(parser, c);
-        let d = s.c;
         if !s.ok {
-            return d;
+            return s.c;
         }
-        c = d;
+        c = s.c;
     }
 }
 
@@ -110,9 +109,8 @@ pub fn parse_balanced_group(
 {
     let a = parser.bump_regular_trivia(c0);
     let b = parser.expect_kind(a, opener, missing);
-    let d = b.c;
     if !b.ok {
-        return d;
+        return b.c;
     }
-    group_rest(parser, d, opener, closer, missing)
+    group_rest(parser, b.c, opener, closer, missing)
 }

@@ -1,17 +1,11 @@
 // The numbers at the head of a frame.
-ghost use Rattle.std.specs.Prelude.{◌+◌, ◌≤◌, ◌<◌, length};
-
-fn wide(b: u8) -> usize
-    ensures { result < 256 }
-{
-    b as usize
-}
+ghost use Rattle.std.specs.Prelude.{◌≡◌, ◌+◌, ◌≤◌, length, slice_range};
+ghost use Rattle.std.specs.Int.{from_le_bytes, w32};
 
 // The number of four bytes from `at` on, low byte first.
 pub fn frame_number(head: &[u8], at: usize) -> usize
     requires { at + 4 ≤ length head.now }
+    ensures { result ≡ from_le_bytes w32 (slice_range head.now at (at + 4)) }
 {
-    let low = wide(head[at]) + wide(head[at + 1]) * 256;
-    let high = wide(head[at + 2]) + wide(head[at + 3]) * 256;
-    low + high * 65536
+    u32::from_le_bytes([head[at], head[at + 1], head[at + 2], head[at + 3]]) as usize
 }

@@ -50,7 +50,7 @@ unfolding encode bytes Last.last_from Width.width Chars.class Chars.punctuation 
     Block.parse_repeat Block.parse_do_while Block.do_condition Block.parse_while Block.parse_if Block.ended Block.closing
     Block.reject_excessive_control_flow_nesting Block.all_round Block.parse_structured_header_suffixes Block.suffix_round
     Block.suffix_operand Instruction.parse_instruction Instruction.instruction_round Instruction.should_stop_instruction_before
-    Instruction.should_continue_instruction_after_whitespace Instruction.expects_operand Instruction.is_some
+    Instruction.should_continue_instruction_after_whitespace Instruction.expects_operand
     Line.parse_signature_result_until_line_end Line.result_round Line.parse_line_tail Line.tail_round Line.parse_type_body Line.type_round
     Line.parse_expr_until_line_end Line.expr_round Path.parse_balanced_group Path.group_round Path.parse_path_with_message Path.path_round
     Path.path_segment Bump.error_token Bump.expect_name Bump.expect_kind Bump.bump_while Bump.while_round Nesting.bump_nesting

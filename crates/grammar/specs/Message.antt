@@ -1,7 +1,7 @@
 -- The messages' numbers, as docs/MESSAGES.md lists them: one for each text that the kept parser can report.
 -- Defines: missing_end_message and recovery_message by their numbers.
 -- Assumes nothing: these are definitions.
-use Rattle.std.specs.Prelude.{ℕ, ◌+◌, ◌*◌, ◌<◌, ◌≡◌}
+use Rattle.std.specs.Prelude.{ℕ, ◌+◌, ◌*◌}
 use Rattle.grammar.specs.declared.nesting.Closer.{Closer}
 use Rattle.grammar.specs.declared.block.BlockOwner.{BlockOwner}
 use Rattle.grammar.specs.declared.block.BlockRecoveryBoundary.{BlockRecoveryBoundary}
@@ -12,11 +12,6 @@ pub use Rattle.grammar.specs.declared.message.ProcedureMessage.TheVariants.{Expe
 use Rattle.grammar.specs.declared.message.BlockMessage.{BlockMessage}
 pub use Rattle.grammar.specs.declared.message.BlockMessage.TheVariants.{DocCommentInBlock, UnexpectedTokenInBlock, ExpectedSuffixEnd, ExpectedSuffix, NestingTooDeep}
 pub use Rattle.grammar.specs.declared.message.Message.{Message}
-
--- The number d, below n.
-pub record Numbered (d n r : ℕ) : Type 0 where
-  pub is : r ≡ d
-  pub below : r < n
 
 abbrev pub item_number : ItemMessage → ℕ
 item_number UnexpectedTopLevelToken = 22

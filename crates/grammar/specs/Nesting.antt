@@ -1,14 +1,13 @@
 -- Delimiter counts: they step by value, and a closer without its opener leaves them as they are.
 -- Defines: Nesting::default, Nesting::is_root, Nesting::bump, closing_delimiter_text (by its message), bump_nesting.
 -- Assumes nothing: these are definitions.
-use Rattle.std.specs.Prelude.{ℕ, suc, pred, ◌<◌, Bool, cond, ◌&&◌, eqb}
+use Rattle.std.specs.Prelude.{ℕ, suc, pred, ◌<◌, Bool, cond, ◌&&◌, eqb, Result, Ok, Err}
 use Rattle.lexer.specs.Syntax.{LBrace, LBracket, LParen, RBrace, RBracket, RParen}
 use Rattle.grammar.specs.Words.{Sym, is}
 use Rattle.grammar.specs.Run.{Round, go, warn}
 use Rattle.grammar.specs.Message.{Message, number}
 pub use Rattle.grammar.specs.declared.nesting.Closer.{Closer}
 pub use Rattle.grammar.specs.declared.nesting.Nesting.{Nesting}
-pub use Rattle.grammar.specs.declared.nesting.Bumped.{Bumped}
 
 abbrev pub default : Nesting
 default = record { parens = 0; brackets = 0; braces = 0 }
@@ -25,30 +24,30 @@ open_bracket n = record { parens = n.parens; brackets = suc n.brackets; braces =
 unfoldable pub open_brace : Nesting → Nesting
 open_brace n = record { parens = n.parens; brackets = n.brackets; braces = suc n.braces }
 
-unfoldable pub close_paren : Nesting → Bumped
-close_paren n = cond (eqb 0 n.parens) (Bumped.Refused Closer.Paren) (Bumped.Counts (record { parens = pred n.parens; brackets = n.brackets; braces = n.braces }))
+unfoldable pub close_paren : Nesting → Result Nesting Closer
+close_paren n = cond (eqb 0 n.parens) (Err Closer.Paren) (Ok (record { parens = pred n.parens; brackets = n.brackets; braces = n.braces }))
 
-unfoldable pub close_bracket : Nesting → Bumped
-close_bracket n = cond (eqb 0 n.brackets) (Bumped.Refused Closer.Bracket) (Bumped.Counts (record { parens = n.parens; brackets = pred n.brackets; braces = n.braces }))
+unfoldable pub close_bracket : Nesting → Result Nesting Closer
+close_bracket n = cond (eqb 0 n.brackets) (Err Closer.Bracket) (Ok (record { parens = n.parens; brackets = pred n.brackets; braces = n.braces }))
 
-unfoldable pub close_brace : Nesting → Bumped
-close_brace n = cond (eqb 0 n.braces) (Bumped.Refused Closer.Brace) (Bumped.Counts (record { parens = n.parens; brackets = n.brackets; braces = pred n.braces }))
+unfoldable pub close_brace : Nesting → Result Nesting Closer
+close_brace n = cond (eqb 0 n.braces) (Err Closer.Brace) (Ok (record { parens = n.parens; brackets = n.brackets; braces = pred n.braces }))
 
 -- Nesting::bump
-unfoldable pub bump_by : Nesting → Sym → Bumped
+unfoldable pub bump_by : Nesting → Sym → Result Nesting Closer
 bump_by n kind =
-    cond (is LParen kind) (Bumped.Counts (open_paren n))
-    (cond (is LBracket kind) (Bumped.Counts (open_bracket n))
-    (cond (is LBrace kind) (Bumped.Counts (open_brace n))
+    cond (is LParen kind) (Ok (open_paren n))
+    (cond (is LBracket kind) (Ok (open_bracket n))
+    (cond (is LBrace kind) (Ok (open_brace n))
     (cond (is RParen kind) (close_paren n)
     (cond (is RBracket kind) (close_bracket n)
     (cond (is RBrace kind) (close_brace n)
-    (Bumped.Counts n))))))
+    (Ok n))))))
 
 -- bump_nesting and then bump, in a loop whose locals are `locals counts`.
-unfoldable pub counted : {L : Type 0} → Nesting → (Nesting → L) → Bumped → Round L
-counted n locals (Bumped.Counts n') = go (locals n')
-counted n locals (Bumped.Refused c) = warn (number (Message.UnexpectedCloser c)) (locals n)
+unfoldable pub counted : {L : Type 0} → Nesting → (Nesting → L) → Result Nesting Closer → Round L
+counted n locals (Ok n') = go (locals n')
+counted n locals (Err c) = warn (number (Message.UnexpectedCloser c)) (locals n)
 
 unfoldable pub bump_nesting : {L : Type 0} → Nesting → Sym → (Nesting → L) → Round L
 bump_nesting n kind locals = counted n locals (bump_by n kind)

@@ -1,13 +1,14 @@
 // Whose a block is, what closes it, what cuts it short, and how it ended.
+// An owner is numbered as the message of its missing end in docs/MESSAGES.md.
 #[derive(Clone, Copy)]
 pub enum BlockOwner {
-    Begin,
-    Procedure,
-    If,
-    While,
-    DoWhileBody,
-    DoWhile,
-    Repeat,
+    Begin = 1,
+    Procedure = 2,
+    If = 3,
+    While = 4,
+    DoWhileBody = 5,
+    DoWhile = 6,
+    Repeat = 7,
 }
 
 // The terminator lists of parse_block: `end`; `else` and `end`; a bare `while`.
@@ -18,13 +19,14 @@ pub enum Terminators {
     While,
 }
 
+// The message of a recovery has the boundary's number, and twice the owner's more.
 #[derive(Clone, Copy)]
 pub enum BlockRecoveryBoundary {
-    Else,
-    TopLevelItem,
+    Else = 6,
+    TopLevelItem = 7,
 }
 
-#[derive(Clone, Copy)]
+#[derive(Clone, Copy, PartialEq, Eq)]
 pub enum BlockParseOutcome {
     FoundTerminator,
     RecoveredImplicitEnd,

@@ -1,4 +1,5 @@
 // The words, as the grammar reads a token: the kind of an Ident, and MARK times the word's number more.
+// Constants, and no enum: each is compared with u16s of the kinds' slice, which C lends, and an enum would be cast at each comparison.
 use lexer::syntax::IDENT;
 
 // Above every kind: a number in a mark is multiplied by it.

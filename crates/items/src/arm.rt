@@ -7,7 +7,7 @@ use lexer::syntax::{AT, DOC_COMMENT};
 use parser::kinds::is_regular_trivia;
 use parser::state::Parser;
 
-// The arms of parse_source_item.
+// The arms of parse_source_item, as values: the tests find the arm in another order than the definition's.
 #[derive(Clone, Copy)]
 pub enum ItemArm {
     Doc,

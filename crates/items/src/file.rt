@@ -27,7 +27,9 @@ fn source_items(parser: &mut Parser, c0: Cursor) -> Cursor
 // The whole file, in its root node.
 pub fn parse(kinds: &[u16], events: &mut [u16], messages: &mut [u16], starts: &mut [u32]) -> Cursor
     requires { length kinds.now ≤ MAX_SOURCE }
-    ensures { Parse kinds.now (parser_slices events.old messages.old starts.old start) (parser_slices events.new messages.new starts.new result) }
+    ensures { Parse kinds.now
+        (parser_slices events.old messages.old starts.old start)
+        (parser_slices events.new messages.new starts.new result) }
 {
     let mut parser = Parser {
         kinds,

@@ -58,9 +58,7 @@ fn procedure_body(parser: &mut Parser, c0: Cursor) -> Cursor
 {
     let a = procedure_header(parser, c0);
     let b = parse_block(parser, a, BlockOwner::Procedure, Terminators::End, 0);
-    let bc = b.c;
-    let outcome = b.outcome;
-    closing(parser, bc, BlockOwner::Procedure, outcome)
+    closing(parser, b.c, BlockOwner::Procedure, b.outcome)
 }
 
 // What stands before a procedure's name; whether `proc` was there.
@@ -79,11 +77,10 @@ pub fn parse_procedure(parser: &mut Parser, c0: Cursor) -> Cursor
 {
     let a = parser.put(c0, PROCEDURE);
     let b = procedure_lead(parser, a);
-    let bc = b.c;
     if !b.ok {
-        return parser.put(bc, CLOSE);
+        return parser.put(b.c, CLOSE);
     }
-    let d = procedure_body(parser, bc);
+    let d = procedure_body(parser, b.c);
     parser.put(d, CLOSE)
 }
 
@@ -93,11 +90,8 @@ pub fn parse_begin_block(parser: &mut Parser, c0: Cursor) -> Cursor
 {
     let a = parser.put(c0, BEGIN_BLOCK);
     let b = parser.expect_kind(a, BEGIN, Message::Unreached);
-    let bc = b.c;
-    let d = parse_line_tail(parser, bc);
+    let d = parse_line_tail(parser, b.c);
     let e = parse_block(parser, d, BlockOwner::Begin, Terminators::End, 0);
-    let f = e.c;
-    let outcome = e.outcome;
-    let g = closing(parser, f, BlockOwner::Begin, outcome);
+    let g = closing(parser, e.c, BlockOwner::Begin, e.outcome);
     parser.put(g, CLOSE)
 }

@@ -1,16 +1,15 @@
 -- What a loop over the tokens keeps: what is still to be written, over what has been written, is the whole. f says what is
 -- written for a token. Assumes nothing.
 use Prim.Native.Nat.{ℕ, suc, ◌≤◌, ◌<◌, ◌+◌, ◌-◌}
-use mathlib.Core.Path.{◌≡◌, refl, sym, ap, ◌∙◌}
+use mathlib.Core.Path.{◌≡◌, refl, sym, ap, subst, ◌∙◌}
 use mathlib.Core.List.{List, ◌++◌, map}
 use native.Mathlib.Omega.{arith}
 use lib.ListN.{length, get_or, take, drop, set, length-set}
-use Rattle.lexer.specs.declared.lexer.Token.{Token as Placed}
 use Rattle.lexer.specs.Lexer.{Token, next, tokenize}
 use Rattle.room.specs.Over.{over, given_back}
 use Rattle.lexer.specs.Tokens.{MAX_SOURCE, ends, token_ends, room, TokensOver, TokensFit}
 use Rattle.lexer.specs.Laws.{token}
-use Rattle.lexer.specs.Code.{placed}
+use Rattle.lexer.specs.Code.{Placed, placed}
 use Rattle.lexer.proofs.Laws.{next_byte}
 use Rattle.lexer.proofs.Rest.{rest, rest_none, rest_more, ends_more, end_within}
 
@@ -44,6 +43,10 @@ here s at = placed (at + 1) (next (get_or s at 0) (drop (at + 1) s))
 
 abbrev pub token_here : List ℕ → ℕ → Token
 token_here s at = token (get_or s at 0) (drop (at + 1) s)
+
+-- the token that the lexer gave at its offset, where its source is this one
+pub same_source : {r : List ℕ} (s : List ℕ) {i : ℕ} (at : ℕ) (t : Placed) → r ≡ s → i ≡ at → i < length r → t ≡ here r i → (at < length s) × (t ≡ here s at)
+same_source s {i} at t e f h p = subst (λ (k : ℕ). (k < length s) × (t ≡ here s k)) f (subst (λ (l : List ℕ). (i < length l) × (t ≡ here l i)) e (h, p))
 
 -- it ends behind the cursor and within the source
 pub ends_within : {f : Token → ℕ} {s kinds₀ ends₀ kinds ends' : List ℕ} {at n : ℕ} → Going f s kinds₀ ends₀ kinds ends' at n → at < length s

@@ -7,15 +7,17 @@ use native.Mathlib.Nat.{add-zero, zero-add, add-suc, suc-add, add_assoc, le_of_s
 use native.Mathlib.Numerals.{one-add}
 use native.Mathlib.Omega.{arith}
 use borrow.Author.Tests.{ltb-true, ltb-false}
-use lib.Dec.{eqb, ltb}
+use denote.Bor.{Bor}
+use Rattle.std.proofs.Common.{Option, Some, None}
+use Rattle.std.specs.Option.{is_some, unwrap_or, option_map}
+use lib.Dec.{ltb}
 use lib.ListN.{length, get_or, drop, drop_of_length-le}
 use lib.Seq.{drop-drop}
 -- the byte at an offset, and those behind it
 pub use Rattle.utf8.proofs.Laws.{next_byte}
-use Rattle.lexer.specs.declared.lexer.Token.{Token}
 use Rattle.lexer.specs.Chars.{tabulate}
 use Rattle.lexer.specs.Lexer.{LexRule, later, follow, advance_while}
-use Rattle.lexer.specs.Code.{placed, starts_with, AllHold}
+use Rattle.lexer.specs.Code.{Placed, placed, starts_with, AllHold}
 
 from : (f : ℕ → ℕ) (i n k : ℕ) → k < n → get_or (tabulate f i n) k 0 ≡ f (i + k)
 from f i zero k h = absurd (not-suc-le-zero h)
@@ -64,15 +66,23 @@ module _ {p : ℕ → Bool} {s : List ℕ} {a at : ℕ} (g : Reaches p s a at) (
   pub reaches_three : p (get_or s at 0) ≡ true → p (get_or s (at + 1) 0) ≡ true → p (get_or s (at + 2) 0) ≡ true → Reaches p s a (at + 3)
   reaches_three e f i = reaches_next (reaches_two e f) h (omega arith) i
 
--- current_char, at the end and before it
+-- current_char, at the end
 module _ (x : ℕ) (s : List ℕ) (at : ℕ) where
   pub starts_none : length s ≤ at → starts_with x (drop at s) ≡ false
   unfolding starts_with
   starts_none h = rw (drop_of_length-le s h)
 
-  pub starts_here : at < length s → starts_with x (drop at s) ≡ eqb (get_or s at 0) x
-  unfolding starts_with
-  starts_here h = rw (next_byte s at h)
+-- what `get` gives of the source: the byte there, or nothing behind the end
+module _ (s : List ℕ) (at : ℕ) where
+  pub got_some : (r : Option (Bor ℕ)) (v : Bor ℕ) → is_some r ≡ ltb at (length s) → unwrap_or (option_map (λ w. w.now) r) 0 ≡ get_or s at 0
+      → r ≡ Some v → drop at s ≡ v.now ∷ drop (at + 1) s
+  got_some r v p q e =
+      let within : ltb at (length s) ≡ true = sym p ∙ ap is_some e in
+      let byte : v.now ≡ get_or s at 0 = sym (ap (λ (o : Option (Bor ℕ)). unwrap_or (option_map (λ w. w.now) o) 0) e) ∙ q in
+      next_byte s at (ltb-true at (length s) within) ∙ ap (λ (b : ℕ). b ∷ drop (at + 1) s) (sym byte)
+
+  pub got_none : (r : Option (Bor ℕ)) → is_some r ≡ ltb at (length s) → r ≡ None → drop at s ≡ []
+  got_none r p e = drop_of_length-le s (ltb-false at (length s) (sym p ∙ ap is_some e))
 
 -- the byte x follows, or not
 module _ (x : ℕ) (f g : LexRule) where
@@ -103,7 +113,7 @@ starts_within x s at e = go (ltb at (length s)) refl
     go false h = absurd (false≢true (sym (starts_none x s at (ltb-false at (length s) h)) ∙ e))
 
 -- a token of one byte in its place
-pub one_here : (k n : ℕ) → ◌≡◌ {A = Token} (record { kind = k; end = n }) (placed n (record { kind = k; more = 0 }))
+pub one_here : (k n : ℕ) → ◌≡◌ {A = Placed} (record { kind = k; end = n }) (placed n (record { kind = k; more = 0 }))
 one_here k n = ap (λ (m : ℕ). record { kind = k; end = m }) (omega arith)
 
 pub placed_no : (x : ℕ) (f g : LexRule) (n : ℕ) (r : List ℕ) → starts_with x r ≡ false → placed n (g r) ≡ placed n (follow x f g r)

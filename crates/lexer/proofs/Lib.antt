@@ -1,5 +1,4 @@
 -- What the functions' proofs share.
-pub mod Tests
 pub mod Laws
 pub mod Quotes
 pub mod Rest

@@ -9,8 +9,7 @@ use borrow.Author.Tests.{leb-true, ne_eqb}
 use lib.Dec.{eqb, leb}
 use lib.ListN.{drop}
 use lib.Seq.{drop-drop}
-use Rattle.lexer.specs.declared.chars.Run.TheVariants.{Graphic, Inside}
-use Rattle.lexer.specs.Chars.{line_end, graphic, holds}
+use Rattle.lexer.specs.Chars.{line_end, graphic, graphic_inside, line_inside}
 use Rattle.lexer.specs.Lexer.{Lexeme, later, advance_while, quoted}
 use Rattle.lexer.specs.Code.{placed}
 
@@ -54,20 +53,20 @@ no_line_end b g =
     let h = leb-true 33 b (both (leb 33 b) (leb b 126) g).0 in
     rw (ne_eqb b 10 (λ e. omega arith), ne_eqb b 13 (λ e. omega arith))
 
-graphic_passed : (b : ℕ) → holds Graphic b ≡ true → Passed true b
+graphic_passed : (b : ℕ) → graphic_inside b ≡ true → Passed true b
 graphic_passed b e =
     let g = both (graphic b) (not (eqb b 34) && not (eqb b 92)) e in
     let q = both (not (eqb b 34)) (not (eqb b 92)) g.1 in
     record { line = no_line_end b g.0; quote = off (eqb b 34) q.0; slash = off (eqb b 92) q.1; like = rw g.0 }
 
-inside_passed : (b : ℕ) → holds Inside b ≡ true → Passed false b
+inside_passed : (b : ℕ) → line_inside b ≡ true → Passed false b
 inside_passed b e =
     let g = both (not (line_end b)) (not (eqb b 34) && not (eqb b 92)) e in
     let q = both (not (eqb b 34)) (not (eqb b 92)) g.1 in
     record { line = off (line_end b) g.0; quote = off (eqb b 34) q.0; slash = off (eqb b 92) q.1; like = refl }
 
-pub over_graphic : (s : List ℕ) (at n : ℕ) → n ≡ at + advance_while (holds Graphic) (drop at s) → placed at (quoted false true (drop at s)) ≡ placed n (quoted false true (drop n s))
-over_graphic = over_at (holds Graphic) true graphic_passed
+pub over_graphic : (s : List ℕ) (at n : ℕ) → n ≡ at + advance_while graphic_inside (drop at s) → placed at (quoted false true (drop at s)) ≡ placed n (quoted false true (drop n s))
+over_graphic = over_at graphic_inside true graphic_passed
 
-pub over_inside : (s : List ℕ) (at n : ℕ) → n ≡ at + advance_while (holds Inside) (drop at s) → placed at (quoted false false (drop at s)) ≡ placed n (quoted false false (drop n s))
-over_inside = over_at (holds Inside) false inside_passed
+pub over_inside : (s : List ℕ) (at n : ℕ) → n ≡ at + advance_while line_inside (drop at s) → placed at (quoted false false (drop at s)) ≡ placed n (quoted false false (drop n s))
+over_inside = over_at line_inside false inside_passed

@@ -2,8 +2,6 @@
 -- Every byte of a character of several bytes is 128 or more, so no test on ASCII below holds of one.
 -- Assumes nothing: these are definitions.
 use Rattle.std.specs.Prelude.{ℕ, zero, suc, ◌+◌, Bool, not, ◌&&◌, ◌||◌, cond, List, [], ◌∷◌, eqb, leb}
-use Rattle.lexer.specs.declared.chars.Run.{Run}
-use Rattle.lexer.specs.declared.chars.Run.TheVariants.{Blank, InLine, Hex, Binary, Decimal, Graphic, Inside}
 use Rattle.lexer.specs.Syntax.{Error, Whitespace, Newline, Comment, Ident, SpecialIdent, Number, QuotedIdent, At, Bang, Colon, Comma, Dot, Equal, LAngle, LBrace, LBracket, LParen, Minus, Plus, RAngle, RBrace, RBracket, RParen, Semicolon, Slash, Star}
 
 -- a ..= z
@@ -50,15 +48,12 @@ graphic b = within 33 126 b
 abbrev pub inside : ℕ → Bool
 inside b = not (eqb b 34) && not (eqb b 92)
 
--- The predicates that lexer.rs hands to advance_while, but for the one of words; and those that a quote passes over.
-abbrev pub holds : Run → ℕ → Bool
-holds Blank b = blank b
-holds InLine b = not (line_end b)
-holds Hex b = hex b
-holds Binary b = binary b
-holds Decimal b = decimal b
-holds Graphic b = graphic b && inside b
-holds Inside b = not (line_end b) && inside b
+-- what a quote passes over, while it is identifier-like and after
+abbrev pub graphic_inside : ℕ → Bool
+graphic_inside b = graphic b && inside b
+
+abbrev pub line_inside : ℕ → Bool
+line_inside b = not (line_end b) && inside b
 
 -- CR starts a newline that may be longer: it has a class of its own, a number that no token has as its kind.
 abbrev pub Cr : ℕ

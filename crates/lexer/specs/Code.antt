@@ -1,17 +1,90 @@
 -- What the code's values stand for.
 -- Assumes nothing: these are definitions.
-use Rattle.std.specs.Prelude.{◌≡◌, Bool, true, false, not, ◌&&◌, cond, List, [], ◌∷◌, ℕ, ◌+◌, ◌<◌, eqb, get_or}
+use Rattle.std.specs.Prelude.{◌≡◌, Bool, true, false, not, ◌&&◌, ◌||◌, cond, List, [], ◌∷◌, ℕ, ◌+◌, ◌<◌, ◌≤◌, eqb, get_or, drop, length, Option, MatchOption}
 use Rattle.lexer.specs.declared.lexer.Token.{Token}
+use Rattle.lexer.specs.declared.lexer.Lexer.{Lexer}
 use Rattle.lexer.specs.declared.quoted.Quoted.{Quoted}
 use Rattle.lexer.specs.declared.quoted.Ending.{Ending}
 use Rattle.lexer.specs.declared.quoted.Ending.TheVariants.{Closed, Line, File}
-use Rattle.lexer.specs.Syntax.{Error, QuotedIdent, QuotedString}
-use Rattle.lexer.specs.Chars.{graphic}
-use Rattle.lexer.specs.Lexer.{Lexeme}
+use Rattle.lexer.specs.declared.class.Class.{Class}
+use Rattle.lexer.specs.declared.class.Class.TheVariants as class
+use Rattle.lexer.specs.Syntax.{kind_number, Error, Whitespace, Comment, SpecialIdent, QuotedIdent, QuotedString, Colon, Dot, Minus, Slash}
+use Rattle.lexer.specs.Chars.{graphic, Cr, Letter, Digit}
+use Rattle.lexer.specs.Lexer.{Lexeme, next}
+
+-- the number of a class
+abbrev pub class_number : Class → ℕ
+class_number class.Letter = Letter
+class_number class.Digit = Digit
+class_number class.Blank = Whitespace
+class_number class.Cr = Cr
+class_number class.Comment = Comment
+class_number class.Special = SpecialIdent
+class_number class.Quote = QuotedIdent
+class_number class.Colon = Colon
+class_number class.Dot = Dot
+class_number class.Minus = Minus
+class_number class.Slash = Slash
+class_number (class.Single k) = kind_number k
+class_number class.Stray = Error
+
+-- whether `next` has an arm for the class of this number; any other class is one byte
+abbrev pub has_arm : ℕ → Bool
+has_arm k =
+    eqb k Whitespace
+    || (eqb k Cr
+    || (eqb k Comment
+    || (eqb k Letter
+    || (eqb k SpecialIdent
+    || (eqb k Digit
+    || (eqb k QuotedIdent
+    || (eqb k Colon
+    || (eqb k Dot
+    || (eqb k Minus
+    || (eqb k Slash
+    || eqb k Error))))))))))
+
+-- no Single stands for a kind that has an arm of its own
+abbrev pub is_alone : Class → Bool
+is_alone (class.Single k) = not (has_arm (kind_number k))
+is_alone class.Letter = true
+is_alone class.Digit = true
+is_alone class.Blank = true
+is_alone class.Cr = true
+is_alone class.Comment = true
+is_alone class.Special = true
+is_alone class.Quote = true
+is_alone class.Colon = true
+is_alone class.Dot = true
+is_alone class.Minus = true
+is_alone class.Slash = true
+is_alone class.Stray = true
+
+-- A token's kind, by its number, and where it ends.
+pub record Placed : Type 0 where
+  pub kind : ℕ
+  pub end : ℕ
+
+abbrev pub token_of : Token → Placed
+token_of t = record { kind = kind_number t.kind; end = t.end }
 
 -- the token whose second byte has the offset n
-abbrev pub placed : ℕ → Lexeme → Token
+abbrev pub placed : ℕ → Lexeme → Placed
 placed n t = record { kind = t.kind; end = n + t.more }
+
+-- A call of the iterator: the token at the offset, and the offset behind it; none at the end.
+abbrev pub NextToken : Lexer → Option Token → Lexer → Type 0
+NextToken s r t =
+    MatchOption r
+    ((length s.source.now ≤ s.offset) × (t ≡ s))
+    (λ token. (s.offset < length s.source.now)
+    × (token_of token ≡ placed (s.offset + 1) (next (get_or s.source.now s.offset 0) (drop (s.offset + 1) s.source.now)))
+    × (t.source.now ≡ s.source.now)
+    × (t.offset ≡ token.end))
+
+-- A test answers as p does, at each byte.
+abbrev pub AnswersAs : (ℕ → Bool) → (ℕ → Bool → Type 0) → Type 0
+AnswersAs p post = (b : ℕ) (r : Bool) → b < 256 → post b r → r ≡ p b
 
 -- current_char() == Some(x)
 unfoldable pub starts_with : ℕ → List ℕ → Bool
@@ -28,7 +101,7 @@ quote_kind Closed i = cond i QuotedIdent QuotedString
 quote_kind Line i = Error
 quote_kind File i = Error
 
-pub record Quote (q : Quoted) (t : Token) : Type 0 where
+pub record Quote (q : Quoted) (t : Placed) : Type 0 where
   pub kind_is : quote_kind q.ending q.identifier_like ≡ t.kind
   pub end_is : q.at ≡ t.end
 

@@ -1,6 +1,8 @@
 -- syntax.rs: the kinds, numbered in the order of `SyntaxKind`. Nodes are 1 to 26, tokens 27 to 59; a token may also be Error.
 -- Assumes nothing: these are definitions.
 use Rattle.std.specs.Prelude.{ℕ}
+use Rattle.lexer.specs.declared.syntax.SyntaxKind.{SyntaxKind}
+use Rattle.lexer.specs.declared.syntax.SyntaxKind.TheVariants as kind
 
 abbrev pub Tombstone : ℕ
 Tombstone = 0
@@ -181,3 +183,66 @@ SlashSlash = 58
 
 abbrev pub Star : ℕ
 Star = 59
+
+-- the number of a kind
+abbrev pub kind_number : SyntaxKind → ℕ
+kind_number kind.Tombstone = Tombstone
+kind_number kind.Error = Error
+kind_number kind.SourceFile = SourceFile
+kind_number kind.Doc = Doc
+kind_number kind.Namespace = Namespace
+kind_number kind.ExternPackage = ExternPackage
+kind_number kind.Submodule = Submodule
+kind_number kind.Import = Import
+kind_number kind.ImportList = ImportList
+kind_number kind.ImportSpecifier = ImportSpecifier
+kind_number kind.Constant = Constant
+kind_number kind.TypeDecl = TypeDecl
+kind_number kind.AdviceMap = AdviceMap
+kind_number kind.BeginBlock = BeginBlock
+kind_number kind.Procedure = Procedure
+kind_number kind.Attribute = Attribute
+kind_number kind.Visibility = Visibility
+kind_number kind.Signature = Signature
+kind_number kind.Block = Block
+kind_number kind.IfOp = IfOp
+kind_number kind.WhileOp = WhileOp
+kind_number kind.DoWhileOp = DoWhileOp
+kind_number kind.RepeatOp = RepeatOp
+kind_number kind.Instruction = Instruction
+kind_number kind.Path = Path
+kind_number kind.Expr = Expr
+kind_number kind.TypeBody = TypeBody
+kind_number kind.Whitespace = Whitespace
+kind_number kind.Newline = Newline
+kind_number kind.Comment = Comment
+kind_number kind.DocComment = DocComment
+kind_number kind.Ident = Ident
+kind_number kind.SpecialIdent = SpecialIdent
+kind_number kind.Number = Number
+kind_number kind.QuotedIdent = QuotedIdent
+kind_number kind.QuotedString = QuotedString
+kind_number kind.At = At
+kind_number kind.Bang = Bang
+kind_number kind.Colon = Colon
+kind_number kind.ColonColon = ColonColon
+kind_number kind.Comma = Comma
+kind_number kind.Dot = Dot
+kind_number kind.DotDot = DotDot
+kind_number kind.DotDotDot = DotDotDot
+kind_number kind.Equal = Equal
+kind_number kind.LAngle = LAngle
+kind_number kind.LBrace = LBrace
+kind_number kind.LBracket = LBracket
+kind_number kind.LParen = LParen
+kind_number kind.Minus = Minus
+kind_number kind.Plus = Plus
+kind_number kind.RAngle = RAngle
+kind_number kind.RArrow = RArrow
+kind_number kind.RBrace = RBrace
+kind_number kind.RBracket = RBracket
+kind_number kind.RParen = RParen
+kind_number kind.Semicolon = Semicolon
+kind_number kind.Slash = Slash
+kind_number kind.SlashSlash = SlashSlash
+kind_number kind.Star = Star

@@ -1,39 +1,100 @@
 // The class of a token's first byte, by a table.
-ghost use Rattle.std.specs.Prelude.{◌≡◌};
-ghost use Rattle.lexer.specs.Chars.{class as class_of, class_table, word};
+ghost use Rattle.std.specs.Prelude.{◌≡◌, true};
+ghost use Rattle.lexer.specs.Chars.{class as class_of, word};
+ghost use Rattle.lexer.specs.Code.{class_number, is_alone};
 
-// The arms of `next`. Numbers from 64 on are those of the bytes that go on with a word.
-pub const CLASS: [u8; 256] = [
-    1, 1, 1, 1, 1, 1, 1, 1, 1, 27, 28, 1, 1, 0, 1, 1, 1, 1, 1, 1, 1, 1, 1, 1, 1, 1, 1, 1, 1, 1, 1,
-    1, 27, 37, 34, 29, 32, 1, 1, 1, 48, 55, 59, 50, 40, 49, 41, 57, 97, 97, 97, 97, 97, 97, 97, 97,
-    97, 97, 38, 56, 45, 44, 51, 1, 36, 95, 95, 95, 95, 95, 95, 95, 95, 95, 95, 95, 95, 95, 95, 95,
-    95, 95, 95, 95, 95, 95, 95, 95, 95, 95, 95, 47, 1, 54, 1, 95, 1, 95, 95, 95, 95, 95, 95, 95,
-    95, 95, 95, 95, 95, 95, 95, 95, 95, 95, 95, 95, 95, 95, 95, 95, 95, 95, 95, 46, 1, 53, 1, 1, 1,
-    1, 1, 1, 1, 1, 1, 1, 1, 1, 1, 1, 1, 1, 1, 1, 1, 1, 1, 1, 1, 1, 1, 1, 1, 1, 1, 1, 1, 1, 1, 1, 1,
-    1, 1, 1, 1, 1, 1, 1, 1, 1, 1, 1, 1, 1, 1, 1, 1, 1, 1, 1, 1, 1, 1, 1, 1, 1, 1, 1, 1, 1, 1, 1, 1,
-    1, 1, 1, 1, 1, 1, 1, 1, 1, 1, 1, 1, 1, 1, 1, 1, 1, 1, 1, 1, 1, 1, 1, 1, 1, 1, 1, 1, 1, 1, 1, 1,
-    1, 1, 1, 1, 1, 1, 1, 1, 1, 1, 1, 1, 1, 1, 1, 1, 1, 1, 1, 1, 1, 1, 1, 1, 1, 1, 1, 1, 1, 1, 1,
-];
+use crate::class::Class::{
+    Blank, Colon, Comment, Cr, Digit, Dot, Letter, Minus, Quote, Single, Slash, Special, Stray,
+};
+use crate::syntax::SyntaxKind;
 
-// The table, for one call: it is the class of each byte.
-pub fn classes() -> [u8; 256]
-    ensures { result ≡ class_table }
-{
-    CLASS
+// The arms of `next`. Single: the byte is a token of this kind by itself. Stray: it starts nothing.
+#[derive(Debug, Clone, Copy, PartialEq, Eq)]
+pub enum Class {
+    Letter,
+    Digit,
+    Blank,
+    Cr,
+    Comment,
+    Special,
+    Quote,
+    Colon,
+    Dot,
+    Minus,
+    Slash,
+    Single(SyntaxKind),
+    Stray,
 }
 
-// The table is lent: a constant that is indexed in place is built anew on the stack at each use.
-pub fn class_in(table: &[u8; 256], b: u8) -> u8
-    requires { table.now ≡ class_table }
-    ensures { result ≡ class_of b }
+const NEWLINE: Class = Single(SyntaxKind::Newline);
+
+const AT: Class = Single(SyntaxKind::At);
+
+const BANG: Class = Single(SyntaxKind::Bang);
+
+const COMMA: Class = Single(SyntaxKind::Comma);
+
+const EQUAL: Class = Single(SyntaxKind::Equal);
+
+const L_ANGLE: Class = Single(SyntaxKind::LAngle);
+
+const L_BRACE: Class = Single(SyntaxKind::LBrace);
+
+const L_BRACKET: Class = Single(SyntaxKind::LBracket);
+
+const L_PAREN: Class = Single(SyntaxKind::LParen);
+
+const PLUS: Class = Single(SyntaxKind::Plus);
+
+const R_ANGLE: Class = Single(SyntaxKind::RAngle);
+
+const R_BRACE: Class = Single(SyntaxKind::RBrace);
+
+const R_BRACKET: Class = Single(SyntaxKind::RBracket);
+
+const R_PAREN: Class = Single(SyntaxKind::RParen);
+
+const SEMICOLON: Class = Single(SyntaxKind::Semicolon);
+
+const STAR: Class = Single(SyntaxKind::Star);
+
+static CLASS: [Class; 256] = [
+    Stray, Stray, Stray, Stray, Stray, Stray, Stray, Stray, Stray, Blank, NEWLINE, Stray, Stray,
+    Cr, Stray, Stray, Stray, Stray, Stray, Stray, Stray, Stray, Stray, Stray, Stray, Stray, Stray,
+    Stray, Stray, Stray, Stray, Stray, Blank, BANG, Quote, Comment, Special, Stray, Stray, Stray,
+    L_PAREN, R_PAREN, STAR, PLUS, COMMA, Minus, Dot, Slash, Digit, Digit, Digit, Digit, Digit,
+    Digit, Digit, Digit, Digit, Digit, Colon, SEMICOLON, L_ANGLE, EQUAL, R_ANGLE, Stray, AT,
+    Letter, Letter, Letter, Letter, Letter, Letter, Letter, Letter, Letter, Letter, Letter, Letter,
+    Letter, Letter, Letter, Letter, Letter, Letter, Letter, Letter, Letter, Letter, Letter, Letter,
+    Letter, Letter, L_BRACKET, Stray, R_BRACKET, Stray, Letter, Stray, Letter, Letter, Letter,
+    Letter, Letter, Letter, Letter, Letter, Letter, Letter, Letter, Letter, Letter, Letter, Letter,
+    Letter, Letter, Letter, Letter, Letter, Letter, Letter, Letter, Letter, Letter, Letter,
+    L_BRACE, Stray, R_BRACE, Stray, Stray, Stray, Stray, Stray, Stray, Stray, Stray, Stray, Stray,
+    Stray, Stray, Stray, Stray, Stray, Stray, Stray, Stray, Stray, Stray, Stray, Stray, Stray,
+    Stray, Stray, Stray, Stray, Stray, Stray, Stray, Stray, Stray, Stray, Stray, Stray, Stray,
+    Stray, Stray, Stray, Stray, Stray, Stray, Stray, Stray, Stray, Stray, Stray, Stray, Stray,
+    Stray, Stray, Stray, Stray, Stray, Stray, Stray, Stray, Stray, Stray, Stray, Stray, Stray,
+    Stray, Stray, Stray, Stray, Stray, Stray, Stray, Stray, Stray, Stray, Stray, Stray, Stray,
+    Stray, Stray, Stray, Stray, Stray, Stray, Stray, Stray, Stray, Stray, Stray, Stray, Stray,
+    Stray, Stray, Stray, Stray, Stray, Stray, Stray, Stray, Stray, Stray, Stray, Stray, Stray,
+    Stray, Stray, Stray, Stray, Stray, Stray, Stray, Stray, Stray, Stray, Stray, Stray, Stray,
+    Stray, Stray, Stray, Stray, Stray, Stray, Stray, Stray, Stray, Stray, Stray, Stray, Stray,
+    Stray, Stray, Stray,
+];
+
+pub fn class_of(b: u8) -> Class
+    ensures number { class_number result ≡ class_of b }
+    ensures alone { is_alone result ≡ true }
 {
-    table[b as usize]
+    CLASS[b as usize]
 }
 
 // Whether a byte goes on with a word: is_ascii_alphanumeric or '_'.
-pub fn is_word(table: &[u8; 256], b: u8) -> bool
-    requires { table.now ≡ class_table }
+pub fn is_word(b: u8) -> bool
     ensures { result ≡ word b }
 {
-    64 <= class_in(table, b)
+    match class_of(b) {
+        Letter | Digit => true,
+        _ => false,
+    }
 }

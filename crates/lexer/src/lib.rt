@@ -8,6 +8,5 @@ mod quoted;
 mod runs;
 pub mod syntax;
 
-pub use class::classes;
-pub use lexer::{MAX_SOURCE, Token, next, put_token, tokenize};
+pub use lexer::{Lexer, MAX_SOURCE, Token, next, put_token, tokenize};
 pub use runs::same;

@@ -1,12 +1,12 @@
 // lex_quoted: a loop that yields its ending by break, with the cursor and the flags carried along.
 ghost use Rattle.std.specs.Prelude.{◌≡◌, true, false, ◌≤◌, length, drop};
 ghost use Rattle.lexer.specs.Lexer.{quoted};
-ghost use Rattle.lexer.specs.Code.{placed, kept, Quote};
+ghost use Rattle.lexer.specs.Code.{placed, token_of, kept, Quote};
 
-use crate::chars::{Run, is_graphic, is_line_end};
+use crate::chars::{is_graphic, is_graphic_inside, is_line_end, is_line_inside};
 use crate::lexer::Token;
 use crate::runs::advance_while;
-use crate::syntax::{ERROR, QUOTED_IDENT, QUOTED_STRING};
+use crate::syntax::SyntaxKind;
 
 #[derive(Clone, Copy)]
 pub enum Ending {
@@ -26,7 +26,7 @@ pub struct Quoted {
 fn keeps(identifier_like: bool, b: u8) -> bool
     ensures { result ≡ kept identifier_like b }
 {
-    identifier_like && (is_graphic(b) && b != 92)
+    identifier_like && (is_graphic(b) && b != b'\\')
 }
 
 // The next byte that needs a look: a quote, a line end or a backslash, or a byte that ends being identifier-like; behind a
@@ -38,12 +38,12 @@ fn ahead(source: &[u8], at: usize, taken: bool, identifier_like: bool) -> usize
         ≡ placed result (quoted taken identifier_like (drop result source.now))) }
 {
     if taken {
-        return at;
+        at
+    } else if identifier_like {
+        advance_while(is_graphic_inside, source, at)
+    } else {
+        advance_while(is_line_inside, source, at)
     }
-    if identifier_like {
-        return advance_while(Run::Graphic, source, at);
-    }
-    advance_while(Run::Inside, source, at)
 }
 
 // What a quote whose body starts at `from` comes to.
@@ -68,11 +68,11 @@ fn quote(source: &[u8], from: usize) -> Quoted
         if is_line_end(b) {
             break Ending::Line;
         }
-        if b == 34 {
+        if b == b'"' {
             at += 1;
             break Ending::Closed;
         }
-        taken = b == 92;
+        taken = b == b'\\';
         identifier_like = keeps(identifier_like, b);
         at += 1;
     };
@@ -85,26 +85,13 @@ fn quote(source: &[u8], from: usize) -> Quoted
 
 pub fn lex_quoted(source: &[u8], from: usize) -> Token
     requires { from ≤ length source.now }
-    ensures { result ≡ placed from (quoted false true (drop from source.now)) }
+    ensures { token_of result ≡ placed from (quoted false true (drop from source.now)) }
 {
     let q = quote(source, from);
-    let ending = q.ending;
-    let end = q.at;
-    match ending {
-        Ending::Closed => {
-            if q.identifier_like {
-                Token {
-                    kind: QUOTED_IDENT,
-                    end,
-                }
-            } else {
-                Token {
-                    kind: QUOTED_STRING,
-                    end,
-                }
-            }
-        }
-        Ending::Line => Token { kind: ERROR, end },
-        Ending::File => Token { kind: ERROR, end },
-    }
+    let kind = match q.ending {
+        Ending::Closed if q.identifier_like => SyntaxKind::QuotedIdent,
+        Ending::Closed => SyntaxKind::QuotedString,
+        Ending::Line | Ending::File => SyntaxKind::Error,
+    };
+    Token { kind, end: q.at }
 }

@@ -5,31 +5,30 @@ use mathlib.Core.Bool.{Bool, true, false, cond}
 use mathlib.Core.List.{List}
 use borrow.Author.Tests.{lt-ltb, le-ltb}
 use native.Mathlib.Omega.{arith}
+use Rattle.std.specs.Prelude.{Option, None, Some}
 use lib.ListN.{length, get_or, take, drop, set}
-use Rattle.lexer.specs.declared.lexer.Token.{Token as Placed}
+use Rattle.lexer.specs.Code.{Placed}
 use Rattle.lexer.specs.Lexer.{Token, tokenize}
 use Rattle.lexer.specs.Tokens.{MAX_SOURCE}
 use Rattle.grammar.specs.Words.{key}
 use Rattle.lexer.proofs.Rest.{rest, rest_none, rest_more, end_is}
 use Rattle.lexer.proofs.Going as lexer
 use Rattle.lexer.proofs.Going.{here, token_here, text_here}
-use Rattle.marks.specs.declared.Refusal.{Refusal}
-use Rattle.marks.specs.declared.Refusal.TheVariants.{Nothing, At}
 use Rattle.marks.specs.Marks.{is_refused, first_refused}
 use Rattle.marks.specs.Code.{marked, mark, symbol_mark, refused, refused_at, or_else, MarkTokens}
 use Rattle.lexer.specs.Kinds.{low_next}
 
-pub record Going (s kinds₀ ends₀ kinds ends' : List ℕ) (refusal : Refusal) (at n : ℕ) : Type 0 where
+pub record Going (s kinds₀ ends₀ kinds ends' : List ℕ) (refusal : Option ℕ) (at n : ℕ) : Type 0 where
   pub going : lexer.Going mark s kinds₀ ends₀ kinds ends' at n
   pub refusal_is : first_refused 0 (tokenize s) ≡ or_else refusal (first_refused at (rest s at))
 
-or_else_assoc : (p q r : Refusal) → or_else p (or_else q r) ≡ or_else (or_else p q) r
-or_else_assoc Nothing q r = refl
-or_else_assoc (At m) q r = refl
+or_else_assoc : (p q r : Option ℕ) → or_else p (or_else q r) ≡ or_else (or_else p q) r
+or_else_assoc None q r = refl
+or_else_assoc (Some m) q r = refl
 
-or_else_none : (p : Refusal) → p ≡ or_else p Nothing
-or_else_none Nothing = refl
-or_else_none (At m) = refl
+or_else_none : (p : Option ℕ) → p ≡ or_else p None
+or_else_none None = refl
+or_else_none (Some m) = refl
 
 module _ (s : List ℕ) (at : ℕ) (h : at < length s) where
   abbrev t : Token
@@ -41,18 +40,18 @@ module _ (s : List ℕ) (at : ℕ) (h : at < length s) where
   step = ap (first_refused at) (rest_more s at h) ∙ by_test (is_refused t) refl
     where
       by_test : (u : Bool) → is_refused t ≡ u
-          → cond u (At at) (first_refused (at + length t.text) (rest s (here s at).end))
+          → cond u (Some at) (first_refused (at + length t.text) (rest s (here s at).end))
           ≡ or_else (refused_at (mark t) at) (first_refused (here s at).end (rest s (here s at).end))
       by_test true e = rw (lt-ltb (key 16) (mark t) (omega (arith, refused t.kind t.text e))) refl
       by_test false e =
           rw (le-ltb (key 16) (mark t) ((symbol_mark t.kind t.text e).bounded (low_next (get_or s at 0) (drop (at + 1) s))))
           (ap (λ (n : ℕ). first_refused n (rest s (here s at).end)) (end_is s at h))
 
-pub begins : (s kinds ends' : List ℕ) → length s ≤ MAX_SOURCE → length kinds ≡ length ends' → Going s kinds ends' kinds ends' Nothing 0 0
+pub begins : (s kinds ends' : List ℕ) → length s ≤ MAX_SOURCE → length kinds ≡ length ends' → Going s kinds ends' kinds ends' None 0 0
 begins s kinds ends' h same = record { going = lexer.begins s kinds ends' h same; refusal_is = refl }
 
-pub goes_on : {s kinds₀ ends₀ kinds ends' : List ℕ} {refusal : Refusal} {at n : ℕ} → Going s kinds₀ ends₀ kinds ends' refusal at n → at < length s
-    → (t : Placed) → t ≡ here s at → (v : ℕ) → v ≡ marked t.kind (take (t.end - at) (drop at s)) → (r : Refusal) → r ≡ or_else refusal (refused_at v at)
+pub goes_on : {s kinds₀ ends₀ kinds ends' : List ℕ} {refusal : Option ℕ} {at n : ℕ} → Going s kinds₀ ends₀ kinds ends' refusal at n → at < length s
+    → (t : Placed) → t ≡ here s at → (v : ℕ) → v ≡ marked t.kind (take (t.end - at) (drop at s)) → (r : Option ℕ) → r ≡ or_else refusal (refused_at v at)
     → (kinds'' ends'' : List ℕ) → kinds'' ≡ set kinds n v → ends'' ≡ set ends' n t.end → Going s kinds₀ ends₀ kinds'' ends'' r t.end (n + 1)
 goes_on {s} {refusal = refusal} {at = at} g h t e v f r q kinds'' ends'' ke ee =
     let m : v ≡ mark (token_here s at) = f ∙ ap₂ marked (ap (λ (x : Placed). x.kind) e) (text_here s at h t e) in
@@ -62,11 +61,11 @@ goes_on {s} {refusal = refusal} {at = at} g h t e v f r q kinds'' ends'' ke ee =
           g.refusal_is
           ∙ ap (or_else refusal) (step s at h)
           ∙ or_else_assoc refusal (refused_at (mark (token_here s at)) at) _
-          ∙ ap₂ (λ (p : Refusal) (i : ℕ). or_else p (first_refused i (rest s i)))
+          ∙ ap₂ (λ (p : Option ℕ) (i : ℕ). or_else p (first_refused i (rest s i)))
           (ap (λ (i : ℕ). or_else refusal (refused_at i at)) (sym m) ∙ sym q) (ap (λ (x : Placed). x.end) (sym e));
     }
 
-pub ended : {s kinds₀ ends₀ kinds ends' : List ℕ} {refusal : Refusal} {at n : ℕ} → Going s kinds₀ ends₀ kinds ends' refusal at n → length s ≤ at
+pub ended : {s kinds₀ ends₀ kinds ends' : List ℕ} {refusal : Option ℕ} {at n : ℕ} → Going s kinds₀ ends₀ kinds ends' refusal at n → length s ≤ at
     → MarkTokens s kinds₀ ends₀ (record { count = n; refusal = refusal }) kinds ends'
 unfolding first_refused
 ended {s} {refusal = refusal} {at = at} g h = record {

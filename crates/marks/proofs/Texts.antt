@@ -1,18 +1,25 @@
 -- The number of a text, by its first byte. Assumes nothing.
 use Prim.Native.Nat.{ℕ, ◌<◌}
 use mathlib.Core.Path.{◌≡◌, sym, ap, subst}
-use mathlib.Core.Bool.{Bool, cond}
+use mathlib.Core.Bool.{Bool, true, false, cond}
+use Rattle.std.specs.Prelude.{Option, None, Some}
+use Rattle.marks.specs.declared.word.Word.{Word}
 use mathlib.Core.List.{List, [], ◌∷◌}
 use native.Mathlib.Omega.{arith}
 use borrow.Author.Tests.{ne_eqb}
 use lib.ListN.{length, get_or}
 use Rattle.lexer.specs.Lexer.{same}
 use Rattle.grammar.specs.Words.{words, number_in}
-use Rattle.marks.specs.Code.{text_number}
+use Rattle.marks.specs.Code.{text_number, word_number, found_number}
 
 -- a comparison in the code, as the definition makes it
 pub compared : {r : Bool} (w t : List ℕ) (m n : ℕ) → r ≡ same w t → cond r m n ≡ cond (same w t) m n
 compared w t m n e = ap (λ (u : Bool). cond u m n) e
+
+-- the number of a word that was compared alone
+pub numbered : (b : Bool) (w : Word) {r : Option Word} → r ≡ cond b (Some w) None → found_number r ≡ cond b (word_number w) 0
+numbered true w e = ap found_number e
+numbered false w e = ap found_number e
 
 -- what holds of each text that starts with a byte holds of this one
 pub led : (P : List ℕ → Type 0) (b : ℕ) (t : List ℕ) → 0 < length t → get_or t 0 0 ≡ b → ((r : List ℕ) → P (b ∷ r)) → P t

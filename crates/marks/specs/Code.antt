@@ -1,6 +1,6 @@
 -- The number that the code looks up: a word's, and from 17 on that of a refused text; and what it says of a token.
 -- Assumes nothing.
-use Rattle.std.specs.Prelude.{ℕ, suc, ◌+◌, ◌*◌, ◌≤◌, ◌<◌, ◌≡◌, Bool, cond, ◌&&◌, ◌||◌, List, [], ◌∷◌, ◌++◌, ltb, length}
+use Rattle.std.specs.Prelude.{Option, None, Some, ℕ, suc, ◌+◌, ◌*◌, ◌≤◌, ◌<◌, ◌≡◌, Bool, cond, ◌&&◌, ◌||◌, List, [], ◌∷◌, ◌++◌, ltb, length}
 use Rattle.std.proofs.Math.Path.{refl}
 use Rattle.std.proofs.Common.{ap, true≢false, arith}
 use Rattle.std.proofs.Math.Bool.{true, false}
@@ -12,10 +12,35 @@ use Rattle.lexer.specs.Lexer.{Token, same, tokenize}
 use Rattle.lexer.specs.Tokens.{TokensOver, TokensFit}
 use Rattle.lexer.specs.Laws.{same_equal}
 use Rattle.grammar.specs.Words.{MARK, key, words, number_in, word_of, sym_of}
-use Rattle.marks.specs.declared.Refusal.{Refusal}
-use Rattle.marks.specs.declared.Refusal.TheVariants.{Nothing, At}
+use Rattle.marks.specs.declared.word.Word.{Word}
+use Rattle.marks.specs.declared.word.Word.TheVariants as word
 use Rattle.marks.specs.declared.Read.{Read}
 use Rattle.marks.specs.Marks.{use_text, extern_text, is_refused, first_refused}
+
+-- the number of a word, and of what was found
+abbrev pub word_number : Word → ℕ
+word_number word.AdvMap = 1
+word_number word.Begin = 2
+word_number word.Const = 3
+word_number word.Do = 4
+word_number word.Else = 5
+word_number word.End = 6
+word_number word.Enum = 7
+word_number word.If = 8
+word_number word.Mod = 9
+word_number word.Namespace = 10
+word_number word.Package = 11
+word_number word.Proc = 12
+word_number word.Pub = 13
+word_number word.Repeat = 14
+word_number word.Type = 15
+word_number word.While = 16
+word_number word.Use = 17
+word_number word.Extern = 18
+
+abbrev pub found_number : Option Word → ℕ
+found_number None = 0
+found_number (Some w) = word_number w
 
 abbrev pub refused_texts : List (List ℕ)
 refused_texts = use_text ∷ extern_text ∷ []
@@ -105,12 +130,12 @@ unfolding text_number words
 few_numbers text = at_most 0 (words ++ refused_texts) text
 
 -- Marked v, a token that starts at m is refused where v stands above the last word; the first of two refusals.
-abbrev pub refused_at : ℕ → ℕ → Refusal
-refused_at v m = cond (ltb (key 16) v) (At m) Nothing
+abbrev pub refused_at : ℕ → ℕ → Option ℕ
+refused_at v m = cond (ltb (key 16) v) (Some m) None
 
-abbrev pub or_else : Refusal → Refusal → Refusal
-or_else Nothing q = q
-or_else (At m) q = At m
+abbrev pub or_else : Option ℕ → Option ℕ → Option ℕ
+or_else None q = q
+or_else (Some m) q = Some m
 
 -- The tokens with their marks, where each slice takes what it has room for; and where both have the same room.
 pub record MarkTokens (source kinds ends : List ℕ) (r : Read) (kinds' ends' : List ℕ) : Type 0 where

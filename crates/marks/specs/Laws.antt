@@ -1,6 +1,6 @@
 -- Laws of the marks, for the layers above: the plain kinds come back, and what joined sources come to.
 -- Assumes nothing.
-use Rattle.std.specs.Prelude.{ℕ, zero, suc, ◌+◌, ◌*◌, ◌<◌, ◌≡◌, refl, Bool, true, false, cond, List, [], ◌∷◌, ◌++◌, map, eqb, length}
+use Rattle.std.specs.Prelude.{Option, None, Some, ℕ, zero, suc, ◌+◌, ◌*◌, ◌<◌, ◌≡◌, refl, Bool, true, false, cond, List, [], ◌∷◌, ◌++◌, map, eqb, length}
 use Rattle.std.proofs.Common.{sym, ap, subst, ◌∙◌, arith, add-zero, add_assoc, lt-ltb, le-ltb, eqb-true, length-append}
 use Rattle.std.proofs.lemmas.List.{map-append}
 use Rattle.lexer.specs.Syntax.{Ident, Newline}
@@ -10,8 +10,6 @@ use Rattle.lexer.specs.Tokens
 use Rattle.lexer.specs.Laws.{Every, token_bytes, last, lossless}
 use Rattle.lexer.specs.Join.{join}
 use Rattle.grammar.specs.Words.{MARK, key, word_of, sym_of, kind_of}
-use Rattle.marks.specs.declared.Refusal.{Refusal}
-use Rattle.marks.specs.declared.Refusal.TheVariants.{Nothing, At}
 use Rattle.grammar.specs.Source.{syms}
 use Rattle.grammar.specs.Source
 use Rattle.marks.specs.Marks.{is_refused, first_refused}
@@ -74,13 +72,13 @@ pub record FirstRefused (n : ℕ) (ts : List Token) (m : ℕ) : Type 0 where
   pub refused : is_refused token ≡ true
   pub start : m ≡ n + length (token_bytes before)
 
-abbrev pub Says : Refusal → ℕ → List Token → Type 0
-Says Nothing n ts = Every NotRefused ts
-Says (At m) n ts = FirstRefused n ts m
+abbrev pub Says : Option ℕ → ℕ → List Token → Type 0
+Says None n ts = Every NotRefused ts
+Says (Some m) n ts = FirstRefused n ts m
 
-longer : (r : Refusal) (n : ℕ) (t : Token) (ts : List Token) → NotRefused t → Says r (n + length t.text) ts → Says r n (t ∷ ts)
-longer Nothing n t ts e h = (e, h)
-longer (At m) n t ts e h = record {
+longer : (r : Option ℕ) (n : ℕ) (t : Token) (ts : List Token) → NotRefused t → Says r (n + length t.text) ts → Says r n (t ∷ ts)
+longer None n t ts e h = (e, h)
+longer (Some m) n t ts e h = record {
   before = t ∷ h.before;
   token = h.token;
   behind = h.behind;
@@ -95,10 +93,10 @@ unfolding first_refused
 says n [] = tt
 says n (t ∷ ts) = by_test (is_refused t) refl (says (n + length t.text) ts)
   where
-    rest : Refusal
+    rest : Option ℕ
     rest = first_refused (n + length t.text) ts
 
-    by_test : (u : Bool) → is_refused t ≡ u → Says rest (n + length t.text) ts → Says (cond u (At n) rest) n (t ∷ ts)
+    by_test : (u : Bool) → is_refused t ≡ u → Says rest (n + length t.text) ts → Says (cond u (Some n) rest) n (t ∷ ts)
     by_test true e h = record { before = []; token = t; behind = ts; split = refl; kept = tt; refused = e; start = sym (add-zero n) }
     by_test false e h = longer rest n t ts e h
 
@@ -107,18 +105,18 @@ symbols_of : (ts : List Token) → Every NotRefused ts → map mark ts ≡ syms 
 symbols_of [] h = refl
 symbols_of (t ∷ ts) h = rw (sym (symbol_mark t.kind t.text h.0).symbol, symbols_of ts h.1)
 
-pub all_marked : (ts : List Token) → first_refused 0 ts ≡ Nothing → map mark ts ≡ syms ts
-all_marked ts e = symbols_of ts (subst (λ (r : Refusal). Says r 0 ts) e (says 0 ts))
+pub all_marked : (ts : List Token) → first_refused 0 ts ≡ None → map mark ts ≡ syms ts
+all_marked ts e = symbols_of ts (subst (λ (r : Option ℕ). Says r 0 ts) e (says 0 ts))
 
-pub none_refused : (n : ℕ) (ts : List Token) → Every NotRefused ts → first_refused n ts ≡ Nothing
+pub none_refused : (n : ℕ) (ts : List Token) → Every NotRefused ts → first_refused n ts ≡ None
 unfolding first_refused
 none_refused n [] h = refl
 none_refused n (t ∷ ts) h = rw h.0 (none_refused (n + length t.text) ts h.1)
 
 -- moved on by m
-abbrev pub moved : ℕ → Refusal → Refusal
-moved m Nothing = Nothing
-moved m (At n) = At (m + n)
+abbrev pub moved : ℕ → Option ℕ → Option ℕ
+moved m None = None
+moved m (Some n) = Some (m + n)
 
 pub first_append : (n : ℕ) (xs ys : List Token) → first_refused n (xs ++ ys) ≡ or_else (first_refused n xs) (first_refused (n + length (token_bytes xs)) ys)
 unfolding first_refused
@@ -128,7 +126,7 @@ first_append n (t ∷ xs) ys =
     (first_append (n + length t.text) xs ys
     ∙ ap (λ (k : ℕ). or_else (first_refused (n + length t.text) xs) (first_refused k ys)) (omega (arith, length-append t.text (token_bytes xs))))
   where
-    by_test : (u : Bool) (p q r : Refusal) → p ≡ or_else q r → cond u (At n) p ≡ or_else (cond u (At n) q) r
+    by_test : (u : Bool) (p q r : Option ℕ) → p ≡ or_else q r → cond u (Some n) p ≡ or_else (cond u (Some n) q) r
     by_test true p q r h = refl
     by_test false p q r h = h
 
@@ -138,7 +136,7 @@ first_moved m n [] = refl
 first_moved m n (t ∷ ts) =
     by_test (is_refused t) _ _ (ap (λ (k : ℕ). first_refused k ts) (add_assoc m n (length t.text)) ∙ first_moved m (n + length t.text) ts)
   where
-    by_test : (u : Bool) (p q : Refusal) → p ≡ moved m q → cond u (At (m + n)) p ≡ moved m (cond u (At n) q)
+    by_test : (u : Bool) (p q : Option ℕ) → p ≡ moved m q → cond u (Some (m + n)) p ≡ moved m (cond u (Some n) q)
     by_test true p q h = refl
     by_test false p q h = h
 
@@ -152,7 +150,7 @@ join_refused a b p q =
     ∙ ap (or_else (first_refused 0 (tokenize a))) (first_moved (length a) 0 (tokenize b))
 
 pub join_none_refused : (a b : List ℕ) → last 0 (token_kinds a) ≡ Newline → last 0 a ≡ 10
-    → first_refused 0 (tokenize a) ≡ Nothing → first_refused 0 (tokenize b) ≡ Nothing → first_refused 0 (tokenize (a ++ b)) ≡ Nothing
+    → first_refused 0 (tokenize a) ≡ None → first_refused 0 (tokenize b) ≡ None → first_refused 0 (tokenize (a ++ b)) ≡ None
 join_none_refused a b p q e f = join_refused a b p q ∙ rw (e, f)
 
 pub join_syms : (a b : List ℕ) → last 0 (token_kinds a) ≡ Newline → last 0 a ≡ 10 → syms (tokenize (a ++ b)) ≡ syms (tokenize a) ++ syms (tokenize b)

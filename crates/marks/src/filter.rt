@@ -1,9 +1,9 @@
 // A filter before the words' comparisons: whether a text may be a word, by its first byte, its last byte and its length.
-ghost use Rattle.std.specs.Prelude.{◌≡◌, false};
-ghost use Rattle.marks.specs.Filter.{WordsPass, Unnumbered};
+ghost use Rattle.std.specs.Prelude.{◌≡◌, ◌<◌, false, length};
+ghost use Rattle.marks.specs.Code.{text_number};
 
 // For each byte, the lengths of the words that start with it, as bits.
-pub const FIRST: [u16; 256] = [
+static FIRST: [u16; 256] = [
     0, 0, 0, 0, 0, 0, 0, 0, 0, 0, 0, 0, 0, 0, 0, 0, 0, 0, 0, 0, 0, 0, 0, 0, 0, 0, 0, 0, 0, 0, 0, 0,
     0, 0, 0, 0, 0, 0, 0, 0, 0, 0, 0, 0, 0, 0, 0, 0, 0, 0, 0, 0, 0, 0, 0, 0, 0, 0, 0, 0, 0, 0, 0, 0,
     0, 0, 0, 0, 0, 0, 0, 0, 0, 0, 0, 0, 0, 0, 0, 0, 0, 0, 0, 0, 0, 0, 0, 0, 0, 0, 0, 0, 0, 0, 0, 0,
@@ -16,7 +16,7 @@ pub const FIRST: [u16; 256] = [
 ];
 
 // For each byte, the lengths of the words that end with it, as bits.
-pub const LAST: [u16; 256] = [
+static LAST: [u16; 256] = [
     0, 0, 0, 0, 0, 0, 0, 0, 0, 0, 0, 0, 0, 0, 0, 0, 0, 0, 0, 0, 0, 0, 0, 0, 0, 0, 0, 0, 0, 0, 0, 0,
     0, 0, 0, 0, 0, 0, 0, 0, 0, 0, 0, 0, 0, 0, 0, 0, 0, 0, 0, 0, 0, 0, 0, 0, 0, 0, 0, 0, 0, 0, 0, 0,
     0, 0, 0, 0, 0, 0, 0, 0, 0, 0, 0, 0, 0, 0, 0, 0, 0, 0, 0, 0, 0, 0, 0, 0, 0, 0, 0, 0, 0, 0, 0, 0,
@@ -28,11 +28,12 @@ pub const LAST: [u16; 256] = [
     0, 0, 0,
 ];
 
-// Whether a text with these first and last bytes and this length may be a word. Of the length, the last four bits count.
-pub fn may_be(first: &[u16; 256], last: &[u16; 256], b: u8, z: u8, len: usize) -> bool
-    requires { WordsPass first.now last.now }
-    ensures { result ≡ false → Unnumbered b z len }
+// Whether a text may be a word. Of its length, the last four bits count.
+pub fn may_be(text: &[u8]) -> bool
+    requires { 0 < length text.now }
+    ensures { result ≡ false → text_number text.now ≡ 0 }
 {
-    let both = first[b as usize] & last[z as usize];
+    let len = text.len();
+    let both = FIRST[text[0] as usize] & LAST[text[len - 1] as usize];
     (both >> (len % 16)) % 2 == 1
 }

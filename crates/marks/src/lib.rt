@@ -1,95 +1,80 @@
 // The tokens of a source as the grammar reads them: words are marked in the kinds, and the marks are taken off after the grammar.
 #![tactic(auto)]
 
-ghost use Rattle.std.specs.Prelude.{◌≡◌, map, ◌-◌, ◌≤◌, ◌<◌, length, take, drop};
+ghost use Rattle.std.specs.Prelude.{◌≡◌, map, ◌≤◌, ◌<◌, length};
+ghost use Rattle.lexer.specs.Syntax.{kind_number};
 ghost use Rattle.lexer.specs.Tokens.{MAX_SOURCE};
 ghost use Rattle.grammar.specs.Words.{kind_of};
-ghost use Rattle.marks.specs.Code.{text_number, marked, or_else, refused_at, MarkTokens, MarkSource};
-ghost use Rattle.marks.specs.Filter.{WordsPass};
+ghost use Rattle.marks.specs.Code.{text_number, found_number, marked, or_else, refused_at, MarkTokens, MarkSource};
 
+use crate::word::Word;
 use grammar::words::{MARK, WHILE};
-use lexer::syntax::IDENT;
+use lexer::Lexer;
+use lexer::syntax::{IDENT, SyntaxKind};
 
 mod filter;
 mod word;
 
-// Where the first Ident `use` or `extern` starts, if there is one.
-#[derive(Clone, Copy)]
-pub enum Refusal {
-    Nothing,
-    At(usize),
-}
-
-// How many tokens there are, and what is refused of them.
+// How many tokens there are, and where the first Ident `use` or `extern` starts, if there is one.
 #[derive(Clone, Copy)]
 pub struct Read {
     pub count: usize,
-    pub refusal: Refusal,
+    pub refusal: Option<usize>,
 }
 
-// The number of an Ident's text. Most do not pass the filter, and are compared with nothing.
-fn number_of(first: &[u16; 256], last: &[u16; 256], source: &[u8], start: usize, end: usize) -> u16
-    requires { (WordsPass first.now last.now) × (start < end) × (end ≤ length source.now) }
-    ensures { result ≡ text_number (take (end - start) (drop start source.now)) }
+// The word that an Ident's text is. Most do not pass the filter, and are compared with nothing.
+fn find_word(text: &[u8]) -> Option<Word>
+    requires { 0 < length text.now }
+    ensures { found_number result ≡ text_number text.now }
 {
-    if filter::may_be(first, last, source[start], source[end - 1], end - start) {
-        return word::word_of(&source[start..end]);
+    if filter::may_be(text) {
+        word::word_of(text)
+    } else {
+        None
     }
-    0
 }
 
 // The refusal so far, or else that of a token above the last word, `while`: `use` and `extern`.
-fn or_else(refusal: Refusal, kind: u16, start: usize) -> Refusal
+fn or_else(refusal: Option<usize>, kind: u16, start: usize) -> Option<usize>
     ensures { result ≡ or_else refusal (refused_at kind start) }
 {
     if kind <= WHILE {
-        return refusal;
-    }
-    match refusal {
-        Refusal::At(n) => Refusal::At(n),
-        Refusal::Nothing => Refusal::At(start),
+        refusal
+    } else {
+        refusal.or(Some(start))
     }
 }
 
-// The kind of the token from `start` to `end`, marked where it is an Ident with a number.
-fn mark(
-    first: &[u16; 256],
-    last: &[u16; 256],
-    source: &[u8],
-    start: usize,
-    kind: u16,
-    end: usize,
-) -> u16
-    requires { (WordsPass first.now last.now) × (start < end) × (end ≤ length source.now) }
-    ensures { result ≡ marked kind (take (end - start) (drop start source.now)) }
+// The kind of a token with this text, marked where it is an Ident and a word.
+fn mark(kind: SyntaxKind, text: &[u8]) -> u16
+    requires { 0 < length text.now }
+    ensures { result ≡ marked (kind_number kind) text.now }
 {
-    if kind != IDENT {
-        return kind;
+    match kind {
+        SyntaxKind::Ident => match find_word(text) {
+            Some(word) => IDENT + MARK * u16::from(word),
+            None => IDENT,
+        },
+        _ => u16::from(kind),
     }
-    kind + MARK * number_of(first, last, source, start, end)
 }
 
-// The lexer's tokens, each marked as it is written; both slices have the same length.
+// The lexer's tokens, each marked as it is written, and the first refusal carried along; both slices have the same length.
 fn mark_tokens(source: &[u8], kinds: &mut [u16], ends: &mut [u32]) -> Read
     requires { (length source.now ≤ MAX_SOURCE) × (length kinds.old ≡ length ends.old) }
     ensures { MarkTokens
         source.now kinds.old ends.old
         result kinds.new ends.new }
 {
-    let table = lexer::classes();
-    let first = filter::FIRST;
-    let last = filter::LAST;
-    let mut refusal = Refusal::Nothing;
-    let mut at = 0;
+    let mut refusal = None;
+    let mut start = 0;
     let mut n = 0;
-    while at < source.len() {
-        let t = lexer::next(&table, source, at);
-        let end = t.end;
-        let kind = mark(&first, &last, source, at, t.kind, end);
-        refusal = or_else(refusal, kind, at);
-        lexer::put_token(kinds, ends, n, kind, end as u32);
+    for token in Lexer::new(source) {
+        let kind = mark(token.kind, &source[start..token.end]);
+        refusal = or_else(refusal, kind, start);
+        lexer::put_token(kinds, ends, n, kind, token.end as u32);
         n += 1;
-        at = end;
+        start = token.end;
     }
     Read { count: n, refusal }
 }
@@ -101,7 +86,7 @@ pub fn mark_source(source: &[u8], kinds: &mut [u16], ends: &mut [u32]) -> Read
         source.now kinds.old ends.old
         result kinds.new ends.new }
 {
-    let room = room::least(kinds.len(), ends.len());
+    let room = kinds.len().min(ends.len());
     mark_tokens(source, &mut kinds[..room], &mut ends[..room])
 }
 
@@ -116,6 +101,7 @@ fn plain(kind: u16) -> u16
 pub fn unmark(kinds: &mut [u16])
     ensures { kinds.new ≡ map kind_of kinds.old }
 {
+    // By index: of what is written through `iter_mut` no contract tells.
     for i in 0usize..kinds.len() {
         kinds[i] = plain(kinds[i]);
     }

@@ -1,71 +1,96 @@
-// The number of an identifier's text: 1 to 16 for the grammar's words, 17 for `use`, 18 for `extern`, 0 for any other.
+// The word that an identifier's text is: one of the grammar's sixteen, in the order of their numbers, or `use` or `extern`.
 ghost use Rattle.std.specs.Prelude.{◌≡◌, cond, ◌<◌, length, get_or};
 ghost use Rattle.lexer.specs.Lexer.{same as same_of};
-ghost use Rattle.marks.specs.Code.{text_number};
+ghost use Rattle.marks.specs.Code.{text_number, word_number, found_number};
 
 use lexer::same;
 
-// The word's number where the text is the word.
-fn only(word: &[u8], n: u16, text: &[u8]) -> u16
-    ensures { result ≡ cond (same_of word.now text.now) n 0 }
-{
-    if same(word, text) {
-        return n;
+#[derive(Debug, Clone, Copy, PartialEq, Eq, PartialOrd, Ord, Hash)]
+pub enum Word {
+    AdvMap = 1,
+    Begin,
+    Const,
+    Do,
+    Else,
+    End,
+    Enum,
+    If,
+    Mod,
+    Namespace,
+    Package,
+    Proc,
+    Pub,
+    Repeat,
+    Type,
+    While,
+    Use,
+    Extern,
+}
+
+impl From<Word> for u16 {
+    ghost from_gives = { λ word n. n ≡ word_number word };
+
+    fn from(word: Word) -> u16 {
+        word as u16
     }
-    0
+}
+
+// The word, where the text is its letters.
+fn only(letters: &[u8], word: Word, text: &[u8]) -> Option<Word>
+    ensures { result ≡ cond (same_of letters.now text.now) (Some word) None }
+{
+    same(letters, text).then_some(word)
 }
 
 // Words that start with `e`
-fn e_word(text: &[u8]) -> u16
+fn e_word(text: &[u8]) -> Option<Word>
     requires { (0 < length text.now) × (get_or text.now 0 0 ≡ 101) }
-    ensures { result ≡ text_number text.now }
+    ensures { found_number result ≡ text_number text.now }
 {
     if same(b"else", text) {
-        return 5;
+        Some(Word::Else)
+    } else if same(b"end", text) {
+        Some(Word::End)
+    } else if same(b"enum", text) {
+        Some(Word::Enum)
+    } else {
+        only(b"extern", Word::Extern, text)
     }
-    if same(b"end", text) {
-        return 6;
-    }
-    if same(b"enum", text) {
-        return 7;
-    }
-    only(b"extern", 18, text)
 }
 
 // Words that start with `p`
-fn p_word(text: &[u8]) -> u16
+fn p_word(text: &[u8]) -> Option<Word>
     requires { (0 < length text.now) × (get_or text.now 0 0 ≡ 112) }
-    ensures { result ≡ text_number text.now }
+    ensures { found_number result ≡ text_number text.now }
 {
     if same(b"package", text) {
-        return 11;
+        Some(Word::Package)
+    } else if same(b"proc", text) {
+        Some(Word::Proc)
+    } else {
+        only(b"pub", Word::Pub, text)
     }
-    if same(b"proc", text) {
-        return 12;
-    }
-    only(b"pub", 13, text)
 }
 
 // By the first byte, so that most texts are compared with no word.
-pub fn word_of(text: &[u8]) -> u16
+pub fn word_of(text: &[u8]) -> Option<Word>
     requires { 0 < length text.now }
-    ensures { result ≡ text_number text.now }
+    ensures { found_number result ≡ text_number text.now }
 {
-    let b = text[0];
-    match b {
-        97 => only(b"adv_map", 1, text),
-        98 => only(b"begin", 2, text),
-        99 => only(b"const", 3, text),
-        100 => only(b"do", 4, text),
-        101 => e_word(text),
-        105 => only(b"if", 8, text),
-        109 => only(b"mod", 9, text),
-        110 => only(b"namespace", 10, text),
-        112 => p_word(text),
-        114 => only(b"repeat", 14, text),
-        116 => only(b"type", 15, text),
-        117 => only(b"use", 17, text),
-        119 => only(b"while", 16, text),
-        _ => 0,
+    match text[0] {
+        b'a' => only(b"adv_map", Word::AdvMap, text),
+        b'b' => only(b"begin", Word::Begin, text),
+        b'c' => only(b"const", Word::Const, text),
+        b'd' => only(b"do", Word::Do, text),
+        b'e' => e_word(text),
+        b'i' => only(b"if", Word::If, text),
+        b'm' => only(b"mod", Word::Mod, text),
+        b'n' => only(b"namespace", Word::Namespace, text),
+        b'p' => p_word(text),
+        b'r' => only(b"repeat", Word::Repeat, text),
+        b't' => only(b"type", Word::Type, text),
+        b'u' => only(b"use", Word::Use, text),
+        b'w' => only(b"while", Word::While, text),
+        _ => None,
     }
 }

@@ -6,6 +6,7 @@ use Prim.Native.Nat.{ℕ, pred, ◌+◌, ◌≤◌, ◌<◌}
 use native.Mathlib.Nat.{pred-le}
 use native.Mathlib.Omega.{arith}
 use lib.Dec.{eqb}
+use Rattle.std.specs.Prelude.{Result, Ok, Err}
 use Rattle.lexer.specs.Syntax.{LBrace, LBracket, LParen, RBrace, RBracket, RParen}
 use Rattle.grammar.specs.Words.{Sym, is}
 use Rattle.grammar.specs.Look
@@ -14,7 +15,6 @@ use Rattle.grammar.specs.declared.message.Message.{Message}
 use Rattle.grammar.specs.Message.{number}
 use Rattle.grammar.specs.declared.nesting.Closer.{Closer}
 use Rattle.grammar.specs.declared.nesting.Nesting.{Nesting}
-use Rattle.grammar.specs.declared.nesting.Bumped.{Bumped}
 use Rattle.grammar.specs.Nesting.{default, counted, bump_nesting, bump_by, NestingBelow, open_paren, open_bracket, open_brace, close_paren, close_bracket, close_brace}
 use Rattle.parser.specs.Rep.{World, remaining, Ran, RanTo, ErrorHere}
 use Rattle.parser.specs.Counts.{reported, counts, BumpNesting}
@@ -22,21 +22,21 @@ use Rattle.parser.proofs.Kit.{scan_go_eq, scan_warn_eq, like_to, done, ◌then_t
 
 -- ---- a token adds at most 1 to a count
 module _ (b : ℕ) (n : Nesting) (h : NestingBelow b n) where
-  record Grown (x : Bumped) : Type 0 where
+  record Grown (x : Result Nesting Closer) : Type 0 where
     below : NestingBelow (b + 1) (counts n x)
 
-  either : (t : Bool) {x y : Bumped} → Grown x → Grown y → Grown (cond t x y)
+  either : (t : Bool) {x y : Result Nesting Closer} → Grown x → Grown y → Grown (cond t x y)
   either true p q = p
   either false p q = q
 
   abbrev Within : Nesting → Type 0
   Within m = (m.parens ≤ n.parens + 1) × (m.brackets ≤ n.brackets + 1) × (m.braces ≤ n.braces + 1)
 
-  grown : (m : Nesting) → Within m → Grown (Bumped.Counts m)
+  grown : (m : Nesting) → Within m → Grown (Ok m)
   unfolding counts
   grown m w = record { below = record { parens = omega (arith, h, w); brackets = omega (arith, h, w); braces = omega (arith, h, w) } }
 
-  refused : (c : Closer) → Grown (Bumped.Refused c)
+  refused : (c : Closer) → Grown (Err c)
   unfolding counts
   refused c = record { below = record { parens = omega (arith, h); brackets = omega (arith, h); braces = omega (arith, h) } }
 
@@ -57,16 +57,20 @@ module _ (b : ℕ) (n : Nesting) (h : NestingBelow b n) where
 pub below_le : {b b' : ℕ} {n : Nesting} → b ≤ b' → NestingBelow b n → NestingBelow b' n
 below_le h l = record { parens = omega (arith, l); brackets = omega (arith, l); braces = omega (arith, l) }
 
+-- the counts of Nesting::default, which says them one by one
+pub all_closed : (n : Nesting) → (n.parens ≡ 0) × ((n.brackets ≡ 0) × (n.braces ≡ 0)) → n ≡ default
+all_closed n h = rw (h.0, h.1.0, h.1.1)
+
 pub below_default : (b : ℕ) → 0 < b → NestingBelow b default
 below_default b h = record { parens = h; brackets = h; braces = h }
 
 -- ---- scan
 module _ {L : Type 0} (step : L → List Sym → Round L) where
-  counted_eq : (n : Nesting) (locals : Nesting → L) (x : Bumped) (l : L) (r : List Sym) → Look.eof r ≡ false → step l r ≡ counted n locals x
+  counted_eq : (n : Nesting) (locals : Nesting → L) (x : Result Nesting Closer) (l : L) (r : List Sym) → Look.eof r ≡ false → step l r ≡ counted n locals x
       → scan step l r ≡ (reported x >> take_token >> scan step (locals (counts n x))) r
   unfolding counted reported counts pure ◌>>=◌
-  counted_eq n locals (Bumped.Counts n') l r z e = scan_go_eq step l (locals n') r z e
-  counted_eq n locals (Bumped.Refused c) l r z e = scan_warn_eq step l (locals n) _ r z e
+  counted_eq n locals (Ok n') l r z e = scan_go_eq step l (locals n') r z e
+  counted_eq n locals (Err c) l r z e = scan_warn_eq step l (locals n) _ r z e
 
   module _ {w v w' : World} {n n' : Nesting} {k : Sym} where
     -- `locals` makes the loop's locals of the counts
@@ -80,8 +84,8 @@ module _ {L : Type 0} (step : L → List Sym → Round L) where
         (m.ran then_to t then_to subst (λ j. RanTo (scan step j) u w' a) (sym i ∙ ap locals m.is) h)
 
 -- ---- bump_nesting
-module _ {n : Nesting} {k : Sym} {w : World} (x : Bumped) (b : x ≡ bump_by n k) where
-  pub counted_go : {m : Nesting} → x ≡ Bumped.Counts m → BumpNesting n k w w m
+module _ {n : Nesting} {k : Sym} {w : World} (x : Result Nesting Closer) (b : x ≡ bump_by n k) where
+  pub counted_go : {m : Nesting} → x ≡ Ok m → BumpNesting n k w w m
   unfolding reported counts
   counted_go {m} e =
       let q = sym b ∙ e in
@@ -92,7 +96,7 @@ module _ {n : Nesting} {k : Sym} {w : World} (x : Bumped) (b : x ≡ bump_by n k
         pos = refl;
       }
 
-  pub counted_refused : {y : Closer} {w' : World} → x ≡ Bumped.Refused y → ErrorHere (number (Message.UnexpectedCloser y)) w w' → BumpNesting n k w w' n
+  pub counted_refused : {y : Closer} {w' : World} → x ≡ Err y → ErrorHere (number (Message.UnexpectedCloser y)) w w' → BumpNesting n k w w' n
   unfolding reported counts
   counted_refused {y} {w'} e s =
       let q = sym b ∙ e in

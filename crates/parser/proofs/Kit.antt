@@ -14,7 +14,7 @@ use Rattle.grammar.specs.Out.{ev, dg}
 use Rattle.grammar.specs.State.{State, after, run, write}
 use Rattle.grammar.specs.Laws.Code.{run_bind, run_node, run_pure}
 use Rattle.parser.specs.declared.state.Parser.{Parser}
-use Rattle.parser.specs.Rep.{World, file, remaining, Rep, Small, SameSlices, Onward, Wrote, Ran, RanTo}
+use Rattle.parser.specs.Rep.{World, file, remaining, Rep, Small, SameParserSlices, Onward, Wrote, Ran, RanTo}
 
 run_same : {A : Type 0} (f g : P A) (s : State) → f s.rest ≡ g s.rest → run f s ≡ run g s
 unfolding run
@@ -32,10 +32,10 @@ small_before f s z = record {
 pub small_written : (v : ℕ) (s : State) → Small (write v s) → Small s
 small_written v s z = record { pos = z.pos; events = omega (arith, z.events, length-append s.evs (v ∷ [])); diags = z.diags }
 
-same : {p : Parser} → SameSlices p p
+same : {p : Parser} → SameParserSlices p p
 same = record { kinds = refl; events = refl; messages = refl; starts = refl; event_room = refl; message_room = refl; start_room = refl }
 
-also_same : {p q r : Parser} → SameSlices p q → SameSlices q r → SameSlices p r
+also_same : {p q r : Parser} → SameParserSlices p q → SameParserSlices q r → SameParserSlices p r
 also_same a b = record {
   kinds = b.kinds ∙ a.kinds;
   events = b.events ∙ a.events;

@@ -1,21 +1,21 @@
 -- What bump_nesting does: it reports a closer that is refused, and hands back the counts. Assumes nothing: these are definitions.
-use Rattle.std.specs.Prelude.{◌≡◌, Bool, ℕ, ◌+◌}
+use Rattle.std.specs.Prelude.{◌≡◌, Bool, ℕ, ◌+◌, Result, Ok, Err}
 use Rattle.grammar.specs.Words.{Sym}
 use Rattle.grammar.specs.Run.{P}
 use Rattle.grammar.specs.declared.message.Message.{Message}
 use Rattle.grammar.specs.declared.nesting.Nesting.{Nesting}
-use Rattle.grammar.specs.declared.nesting.Bumped.{Bumped}
+use Rattle.grammar.specs.declared.nesting.Closer.{Closer}
 use Rattle.grammar.specs.Bump.{error_here, nop}
 use Rattle.grammar.specs.Nesting.{bump_by, NestingBelow}
 use Rattle.parser.specs.Rep.{World, Ran}
 
-unfoldable pub reported : Bumped → P Bool
-reported (Bumped.Counts n) = nop
-reported (Bumped.Refused c) = error_here (Message.UnexpectedCloser c)
+unfoldable pub reported : Result Nesting Closer → P Bool
+reported (Ok n) = nop
+reported (Err c) = error_here (Message.UnexpectedCloser c)
 
-unfoldable pub counts : Nesting → Bumped → Nesting
-counts n (Bumped.Counts n') = n'
-counts n (Bumped.Refused c) = n
+unfoldable pub counts : Nesting → Result Nesting Closer → Nesting
+counts n (Ok n') = n'
+counts n (Err c) = n
 
 -- the contract: a token of kind k makes of n the counts n'
 pub record BumpNesting (n : Nesting) (k : Sym) (w w' : World) (n' : Nesting) : Type 0 where

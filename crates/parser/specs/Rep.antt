@@ -55,7 +55,7 @@ pub record Small (s : State) : Type 0 where
   pub diags : length s.dgs < 2 ^ 64
 
 -- q has the slices of p, and each is as long
-pub record SameSlices (p q : Parser) : Type 0 where
+pub record SameParserSlices (p q : Parser) : Type 0 where
   pub kinds : q.kinds ≡ p.kinds
   pub events : q.events.ghost_name ≡ p.events.ghost_name
   pub messages : q.messages.ghost_name ≡ p.messages.ghost_name
@@ -68,7 +68,7 @@ pub record SameSlices (p q : Parser) : Type 0 where
 pub record Onward (w w' : World) : Type 0 where
   pub ahead : w.c.pos ≤ w'.c.pos
   pub tokens : length (file w') ≡ length (file w)
-  pub slices : SameSlices w.p w'.p
+  pub slices : SameParserSlices w.p w'.p
 
 -- there is a token at w, and it is taken before w'
 pub record Past (w w' : World) : Type 0 where

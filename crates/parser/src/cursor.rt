@@ -6,11 +6,12 @@ ghost use Rattle.parser.specs.Rep.{entry, exit, Wrote, ErrorHere, PlainToken, Bu
 
 use crate::state::Parser;
 use grammar::event::ERROR_TOKEN;
-use grammar::message::{Message, number};
+use grammar::message::Message;
 use grammar::words::MARK;
 use lexer::syntax::{ERROR, IDENT, WHITESPACE};
-use room::{set_u16, set_u32};
+use room::set_in_room;
 
+// By value, as docs/DECISIONS.md has it: each step hands back the next. So the loops over tokens go by it, and no iterator does.
 #[derive(Clone, Copy)]
 pub struct Cursor {
     pub pos: usize,
@@ -18,7 +19,7 @@ pub struct Cursor {
     pub diags: usize,
 }
 
-// A cursor and an answer.
+// A cursor and an answer. No Result: the cursor goes on whatever the answer is, and most callers ask for it alone.
 #[derive(Clone, Copy)]
 pub struct Flow {
     pub c: Cursor,
@@ -47,11 +48,10 @@ impl Parser<'_> {
     pub fn put(&mut self, c: Cursor, v: u16) -> Cursor
         ensures { Wrote v (entry self c) (exit self result) }
     {
-        let e = c.events;
-        set_u16(self.events, e, v);
+        set_in_room(self.events, c.events, v);
         Cursor {
             pos: c.pos,
-            events: one_more(e),
+            events: one_more(c.events),
             diags: c.diags,
         }
     }
@@ -60,14 +60,12 @@ impl Parser<'_> {
     pub fn error_here(&mut self, c: Cursor, m: Message) -> Cursor
         ensures { ErrorHere (number_of m) (entry self c) (exit self result) }
     {
-        let d = c.diags;
-        let p = c.pos;
-        set_u16(self.messages, d, number(m));
-        set_u32(self.starts, d, low_half(p));
+        set_in_room(self.messages, c.diags, u16::from(m));
+        set_in_room(self.starts, c.diags, low_half(c.pos));
         Cursor {
-            pos: p,
+            pos: c.pos,
             events: c.events,
-            diags: one_more(d),
+            diags: one_more(c.diags),
         }
     }
 }

@@ -21,6 +21,7 @@ use grammar::words::{ELSE, END, PUB, WHILE};
 use lexer::syntax::{DOT, L_PAREN, R_PAREN};
 
 // How far a lookahead over trivia went, and whether an item starts there: it holds of each place before `next`.
+// What is known of it speaks of a file and a place, so it stands in the contracts and in no ghost field.
 #[derive(Clone, Copy)]
 pub struct Remembered {
     pub next: usize,
@@ -34,7 +35,7 @@ impl Parser<'_> {
         self.kinds.len() <= p
     }
 
-    // The token here; past the last one, a number that no token has.
+    // The token here; past the last one Tombstone, as in the definition. No Option: each test of it is then one comparison.
     pub fn current(&self, p: usize) -> u16
         ensures { result ≡ current_of (drop p self.now.kinds.now) }
     {
@@ -48,16 +49,14 @@ impl Parser<'_> {
     pub fn at_kind(&self, p: usize, k: u16) -> bool
         ensures { result ≡ at (is k) (drop p self.now.kinds.now) }
     {
-        if p < self.kinds.len() {
-            return k == self.kinds[p];
-        }
-        false
+        p < self.kinds.len() && k == self.kinds[p]
     }
 
     // The first token from p on that is not trivia up to `last`.
     pub fn skip(&self, last: u16, p: usize) -> usize
         ensures { Found self.now.kinds.now p result (skip_of (trivia_to last) (drop p self.now.kinds.now)) }
     {
+        // A while: a `for`, with the greater of p and the length behind it, takes a twentieth more where trivia is looked through.
         let mut i = p;
         while i < self.kinds.len() {
             if !is_trivia_to(last, self.kinds[i]) {
@@ -177,10 +176,7 @@ impl Parser<'_> {
         }
         let next = self.next_relevant_top_level_token(p + 1);
         let starts = self.eof(next) || self.is_top_level_starter(next);
-        Remembered {
-            next: next,
-            starts: starts,
-        }
+        Remembered { next, starts }
     }
 
     // at_top_level_form_starter_in_block at a doc comment, in the same way.
@@ -193,7 +189,7 @@ impl Parser<'_> {
         }
         let next = self.next_relevant_block_token(p + 1);
         Remembered {
-            next: next,
+            next,
             starts: self.is_top_level_starter(next),
         }
     }

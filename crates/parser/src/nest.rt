@@ -7,7 +7,7 @@ ghost use Rattle.parser.specs.Counts.{BumpNesting};
 use crate::cursor::Cursor;
 use crate::state::Parser;
 use grammar::message::Message;
-use grammar::nesting::{Bumped, Nesting};
+use grammar::nesting::Nesting;
 
 #[derive(Clone, Copy)]
 pub struct Nested {
@@ -21,15 +21,11 @@ impl Parser<'_> {
         requires { NestingBelow (2 ^ 63) nesting }
         ensures { BumpNesting nesting kind (entry self c) (exit self result.c) result.nesting }
     {
-        let b = nesting.bump(kind);
-        match b {
-            Bumped::Counts(n) => Nested { c: c, nesting: n },
-            Bumped::Refused(x) => {
+        match nesting.bump(kind) {
+            Ok(n) => Nested { c, nesting: n },
+            Err(x) => {
                 let d = self.error_here(c, Message::UnexpectedCloser(x));
-                Nested {
-                    c: d,
-                    nesting: nesting,
-                }
+                Nested { c: d, nesting }
             }
         }
     }

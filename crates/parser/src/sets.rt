@@ -1,4 +1,5 @@
-// Sets of kinds, and of words by their numbers, as the bits of a number.
+// Sets of kinds, and of words by their numbers, as the bits of a number: one shift tells of a u16 of the kinds' slice, which C lends,
+// whether it is in the set. What each constant means is proved in kinds.rt.
 pub const OPERAND: u64 = 0xe17dfc000000000;
 
 pub const PUNCTUATION: u64 = 0xef61fc000000000;

@@ -4,9 +4,7 @@
 ghost use Rattle.std.specs.Prelude.{◌≡◌, ◌<◌, ◌^◌, length};
 ghost use Rattle.places.specs.Places.{start_of, stop_of, Places};
 
-use room::least;
-
-// A token starts where the one before ended; behind the last stands the anchor.
+// A token starts where the one before ended; behind the last stands the anchor. By tests, since `get(i)` gives the token's own end.
 fn start_of(ends: &[u32], anchor: u32, i: usize) -> u32
     ensures { result ≡ start_of ends.now anchor i }
 {
@@ -22,10 +20,7 @@ fn start_of(ends: &[u32], anchor: u32, i: usize) -> u32
 fn stop_of(ends: &[u32], anchor: u32, i: usize) -> u32
     ensures { result ≡ stop_of ends.now anchor i }
 {
-    if i < ends.len() {
-        return ends[i];
-    }
-    anchor
+    ends.get(i).copied().unwrap_or(anchor)
 }
 
 // The first `count` entries, as far as the slices go.
@@ -36,12 +31,11 @@ pub fn places(ends: &[u32], anchor: usize, count: usize, starts: &mut [u32], sto
         starts.new stops.new }
 {
     let eof = anchor as u32;
-    let n = least(count, starts.len());
-    let mut i = 0;
-    while i < n {
+    let n = count.min(starts.len());
+    // By index: of what is written through a `zip` of two `iter_mut` a proof learns nothing.
+    for i in 0..n {
         let token = starts[i] as usize;
         starts[i] = start_of(ends, eof, token);
         stops[i] = stop_of(ends, eof, token);
-        i += 1;
     }
 }

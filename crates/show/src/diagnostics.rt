@@ -1,12 +1,11 @@
 // One line for each diagnostic: `! line column start end text`.
 ghost use Rattle.std.specs.Prelude.{◌≡◌, ◌+◌, ◌≤◌, ◌<◌, min, length};
-ghost use Rattle.frames.specs.Ready.{Ready};
 ghost use Rattle.show.specs.Lines.{Marks};
 
-use crate::entries::{at_u16, at_u32};
 use crate::message::put_message;
-use frames::output;
-use room::least;
+use frames::output::put_numbers;
+use std::io::Write;
+use std::{io, iter};
 
 // A place in the source, with its line and column.
 #[derive(Clone, Copy)]
@@ -16,128 +15,104 @@ pub struct Spot {
     pub column: usize,
 }
 
-// The next place.
-fn step(source: &[u8], spot: Spot) -> Spot
-    requires { (Marks source.now spot) × (spot.at < length source.now) }
-    ensures { (Marks source.now result) × (result.at ≡ spot.at + 1) }
-{
-    let at = spot.at;
-    let line = spot.line;
-    let column = spot.column;
-    if source[at] == 10 {
-        return Spot {
-            at: at + 1,
-            line: line + 1,
-            column: 1,
-        };
-    }
-    Spot {
-        at: at + 1,
-        line,
-        column: column + 1,
-    }
+// A source, and a spot in it.
+#[derive(Clone, Copy)]
+struct SourceWalk<'s> {
+    source: &'s [u8],
+    spot: Spot,
+    ghost marks: { Marks source.now spot },
 }
 
-// The place at hand, or the start where `to` lies before it.
-fn back(source: &[u8], spot: Spot, to: usize) -> Spot
-    requires { Marks source.now spot }
-    ensures { (Marks source.now result) × (result.at ≤ to) }
-{
-    if to < spot.at {
-        return Spot {
+impl<'s> SourceWalk<'s> {
+    fn new(source: &'s [u8]) -> SourceWalk<'s>
+        ensures source { result.source ≡ source.entry }
+        ensures spot { result.spot.at ≡ 0 }
+    {
+        let spot = Spot {
             at: 0,
             line: 1,
             column: 1,
         };
+        SourceWalk { source, spot }
     }
-    spot
-}
 
-// The place `to`, or the source's end.
-fn advance(source: &[u8], spot: Spot, to: usize) -> Spot
-    requires { Marks source.now spot }
-    ensures { (Marks source.now result) × (result.at ≡ min to (length source.now)) }
-{
-    let end = least(to, source.len());
-    let mut s = back(source, spot, end);
-    while s.at < end {
-        s = step(source, s);
+    // The next place.
+    fn step(&mut self)
+        requires { self.old.spot.at < length self.old.source.now }
+        ensures source { self.new.source ≡ self.old.source }
+        ensures spot { self.new.spot.at ≡ self.old.spot.at + 1 }
+    {
+        let Spot { at, line, column } = self.spot;
+        if self.source[at] == b'\n' {
+            self.spot = Spot {
+                at: at + 1,
+                line: line + 1,
+                column: 1,
+            };
+            return;
+        }
+        self.spot = Spot {
+            at: at + 1,
+            line,
+            column: column + 1,
+        };
     }
-    s
-}
 
-// The bytes from `start` to `end`, as far as they are in the source, behind the message.
-fn put_said(
-    rt: &impl Print,
-    out: &mut [u8],
-    used: usize,
-    source: &[u8],
-    message: usize,
-    start: usize,
-    end: usize,
-) -> usize
-    requires { Ready used out.old }
-    ensures { Ready result out.new }
-{
-    if end < start {
-        return used;
+    // The start, where `to` lies before the place.
+    fn back(&mut self, to: usize)
+        ensures source { self.new.source ≡ self.old.source }
+        ensures spot { self.new.spot.at ≤ to }
+    {
+        if to < self.spot.at {
+            *self = SourceWalk::new(self.source);
+        }
     }
-    if source.len() < end {
-        return used;
+
+    // The place `to`, or the source's end.
+    fn advance(&mut self, to: usize)
+        ensures source { self.new.source ≡ self.old.source }
+        ensures spot { self.new.spot.at ≡ min to (length self.old.source.now) }
+    {
+        let end = to.min(self.source.len());
+        self.back(end);
+        for _ in self.spot.at..end {
+            self.step();
+        }
     }
-    put_message(rt, out, used, message, &source[start..end])
 }
 
 fn put_diagnostic(
-    rt: &impl Print,
-    source: &[u8],
-    spot: Spot,
-    message: usize,
-    start: usize,
-    end: usize,
-    out: &mut [u8],
-    used: usize,
-) -> usize
-    requires { Ready used out.old }
-    ensures { Ready result out.new }
-{
-    let head = output::put_text(rt, out, used, b"!");
-    let first = output::put_entry(rt, out, head, 1, spot.line);
-    let second = output::put_entry(rt, out, first, 2, spot.column);
-    let third = output::put_entry(rt, out, second, 3, start);
-    let fourth = output::put_entry(rt, out, third, 4, end);
-    let space = output::put_byte(rt, out, fourth, b' ');
-    let last = put_said(rt, out, space, source, message, start, end);
-    output::put_byte(rt, out, last, b'\n')
+    out: &mut impl Write,
+    walk: &SourceWalk<'_>,
+    message: u16,
+    start: u32,
+    end: u32,
+) -> io::Result<()> {
+    let Spot { line, column, .. } = walk.spot;
+    out.write_all(b"!")?;
+    put_numbers(out, &[line as u64, column as u64, start.into(), end.into()])?;
+    out.write_all(b" ")?;
+    // Where the bytes are not in the source, there is no text.
+    if let Some(said) = walk.source.get(start as usize..end as usize) {
+        put_message(out, message, said)?;
+    }
+    out.write_all(b"\n")
 }
 
-// Diagnostics stand in the order of their places, so the source is gone through once.
+// Diagnostics stand in the order of their places, so the source is gone through once. Past the end of the slices of places is 0.
 pub fn put_diagnostics(
-    rt: &impl Print,
+    out: &mut impl Write,
     source: &[u8],
     messages: &[u16],
     starts: &[u32],
     stops: &[u32],
-    out: &mut [u8],
-    used: usize,
-) -> usize
-    requires { Ready used out.old }
-    ensures { Ready result out.new }
-{
-    let mut at = used;
-    let mut spot = Spot {
-        at: 0,
-        line: 1,
-        column: 1,
-    };
-    let mut i = 0;
-    while i < messages.len() {
-        let message = at_u16(messages, i);
-        let start = at_u32(starts, i);
-        let end = at_u32(stops, i);
-        spot = advance(source, spot, start);
-        at = put_diagnostic(rt, source, spot, message, start, end, out, at);
-        i += 1;
+) -> io::Result<()> {
+    let mut walk = SourceWalk::new(source);
+    let starts = starts.iter().copied().chain(iter::repeat(0));
+    let stops = stops.iter().copied().chain(iter::repeat(0));
+    for ((&message, start), end) in messages.iter().zip(starts).zip(stops) {
+        walk.advance(start as usize);
+        put_diagnostic(out, &walk, message, start, end)?;
     }
-    at
+    Ok(())
 }

@@ -1,14 +1,13 @@
 // The text of program `tree`, as document 01 has it.
 #![tactic(auto)]
 
-ghost use Rattle.frames.specs.Ready.{Ready};
-
-use answer::{FourNumbers, numbers};
-use frames::output;
-use room::least;
+use answer::{Answer, FourNumbers};
+use cst::Slices;
+use frames::output::put_tagged;
+use std::io;
+use std::io::Write;
 
 mod diagnostics;
-mod entries;
 mod events;
 mod message;
 
@@ -16,83 +15,50 @@ mod message;
 const LONGEST: usize = 2048;
 
 // `ok` T E D, or `no` and the four numbers.
-fn put_row(rt: &impl Print, out: &mut [u8], used: usize, row: FourNumbers) -> usize
-    requires { Ready used out.old }
-    ensures { Ready result out.new }
-{
-    let status = row.status as usize;
-    let first = row.first as usize;
-    let second = row.second as usize;
-    let third = row.third as usize;
-    let head = put_status(rt, out, used, status);
-    let one = output::put_entry(rt, out, head, 1, first);
-    let two = output::put_entry(rt, out, one, 2, second);
-    let three = output::put_entry(rt, out, two, 3, third);
-    output::put_byte(rt, out, three, b'\n')
-}
-
-fn put_status(rt: &impl Print, out: &mut [u8], used: usize, status: usize) -> usize
-    requires { Ready used out.old }
-    ensures { Ready result out.new }
-{
-    if status == 0 {
-        return output::put_text(rt, out, used, b"ok");
+fn put_row(out: &mut impl Write, answer: Answer) -> io::Result<()> {
+    let FourNumbers {
+        status,
+        first,
+        second,
+        third,
+    } = FourNumbers::from(answer);
+    match answer {
+        Answer::Accepted(..) => put_tagged(out, b"ok", &[first, second, third]),
+        _ => put_tagged(out, b"no", &[status, first, second, third]),
     }
-    let at = output::put_text(rt, out, used, b"no ");
-    output::put_number(rt, out, at, status)
 }
 
 // The first `e` events and `d` diagnostics, as far as the slices go.
 fn put_lists(
-    rt: &impl Print,
+    out: &mut impl Write,
     source: &[u8],
-    ends: &[u32],
-    events: &[u16],
-    messages: &[u16],
-    starts: &[u32],
-    stops: &[u32],
+    slices: &Slices<'_>,
     e: usize,
     d: usize,
-    out: &mut [u8],
-    used: usize,
-) -> usize
-    requires { Ready used out.old }
-    ensures { Ready result out.new }
-{
-    let e = least(e, events.len());
-    let d = least(d, messages.len());
-    let at = events::put_events(rt, ends, &events[..e], out, used);
-    diagnostics::put_diagnostics(rt, source, &messages[..d], starts, stops, out, at)
+) -> io::Result<()> {
+    let e = e.min(slices.events.len());
+    let d = d.min(slices.messages.len());
+    events::put_events(out, slices.ends, &slices.events[..e])?;
+    diagnostics::put_diagnostics(
+        out,
+        source,
+        &slices.messages[..d],
+        slices.starts,
+        slices.stops,
+    )
 }
 
 // What `tree` prints for a source, the slices being its room.
-pub fn put_tree(
-    rt: &impl Print,
-    source: &[u8],
-    kinds: &mut [u16],
-    ends: &mut [u32],
-    events: &mut [u16],
-    messages: &mut [u16],
-    starts: &mut [u32],
-    stops: &mut [u32],
-    out: &mut [u8],
-    used: usize,
-) -> usize
-    requires { Ready used out.old }
-    ensures { Ready result out.new }
-{
+pub fn put_tree(out: &mut impl Write, source: &[u8], slices: &mut Slices<'_>) -> io::Result<()> {
     if LONGEST < source.len() {
-        return output::put_text(rt, out, used, b"long\n");
+        return out.write_all(b"long\n");
     }
-    let answer = cst::parse_text(source, kinds, ends, events, messages, starts, stops);
-    let row = numbers(answer);
-    let at = put_row(rt, out, used, row);
-    if row.status == 0 || row.status == 5 {
-        let e = row.second as usize;
-        let d = row.third as usize;
-        return put_lists(
-            rt, source, ends, events, messages, starts, stops, e, d, out, at,
-        );
+    let answer = cst::parse_text(source, slices);
+    put_row(out, answer)?;
+    match answer {
+        Answer::OutputRoom(_, e, d) | Answer::Accepted(_, e, d) => {
+            put_lists(out, source, slices, e, d)
+        }
+        _ => Ok(()),
     }
-    at
 }

@@ -1,35 +1,36 @@
 // Reads up to 2,048 bytes of standard input, and prints their reading, or that they can't be read.
 #![tactic(auto)]
 
+use cst::Slices;
 use frames::input::read_input;
-use frames::output;
+use frames::output::Output;
+use std::io;
+use std::io::{Read, Write};
+
+// One byte more is read, for which the text is that there are too many.
+fn put_input(
+    out: &mut impl Write,
+    from: &mut impl Read,
+    slices: &mut Slices<'_>,
+) -> io::Result<()> {
+    let mut source = [0u8; 2049];
+    match read_input(from, &mut source) {
+        Ok(got) => show::put_tree(out, &source[..got], slices)?,
+        Err(_) => out.write_all(b"unread\n")?,
+    }
+    out.flush()
+}
 
 fn main(rt: HostRuntime) {
-    let mut source = [0u8; 2049];
-    let mut kinds = [0u16; 2048];
-    let mut ends = [0u32; 2048];
-    let mut events = [0u16; 14338];
-    let mut messages = [0u16; 2048];
-    let mut starts = [0u32; 2048];
-    let mut stops = [0u32; 2048];
-    let mut out = [0u8; 4096];
-    let input = read_input(&mut rt.stdin(), &mut source);
-    if input.failed {
-        let _ = rt.write_all(b"unread\n");
-        return;
-    }
-    let got = input.got;
-    let used = show::put_tree(
-        &rt,
-        &source[..got],
-        &mut kinds,
-        &mut ends,
-        &mut events,
-        &mut messages,
-        &mut starts,
-        &mut stops,
-        &mut out,
-        0,
-    );
-    output::flush(&rt, &out, used);
+    let mut slices = Slices {
+        kinds: &mut [0u16; 2048],
+        ends: &mut [0u32; 2048],
+        events: &mut [0u16; 14338],
+        messages: &mut [0u16; 2048],
+        starts: &mut [0u32; 2048],
+        stops: &mut [0u32; 2048],
+    };
+    let mut buf = [0u8; 4096];
+    let mut out = Output::new(&rt, &mut buf);
+    let _ = put_input(&mut out, &mut rt.stdin(), &mut slices);
 }

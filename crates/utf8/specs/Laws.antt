@@ -1,13 +1,11 @@
 -- What `validate` says of a text.
-use Rattle.std.specs.Prelude.{◌≡◌, refl, List, [], ◌∷◌, ◌++◌, ℕ, zero, suc, ◌+◌, ◌≤◌, ◌<◌, length, take, drop}
+use Rattle.std.specs.Prelude.{◌≡◌, refl, List, [], ◌∷◌, ◌++◌, ℕ, zero, suc, ◌+◌, ◌≤◌, ◌<◌, length, take, drop, Ok, Err}
 use Rattle.std.proofs.Common.{sym, ap, ◌∙◌, subst, append-nil, append_assoc, arith, add-zero, length-append, length-drop, take-append-drop, take-add, length-take-le}
 use Rattle.std.proofs.Math.Seq.{drop-nil, drop-append_seam}
 use Rattle.utf8.specs.Table.{table_3_7, agree, length_in, char_length}
 use Rattle.utf8.specs.TableLaws.{char_length_lem, char_of_length, char_some}
 use Rattle.utf8.specs.WellFormed.{Character, WellFormed, empty, more}
-use Rattle.utf8.specs.Validate.{validate_from, validate}
-use Rattle.utf8.specs.declared.Utf8.{Utf8}
-use Rattle.utf8.specs.declared.Utf8.TheVariants.{Valid, At}
+use Rattle.utf8.specs.Validate.{Validity, error_at, validate_from, validate}
 
 -- the definition's steps: over the bytes of a character, and where no character stands
 pub skips : (k n : ℕ) (s : List ℕ) → validate_from k n s ≡ validate_from 0 (n + k) (drop k s)
@@ -21,7 +19,7 @@ unfolding validate_from length_in table_3_7 agree
 steps n [] k e = absurd (omega arith)
 steps n (b ∷ bs) k e = rw (e, validate_from) (skips k (n + 1) bs ∙ ap (λ (m : ℕ). validate_from 0 m (drop k bs)) (omega arith))
 
-pub stops : (n : ℕ) (s : List ℕ) → 0 < length s → char_length s ≡ 0 → validate_from 0 n s ≡ At n
+pub stops : (n : ℕ) (s : List ℕ) → 0 < length s → char_length s ≡ 0 → validate_from 0 n s ≡ Err (error_at n)
 unfolding validate_from
 stops n [] h e = absurd (omega arith)
 stops n (b ∷ bs) h e = rw (e, validate_from)
@@ -42,14 +40,14 @@ validate_after (more {c} {s} k w) n u =
     ∙ ap (λ (m : ℕ). validate_from 0 m u) (omega (arith, length-append c s))
 
 -- what an answer says of the bytes s from offset n on
-abbrev Reading : Utf8 → ℕ → List ℕ → Type 0
-Reading Valid n s = WellFormed s
-Reading (At m) n s = (k : ℕ) × (m ≡ n + k) × (k < length s) × WellFormed (take k s)
+abbrev Reading : Validity → ℕ → List ℕ → Type 0
+Reading (Ok _) n s = WellFormed s
+Reading (Err e) n s = (k : ℕ) × (e.valid_up_to ≡ n + k) × (k < length s) × WellFormed (take k s)
 
 -- one character more in front
-longer : (r : Utf8) (n : ℕ) (s : List ℕ) (k : ℕ) → char_length s ≡ suc k → Reading r (n + suc k) (drop (suc k) s) → Reading r n s
-longer Valid n s k e w = rw take-append-drop at (more (char_of_length s k e).1 w)
-longer (At m) n s k e w =
+longer : (r : Validity) (n : ℕ) (s : List ℕ) (k : ℕ) → char_length s ≡ suc k → Reading r (n + suc k) (drop (suc k) s) → Reading r n s
+longer (Ok _) n s k e w = rw take-append-drop at (more (char_of_length s k e).1 w)
+longer (Err m) n s k e w =
     let c = char_of_length s k e in
     (suc k + w.0, omega arith, omega (arith, length-drop (suc k) s), rw take-add (more c.1 w.3))
 
@@ -73,14 +71,14 @@ reads zero n (b ∷ bs) h = rw add-zero (at_char n b bs (char_length (b ∷ bs))
 read_from : (n : ℕ) (s : List ℕ) → Reading (validate_from 0 n s) n s
 read_from n s = rw add-zero at (reads 0 n s (omega arith))
 
-pub valid_from : (n : ℕ) (s : List ℕ) → validate_from 0 n s ≡ Valid → WellFormed s
+pub valid_from : (n : ℕ) (s : List ℕ) → validate_from 0 n s ≡ Ok tt → WellFormed s
 valid_from n s e = rw e at (read_from n s)
 
--- `Valid` is said of the well-formed texts, and of no others
-pub accepted : (s : List ℕ) → validate s ≡ Valid → WellFormed s
+-- `Ok` is said of the well-formed texts, and of no others
+pub accepted : (s : List ℕ) → validate s ≡ Ok tt → WellFormed s
 accepted s e = valid_from 0 s e
 
-pub accepts : (s : List ℕ) → WellFormed s → validate s ≡ Valid
+pub accepts : (s : List ℕ) → WellFormed s → validate s ≡ Ok tt
 unfolding validate_from
 accepts s w = ap validate (sym (append-nil s)) ∙ validate_after w 0 []
 
@@ -90,8 +88,8 @@ reached s m h w =
     ap validate (sym (take-append-drop m s)) ∙ validate_after w 0 (drop m s)
     ∙ ap (λ (k : ℕ). validate_from 0 k (drop m s)) (omega (arith, length-take-le m s h))
 
-pub not_both : (r : Utf8) {n : ℕ} → r ≡ Valid → r ≡ At n → ⊥
-not_both r p q = let z : ◌≡◌ {A = ℕ} 0 1 = cc in omega arith
+pub not_both : (r : Validity) {n : ℕ} → r ≡ Ok tt → r ≡ Err (error_at n) → ⊥
+not_both r p q = cc
 
 -- n is where the longest well-formed start of s ends
 pub record Longest (s : List ℕ) (n : ℕ) : Type 0 where
@@ -100,15 +98,15 @@ pub record Longest (s : List ℕ) (n : ℕ) : Type 0 where
   pub most : (m : ℕ) → m ≤ length s → WellFormed (take m s) → m ≤ n
   pub refused : WellFormed s → ⊥
 
-pub longest : (s : List ℕ) (n : ℕ) → validate s ≡ At n → Longest s n
+pub longest : (s : List ℕ) (n : ℕ) → validate s ≡ Err (error_at n) → Longest s n
 longest s n e =
-    let r : Reading (At n) 0 s = rw e at (read_from 0 s) in
+    let r : Reading (Err (error_at n)) 0 s = rw e at (read_from 0 s) in
     let here : r.0 ≡ n = omega arith in
     record {
       within = omega arith;
       well_formed = rw here at r.3;
       most = λ m h w.
-          let t : Reading (At n) m (drop m s) = rw (sym (reached s m h w) ∙ e) at (read_from m (drop m s)) in
+          let t : Reading (Err (error_at n)) m (drop m s) = rw (sym (reached s m h w) ∙ e) at (read_from m (drop m s)) in
           omega arith;
       refused = λ w. not_both (validate s) (accepts s w) e;
     }
@@ -118,5 +116,5 @@ pub append : {a b : List ℕ} → WellFormed a → WellFormed b → WellFormed (
 append empty v = v
 append {b = b} (more {c} {s} k w) v = rw append_assoc (more k (append w v))
 
-pub valid_join : (a b : List ℕ) → validate a ≡ Valid → validate b ≡ Valid → validate (a ++ b) ≡ Valid
+pub valid_join : (a b : List ℕ) → validate a ≡ Ok tt → validate b ≡ Ok tt → validate (a ++ b) ≡ Ok tt
 valid_join a b p q = accepts (a ++ b) (append (accepted a p) (accepted b q))

@@ -1,5 +1,5 @@
 -- Laws of table 3-7: its sequences and the test for them agree, and no two rows share a first byte.
-use Rattle.std.specs.Prelude.{◌≡◌, refl, List, [], ◌∷◌, ◌++◌, Bool, true, false, cond, ◌&&◌, ℕ, suc, ◌≤◌, ◌<◌, leb, length, take}
+use Rattle.std.specs.Prelude.{◌≡◌, refl, List, [], ◌∷◌, ◌++◌, Bool, true, false, cond, ◌&&◌, ℕ, zero, suc, ◌≤◌, ◌<◌, leb, length, take}
 use Rattle.std.proofs.Common.{sym, ap, ◌∙◌, true≢false, arith, le-leb, leb-true}
 use Rattle.std.proofs.Math.Dec.{eqb-zero-suc, eqb-suc-suc}
 use Rattle.std.proofs.lemmas.Bool.{lt-leb}
@@ -26,7 +26,7 @@ module _ (low high b : ℕ) where
   pub in_range_over : high < b → in_range (low ⋯ high) b ≡ false
   in_range_over h = rw (lt-leb b high h) (and_false (leb low b))
 
-  bounds : in_range (low ⋯ high) b ≡ true → (low ≤ b) × (b ≤ high)
+  pub bounds : in_range (low ⋯ high) b ≡ true → (low ≤ b) × (b ≤ high)
   bounds e = let w = both (leb low b) (leb b high) e in (leb-true low b w.0, leb-true b high w.1)
 
 -- a row by its first byte
@@ -113,6 +113,13 @@ in_rows (row ∷ rows) s k e = by_test (row_fits row s) refl e (in_rows rows s k
 -- bytes that have a length start with a character of that length
 pub char_of_length : (s : List ℕ) (k : ℕ) → char_length s ≡ suc k → (suc k ≤ length s) × Character table_3_7 (take (suc k) s)
 char_of_length s k e = in_rows table_3_7 s k e
+
+pub char_within : (s : List ℕ) → char_length s ≤ length s
+char_within s = by_length (char_length s) refl
+  where
+    by_length : (l : ℕ) → char_length s ≡ l → l ≤ length s
+    by_length zero e = omega arith
+    by_length (suc k) e = (char_of_length s k e).0
 
 -- no character is empty
 some_byte : (n : ℕ) {rows : List Row} {c : List ℕ} → RowsRise n rows → Character rows c → 0 < length c

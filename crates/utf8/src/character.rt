@@ -1,100 +1,69 @@
 // Characters one by one, by the rows of table 3-7.
-ghost use Rattle.std.specs.Prelude.{◌≡◌, [], ◌∷◌, ◌+◌, ◌≤◌, ◌<◌, length, drop};
-ghost use Rattle.utf8.specs.Table.{◌⋯◌, row_fits, char_length};
-ghost use Rattle.utf8.specs.Rows.{tail_length};
+ghost use Rattle.std.specs.Prelude.{◌≡◌, ◌↔◌, IsTrue, ◌∷◌, ◌≤◌, ◌<◌, length, SomeIff, MatchResult};
+ghost use Rattle.utf8.specs.Table.{char_length};
 ghost use Rattle.utf8.specs.Passes.{Walk};
 
-// Whether a byte stands at `at` and lies in `low` to `high`.
-fn byte_in(source: &[u8], at: usize, low: u8, high: u8) -> bool
-    ensures { result ≡ row_fits (low ⋯ high ∷ []) (drop at source.now) }
+use crate::Utf8Error;
+
+// Whether a character of three bytes starts with `first`, `tail` behind it: table 3-7's rows of three.
+#[tactic(auto, using(crate::proofs::ByRows::by_rows), unfolding(crate::specs::Table::table_3_7))]
+fn is_three(first: u8, tail: &[u8]) -> bool
+    ensures { IsTrue result ↔ (char_length (first ∷ tail.now) ≡ 3) }
 {
-    if source.len() <= at {
-        return false;
-    }
-    let b = source[at];
-    if b < low {
-        return false;
-    }
-    b <= high
+    matches!(
+        (first, tail),
+        (0xE0, [0xA0..=0xBF, 0x80..=0xBF, ..])
+            | (0xE1..=0xEC, [0x80..=0xBF, 0x80..=0xBF, ..])
+            | (0xED, [0x80..=0x9F, 0x80..=0xBF, ..])
+            | (0xEE..=0xEF, [0x80..=0xBF, 0x80..=0xBF, ..])
+    )
 }
 
-// The length of a character of two, three, four bytes whose second stands at `at`, 0 where there is none.
-fn two(source: &[u8], at: usize) -> usize
-    requires { at ≤ length source.now }
-    ensures { result ≡ tail_length (0x80 ⋯ 0xBF ∷ []) (drop at source.now) }
+// Whether one of four bytes does.
+#[tactic(auto, using(crate::proofs::ByRows::by_rows), unfolding(crate::specs::Table::table_3_7))]
+fn is_four(first: u8, tail: &[u8]) -> bool
+    ensures { IsTrue result ↔ (char_length (first ∷ tail.now) ≡ 4) }
 {
-    if byte_in(source, at, 0x80, 0xBF) {
-        2
-    } else {
-        0
-    }
+    matches!(
+        (first, tail),
+        (0xF0, [0x90..=0xBF, 0x80..=0xBF, 0x80..=0xBF, ..])
+            | (0xF1..=0xF3, [0x80..=0xBF, 0x80..=0xBF, 0x80..=0xBF, ..])
+            | (0xF4, [0x80..=0x8F, 0x80..=0xBF, 0x80..=0xBF, ..])
+    )
 }
 
-fn three(source: &[u8], at: usize, low: u8, high: u8) -> usize
-    requires { at ≤ length source.now }
-    ensures { result ≡ tail_length (low ⋯ high ∷ 0x80 ⋯ 0xBF ∷ []) (drop at source.now) }
+// The length of the character that starts with `first`, `tail` behind it: table 3-7, its long rows apart.
+// One match of all nine jumps by the first byte before it looks for ASCII: half as many instructions again on mixed text.
+#[tactic(auto, using(crate::proofs::ByRows::by_rows), unfolding(crate::specs::Table::table_3_7))]
+fn char_length(first: u8, tail: &[u8]) -> Option<usize>
+    ensures { SomeIff result (0 < char_length (first ∷ tail.now)) (char_length (first ∷ tail.now)) }
 {
-    if !byte_in(source, at, low, high) {
-        return 0;
-    }
-    if !byte_in(source, at + 1, 0x80, 0xBF) {
-        return 0;
-    }
-    3
-}
-
-fn four(source: &[u8], at: usize, low: u8, high: u8) -> usize
-    requires { at ≤ length source.now }
-    ensures { result ≡ tail_length (low ⋯ high ∷ 0x80 ⋯ 0xBF ∷ 0x80 ⋯ 0xBF ∷ []) (drop at source.now) }
-{
-    if !byte_in(source, at, low, high) {
-        return 0;
-    }
-    let third = at + 1;
-    if !byte_in(source, third, 0x80, 0xBF) {
-        return 0;
-    }
-    if !byte_in(source, third + 1, 0x80, 0xBF) {
-        return 0;
-    }
-    4
-}
-
-// The length of the character at `at`, 0 where there is none.
-fn char_length(source: &[u8], at: usize) -> usize
-    requires { at < length source.now }
-    ensures { result ≡ char_length (drop at source.now) }
-{
-    let b = source[at];
-    if b < 0x80 {
-        return 1;
-    }
-    let next = at + 1;
-    match b {
-        0xC2..=0xDF => two(source, next),
-        0xE0 => three(source, next, 0xA0, 0xBF),
-        0xE1..=0xEC => three(source, next, 0x80, 0xBF),
-        0xED => three(source, next, 0x80, 0x9F),
-        0xEE..=0xEF => three(source, next, 0x80, 0xBF),
-        0xF0 => four(source, next, 0x90, 0xBF),
-        0xF1..=0xF3 => four(source, next, 0x80, 0xBF),
-        0xF4 => four(source, next, 0x80, 0x8F),
-        _ => 0,
+    match (first, tail) {
+        (0x00..=0x7F, _) => Some(1),
+        (0xC2..=0xDF, [0x80..=0xBF, ..]) => Some(2),
+        (0xE0..=0xEF, _) if is_three(first, tail) => Some(3),
+        (0xF0..=0xF4, _) if is_four(first, tail) => Some(4),
+        _ => None,
     }
 }
 
-// Past the characters from `from` up to `to`; before `to` only where no character stands.
-pub fn walk(source: &[u8], from: usize, to: usize) -> usize
-    requires { (from ≤ to) × (to ≤ length source.now) }
-    ensures { Walk source.now from to result }
+// Past the characters from `from` up to `to`, or an error where no character stands before `to`.
+#[tactic(auto, using(crate::specs::TableLaws::char_within))]
+pub fn walk(source: &[u8], from: usize, to: usize) -> Result<usize, Utf8Error>
+    requires from_to { from ≤ to }
+    requires within { to ≤ length source.now }
+    ensures end { MatchResult result (λ at. to ≤ at) (λ e. e.valid_up_to < to) }
+    ensures walk { MatchResult result (λ at. Walk source.now from to at)
+        (λ e. Walk source.now from to e.valid_up_to) }
 {
     let mut at = from;
+    // A while: the step is the character's length.
     while at < to {
-        let n = char_length(source, at);
-        if n == 0 {
-            return at;
-        }
+        let first = source[at];
+        let Some(n) = char_length(first, &source[at + 1..]) else {
+            return Err(Utf8Error { valid_up_to: at });
+        };
         at += n;
     }
-    at
+    Ok(at)
 }

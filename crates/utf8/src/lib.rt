@@ -1,7 +1,7 @@
 // UTF-8: whether bytes are well formed, and else where their longest well-formed start ends.
 #![tactic(auto)]
 
-ghost use Rattle.std.specs.Prelude.{◌≡◌, ◌+◌, ◌≤◌, min, length};
+ghost use Rattle.std.specs.Prelude.{◌≡◌};
 ghost use Rattle.utf8.specs.Width.{width};
 ghost use Rattle.utf8.specs.Validate.{validate};
 
@@ -11,51 +11,35 @@ mod last;
 
 pub use last::last_char;
 
-#[derive(Clone, Copy)]
-pub enum Utf8 {
-    Valid,
-    At(usize),
+// What is not UTF-8: its longest well-formed start ends at `valid_up_to`.
+#[derive(Clone, Copy, PartialEq, Eq, Debug)]
+pub struct Utf8Error {
+    pub valid_up_to: usize,
 }
 
 // A character's length in bytes, by its first byte.
+#[tactic(auto, unfolding(crate::specs::Width::width))]
 pub fn width(b: u8) -> usize
     ensures { result ≡ width b }
 {
-    if b < 0xC0 {
-        return 1;
+    match b {
+        0x00..=0xBF => 1,
+        0xC0..=0xDF => 2,
+        0xE0..=0xEF => 3,
+        0xF0..=0xFF => 4,
     }
-    if b < 0xE0 {
-        return 2;
-    }
-    if b < 0xF0 {
-        return 3;
-    }
-    4
-}
-
-// Where the walk after the ASCII blocks ends: 32 bytes on, or at the end.
-fn bound(source: &[u8], from: usize) -> usize
-    requires { from ≤ length source.now }
-    ensures { result ≡ min (from + 32) (length source.now) }
-{
-    if source.len() - from <= 32 {
-        return source.len();
-    }
-    from + 32
 }
 
 // Blocks of ASCII are passed whole, then some characters one by one, so that mixed text is not tried as a block at each character.
-pub fn validate(source: &[u8]) -> Utf8
+pub fn validate(source: &[u8]) -> Result<(), Utf8Error>
     ensures { result ≡ validate source.now }
 {
     let mut at = 0;
+    // A while: a step ends where its walk does.
     while at < source.len() {
         let from = ascii::ascii_end(source, at);
-        let to = bound(source, from);
-        at = character::walk(source, from, to);
-        if at < to {
-            return Utf8::At(at);
-        }
+        let to = source.len().min(from + 32);
+        at = character::walk(source, from, to)?;
     }
-    Utf8::Valid
+    Ok(())
 }

@@ -3,8 +3,9 @@ use Prim.Native.Nat.{ℕ, ◌≤◌, ◌<◌}
 use mathlib.Core.Path.{◌≡◌, refl, sym, ap, ◌∙◌}
 use mathlib.Core.List.{List, [], ◌∷◌}
 use native.Mathlib.Omega.{arith}
+use Rattle.std.proofs.Common.{rules}
 use borrow.Author.Tests.{lt-ltb, le-ltb}
-use lib.ListN.{length, set, drop, length-set}
+use lib.ListN.{length, set, drop}
 use Rattle.answer.specs.declared.Answer.{Answer}
 use Rattle.answer.specs.declared.FourNumbers.{FourNumbers}
 use Rattle.answer.specs.Numbers.{numbers}
@@ -37,12 +38,8 @@ module _ (source : List ℕ) (s : Slices) (counts : List ℕ) where
       }
 
 pub returns-then-counts-lt3 : goal.returns-then-counts-lt3
-returns-then-counts-lt3 c = too_short _ _ _ (omega (arith, c.if-counts-lt3.true))
-
-pub bounds-counts-1 : goal.bounds-counts-1
-bounds-counts-1 c =
-    simp length-set (omega (arith, c.if-counts-lt3.false))
+returns-then-counts-lt3 c = too_short _ _ _ (omega arith)
 
 pub returns : goal.returns
 returns c =
-    replies _ _ _ _ _ _ (omega (arith, c.if-counts-lt3.false)) c.parse_text-answer.ensures c.numbers-n.ensures
+    replies _ _ _ _ _ _ (omega arith) (rw (sym c.parse_text-answer.ensures.answer) (search rules)) c.from-n.ensures

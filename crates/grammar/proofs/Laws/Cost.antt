@@ -16,7 +16,7 @@ use Rattle.grammar.specs.Message.{Message, number, ExpectedConstantName, Expecte
 use Rattle.grammar.specs.Bump.{bump_while, expect_kind, expect_name}
 use Rattle.grammar.specs.Line.{parse_expr_until_line_end, parse_line_tail}
 use Rattle.grammar.specs.Block.{Terminators, BlockParseOutcome}
-use Rattle.grammar.specs.Laws.Here.{while_rest, bind_nothing, expect_here, while_no, at_not, none}
+use Rattle.grammar.specs.Laws.Here.{both_branches, while_rest, bind_nothing, expect_here, while_no, at_not, none}
 use Rattle.grammar.specs.Item.{parse_visibility, optional_visibility}
 use Rattle.grammar.proofs.Laws.LiveItem.{opens}
 use Rattle.grammar.specs.Laws.Stops.{Stops}
@@ -132,27 +132,15 @@ module _ {p : Price} where
   -- In the first branch the test is known; in the second too.
   pub cost_case : {q : List Sym → Bool} {c e : ℕ} {A : Type 0} (t : List Sym → Bool) {f g : P A} → Cost p t c e f → Cost p q c e g → Cost p q c e (when t then f else g)
   unfolding ◌>>=◌ peek
-  cost_case {q} {c} {e} t {f} {g} F G = record { cost = λ r k. d (t r) r refl k }
-    where
-      d : (u : Bool) (r : List Sym) → t r ≡ u → q r ≡ true → weigh p (pick u f g r).out + p.pay * length (pick u f g r).rest + e ≤ p.pay * length r + c
-      d true r i k = F.cost r i
-      d false r i k = G.cost r k
+  cost_case {c} {e} t F G = record { cost = λ r k. both_branches (λ x. weigh p x.out + p.pay * length x.rest + e ≤ p.pay * length r + c) (t r) _ _ (F.cost r) (λ i. G.cost r k) }
 
   pub cost_cases : {q : List Sym → Bool} {c e : ℕ} {A : Type 0} (t : List Sym → Bool) {f g : P A} → Cost p t c e f → Cost p (λ r. q r && not (t r)) c e g → Cost p q c e (when t then f else g)
   unfolding ◌>>=◌ peek
-  cost_cases {q} {c} {e} t {f} {g} F G = record { cost = λ r k. d (t r) r refl k }
-    where
-      d : (u : Bool) (r : List Sym) → t r ≡ u → q r ≡ true → weigh p (pick u f g r).out + p.pay * length (pick u f g r).rest + e ≤ p.pay * length r + c
-      d true r i k = F.cost r i
-      d false r i k = G.cost r (rw (k, i))
+  cost_cases {c} {e} t F G = record { cost = λ r k. both_branches (λ x. weigh p x.out + p.pay * length x.rest + e ≤ p.pay * length r + c) (t r) _ _ (F.cost r) (λ i. G.cost r (rw (k, i))) }
 
   pub cost_yes : (t : List Sym → Bool) {c e : ℕ} {A : Type 0} {f : P A} (g : P A) → Cost p t c e f → Cost p t c e (when t then f else g)
   unfolding ◌>>=◌ peek
-  cost_yes t {c} {e} {A} {f} g F = record { cost = λ r k. d (t r) r k (F.cost r k) }
-    where
-      d : (u : Bool) (r : List Sym) → u ≡ true → weigh p (f r).out + p.pay * length (f r).rest + e ≤ p.pay * length r + c → weigh p (pick u f g r).out + p.pay * length (pick u f g r).rest + e ≤ p.pay * length r + c
-      d true r k h = h
-      d false r k h = absurd (false≢true k)
+  cost_yes t g F = record { cost = λ r k. rw k (F.cost r k) }
 
   pub cost_node : {q : List Sym → Bool} {c e : ℕ} (j : Kind) {A : Type 0} {f : P A} → Cost p q c e f → Cost p q (p.of_node + c) e (in_node j f)
   unfolding in_node
@@ -212,11 +200,7 @@ pub record Rounds (p : Price) (c : ℕ) (f : P Bool) : Type 0 where
   pub rounds : (r : List Sym) → weigh p (f r).out + p.pay * length (f r).rest + cond (f r).val c 0 ≤ p.pay * length r + c
 
 pub rounds_zero : {p : Price} {f : P Bool} → Cost p anywhere 0 0 f → Rounds p 0 f
-rounds_zero {p} {f} F = record { rounds = λ r. d (f r).val r (F.cost r refl) }
-  where
-    d : (u : Bool) (r : List Sym) → weigh p (f r).out + p.pay * length (f r).rest + 0 ≤ p.pay * length r + 0 → weigh p (f r).out + p.pay * length (f r).rest + cond u 0 0 ≤ p.pay * length r + 0
-    d true r h = h
-    d false r h = h
+rounds_zero {p} {f} F = record { rounds = λ r. grind (arith, F.cost r refl) }
 
 module _ {p : Price} {c : ℕ} where
   pub rounds_then : {A : Type 0} {f : P A} {g : A → P Bool} → Cost p anywhere 0 0 f → ((a : A) → Rounds p c (g a)) → Rounds p c (f >>= g)
@@ -225,11 +209,7 @@ module _ {p : Price} {c : ℕ} where
 
   pub rounds_if : (t : List Sym → Bool) {f g : P Bool} → Rounds p c f → Rounds p c g → Rounds p c (when t then f else g)
   unfolding ◌>>=◌ peek
-  rounds_if t {f} {g} F G = record { rounds = λ r. d (t r) r }
-    where
-      d : (u : Bool) (r : List Sym) → weigh p (pick u f g r).out + p.pay * length (pick u f g r).rest + cond (pick u f g r).val c 0 ≤ p.pay * length r + c
-      d true r = F.rounds r
-      d false r = G.rounds r
+  rounds_if t F G = record { rounds = λ r. both_branches (λ x. weigh p x.out + p.pay * length x.rest + cond x.val c 0 ≤ p.pay * length r + c) (t r) _ _ (λ i. F.rounds r) (λ i. G.rounds r) }
 
   pub rounds_true : {A : Type 0} {f : P A} → Cost p anywhere 0 0 f → Rounds p c (f >> pure true)
   unfolding ◌>>=◌ pure

@@ -1,7 +1,7 @@
 -- Diagnostics of a constant behind `pub`. It may lack one: `pub ( X ) const` with a doc comment for X reports five times for two tokens.
 -- Then it ends at that doc comment, which pays for it.
 -- Assumes nothing.
-use Rattle.std.specs.Prelude.{ℕ, suc, ◌+◌, ◌*◌, ◌≤◌, ◌≡◌, refl, Bool, true, false, cond, not, ◌&&◌, ◌||◌, List, [], ◌∷◌, length}
+use Rattle.std.specs.Prelude.{ℕ, suc, ◌+◌, ◌*◌, ◌≤◌, ◌≡◌, refl, Bool, true, false, cond, not, ◌&&◌, ◌||◌, List, [], ◌∷◌, length, Result, Ok, Err}
 use Rattle.std.proofs.lemmas.Bool.{false≢true}
 use Rattle.std.proofs.Common.{lit≤, arith}
 use Rattle.lexer.specs.Syntax
@@ -10,11 +10,12 @@ use Rattle.grammar.specs.Words.{Sym, is, CONST, PUB}
 use Rattle.grammar.specs.Look.{current, one_of, name_like, regular_trivia, is_trivia, at, skip, at_prefixed_keyword}
 use Rattle.grammar.specs.Run.{Expr, nil, node, Res, P, pure, peek, in_node, pick, ◌>>=◌, ◌>>◌, take_token, err, Round, stop, go, warn, turn, scan}
 use Rattle.grammar.specs.Message.{Message, number, ExpectedConst}
-use Rattle.grammar.specs.Nesting.{Nesting, Bumped, default, is_root, bump_by, counted, bump_nesting}
+use Rattle.grammar.specs.Nesting.{Nesting, Closer, default, is_root, bump_by, counted, bump_nesting}
 use Rattle.grammar.specs.Bump.{bump_while, expect_kind, expect_name}
 use Rattle.grammar.specs.Line.{no_token, expr_round, parse_expr_until_line_end, tail_round, parse_line_tail}
 use Rattle.grammar.specs.Item.{parse_visibility, optional_visibility, parse_constant, at_declaration}
-use Rattle.grammar.specs.Laws.Here.{and_l, not_true, is_not, is_same, while_rest, bind_assoc}
+use Rattle.std.proofs.lemmas.Bool.{and_parts, not-true, eqb-true}
+use Rattle.grammar.specs.Laws.Here.{is_not, while_rest, bind_assoc}
 use Rattle.grammar.specs.Laws.Live.{anywhere, some, at_some, takes}
 use Rattle.grammar.proofs.Laws.Cost.{constant_value, constant_equal, constant_name, weigh, weigh_app, scan_cost, cost_weak, cost_any, cost_le, cost_bind, cost_node, cost_while, expect_true}
 use Rattle.grammar.proofs.Laws.DiagCost.{errors, diags_price, Cost2, no_error, expects, cost_tail}
@@ -60,7 +61,7 @@ solid s = not (regular_trivia s)
 solid_no : (r : List Sym) → at solid r ≡ true → at regular_trivia r ≡ false
 unfolding at
 solid_no [] e = refl
-solid_no (s ∷ r) e = not_true (regular_trivia s) e
+solid_no (s ∷ r) e = not-true (regular_trivia s) e
 
 solid_left : (r : List Sym) → at solid r ≡ true → left r ≡ true
 solid_left r e = rw (skip_at regular_trivia r (solid_no r e)) (at_some solid r e)
@@ -94,10 +95,10 @@ price_of stop = 0
 price_of (go l) = 0
 price_of (warn m l) = 1
 
-price_counted : {L : Type 0} (n : Nesting) (f : Nesting → L) (x : Bumped) → price_of (counted n f x) ≤ 1
+price_counted : {L : Type 0} (n : Nesting) (f : Nesting → L) (x : Result Nesting Closer) → price_of (counted n f x) ≤ 1
 unfolding counted
-price_counted n f (Bumped.Counts m) = lit≤ tt
-price_counted n f (Bumped.Refused c) = lit≤ tt
+price_counted n f (Ok m) = lit≤ tt
+price_counted n f (Err c) = lit≤ tt
 
 -- A closer that is refused is no Error.
 price_nesting : {L : Type 0} (s : Sym) (f : Nesting → L) → price_of (bump_nesting default s f) + errors s ≤ 1
@@ -105,7 +106,7 @@ unfolding bump_nesting bump_by counted
 price_nesting s f = c (is Syntax.Error s) refl
   where
     c : (u : Bool) → is Syntax.Error s ≡ u → price_of (bump_nesting default s f) + cond u 1 0 ≤ 1
-    c true e = rw (is_same Syntax.Error s e) (lit≤ tt)
+    c true e = rw (← eqb-true Syntax.Error s e) (lit≤ tt)
     c false e = omega (arith, price_counted default f (bump_by default s))
 
 module _ {L : Type 0} (step : L → List Sym → Round L) (l : L) (s : Sym) (r : List Sym) where
@@ -158,7 +159,7 @@ owes_from_value = record { owes = f }
     f (s ∷ r) h = c (is DocComment s) refl
       where
         c : (u : Bool) → is DocComment s ≡ u → weigh diags_price (from_value (s ∷ r)).out + 2 * length (from_value (s ∷ r)).rest + 1 ≤ 2 * length (s ∷ r) + 0 + credit (from_value (s ∷ r)).rest
-        c true e = rw (is_same DocComment s e, doc_value r) (omega arith)
+        c true e = rw (← eqb-true DocComment s e, doc_value r) (omega arith)
         c false e = (owes_cost plain_value).owes (s ∷ r) (rw (h, e))
 
 -- ---- The whole constant.
@@ -180,7 +181,7 @@ owes_const = owes_expect CONST _ refl (λ a. owes_cost cost_constant_name) (λ a
 
 prefixed_pub : (ks r : List Sym) → at_prefixed_keyword ks r ≡ true → at (is PUB) r ≡ true
 unfolding at_prefixed_keyword
-prefixed_pub ks r e = and_l (at (is PUB) r) _ e
+prefixed_pub ks r e = (and_parts (at (is PUB) r) _ e).0
 
 owes_visible : Owes (at_prefixed_keyword (CONST ∷ [])) 0 0 (parse_visibility >> expect_kind CONST (Message.Item ExpectedConst) >> constant_name)
 owes_visible = owes_le (owes_bind left {c = 0} {e = 2} (cost_weak cost_visibility (prefixed_pub (CONST ∷ [])) (lit≤ tt)) (visible (CONST ∷ [])) (λ a. owes_const)) (lit≤ tt)

@@ -27,11 +27,7 @@ abbrev pub errors : Sym → ℕ
 errors s = cond (is Syntax.Error s) 1 0
 
 pub fits_two : (s : Sym) → 1 + errors s ≤ 2
-fits_two s = c (is Syntax.Error s)
-  where
-    c : (u : Bool) → 1 + cond u 1 0 ≤ 2
-    c true = lit≤ tt
-    c false = lit≤ tt
+fits_two s = grind arith
 
 abbrev pub diags_price : Price
 diags_price = record { of_leaf = errors; of_node = 0; of_say = 1; pay = 2; fits = fits_two }

@@ -21,7 +21,7 @@ use Rattle.grammar.proofs.Laws.StableBlock.{good_closing, equal, good_in}
 use Rattle.grammar.proofs.Laws.StableItem.{good_visibility, good_attributes, good_signature, good_namespace, good_submodule, test_declaration, test_procedure, good_constant, good_type, good_advice_map}
 use Rattle.grammar.specs.Laws.Numbers.{no_message}
 use Rattle.grammar.specs.Laws.Shut.{empty, ends_end, ends_leaf, top_block, shuts, shuts_leaf, empty_app, ends_app, leaf_app, ends_tail, shuts_tail}
-use Rattle.grammar.specs.Laws.Here.{is_same}
+use Rattle.std.proofs.lemmas.Bool.{eqb-true}
 
 -- The last newline only is left.
 abbrev LeftNl : {A : Type 0} → Res A → Type 0
@@ -85,7 +85,7 @@ module _ {b : List Sym} where
           goes_bind b f f' g g' r (F.goes r (more t) p.0) (E.goes (f r).rest e q p.1)
 
 nil_nl : {s : Sym} {l : List Sym} → ◌≡◌ {A = List Sym} [] (s ∷ l) → ⊥
-nil_nl {s} {l} e = let z : ◌≡◌ {A = ℕ} 0 1 = cc in omega arith
+nil_nl e = grind (arith, e)
 
 -- What expect does behind the trivia.
 abbrev key : Sym → Message → P Bool
@@ -101,7 +101,7 @@ expect_left k m r e = c (bump_regular_trivia r).rest (trivia_stop r) e
     c (s ∷ l) h e = d (is k s) refl e
       where
         d : (u : Bool) → is k s ≡ u → LeftNl (pick u (take_token >> pure true) (err (number m) >> pure false) (s ∷ l)) → ◌≡◌ {A = List Sym} (s ∷ l) (k ∷ Newline ∷ [])
-        d true q e = ap₂ ◌∷◌ (is_same k s q) e
+        d true q e = ap₂ ◌∷◌ (sym (eqb-true k s q)) e
         d false q e = absurd (false≢true (sym h ∙ ap (at regular_trivia) e))
 
 -- expect_keyword("end", ..) then ends in that `end`, and does the same in a file that goes on.

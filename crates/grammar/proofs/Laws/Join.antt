@@ -9,7 +9,8 @@ use mathlib.Core.List.{List, [], ◌∷◌, ◌++◌, append-nil}
 use Rattle.lexer.specs.Syntax.{Newline, RParen}
 use Rattle.grammar.specs.Words.{Sym, is}
 use Rattle.grammar.specs.Look.{one_of, at, skip, eof, next_relevant_top_level_token}
-use Rattle.grammar.specs.Run.{Kind, Forest, nil, leaf, node, ◌<>◌, leaves, Res, P, pure, peek, in_node, pick, ◌>>=◌, when◌then◌else◌, take_token, m_never}
+use Rattle.grammar.specs.Run.{Kind, Forest, nil, leaf, node, ◌<>◌, leaves, Res, P, pure, peek, in_node, ◌>>=◌, when◌then◌else◌, take_token, m_never}
+use Rattle.grammar.specs.Laws.Here.{both_branches}
 use Rattle.grammar.specs.Bump.{error_token}
 use Rattle.grammar.specs.Block.{Blocks, parse_block}
 use Rattle.grammar.specs.Item.{parse_procedure, parse_begin_block, parse_namespace, parse_submodule, parse_constant, parse_type_decl, parse_advice_map, parse_source_item, items, items_in, parse}
@@ -41,11 +42,7 @@ record One {A : Type 0} (f : P A) : Type 0 where
 
 one_if : {A : Type 0} (t : List Sym → Bool) {f g : P A} → One f → One g → One (when t then f else g)
 unfolding ◌>>=◌ peek
-one_if t {f} {g} F G = record { one = λ r. c (t r) r }
-  where
-    c : (u : Bool) (r : List Sym) → Single (pick u f g r).out
-    c true r = F.one r
-    c false r = G.one r
+one_if t F G = record { one = λ r. both_branches (λ x. Single x.out) (t r) _ _ (λ i. F.one r) (λ i. G.one r) }
 
 one_node : (j : Kind) {A : Type 0} (f : P A) → One (in_node j f)
 unfolding in_node

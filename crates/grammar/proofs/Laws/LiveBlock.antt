@@ -1,8 +1,7 @@
 -- Blocks and control forms are Live, and take their first token.
 -- Assumes nothing.
-use Rattle.std.specs.Prelude.{ℕ, zero, suc, ◌≤◌, ◌<◌, ◌≡◌, Bool, true, false, not, ◌&&◌, ◌||◌, leb}
+use Rattle.std.specs.Prelude.{ℕ, zero, suc, ◌≤◌, ◌<◌, ◌≡◌, Bool, true, false, not, ◌&&◌, leb}
 use Rattle.std.proofs.Math.Path.{refl}
-use Rattle.std.proofs.lemmas.Bool.{false≢true}
 use mathlib.Core.List.{List, [], ◌∷◌}
 use Rattle.std.proofs.Math.ListN.{length}
 use Rattle.std.proofs.Common.{arith}
@@ -14,7 +13,7 @@ use Rattle.grammar.specs.Message.{Message}
 use Rattle.grammar.specs.Block.{BlockOwner, Terminators, BlockRecoveryBoundary, BlockParseOutcome, Blocks, all_round, reject_excessive_control_flow_nesting, closing, ended, parse_if, parse_while, do_condition, parse_do_while, parse_repeat, parse_control_flow, recover, block_round, block_loop, block_in, parse_block}
 use Rattle.grammar.specs.Laws.Good.{Calm}
 use Rattle.grammar.specs.Laws.Numbers.{no_message, quiet_block}
-use Rattle.grammar.specs.Laws.Here.{and_l}
+use Rattle.std.proofs.lemmas.Bool.{and_parts}
 use Rattle.grammar.specs.Laws.Stops.{Stops, stops_node, stops_loop}
 use Rattle.grammar.specs.Laws.Live.{Live, Eats, anywhere, calm_join, live_pure, live_take, live_pick, live_node, live_weak, live_all, live_bind, live_if, live_case, live_cases, live_eof, live_eat, eats_weak, at_some, eats_cases, live_scan}
 use Rattle.grammar.specs.Laws.LiveLine.{live_tail, live_expect, live_error_token, live_instruction, eats_at, live_suffixes, eats_error_token, eats_instruction, live_expect_at, live_eats_key, live·rules}
@@ -58,20 +57,13 @@ module _ {n : ℕ} where
 
 pub bare_while : (r : List Sym) → at_terminator Terminators.While r ≡ true → at (is WHILE) r ≡ true
 unfolding at_terminator at_bare_while
-bare_while r e = and_l (at (is WHILE) r) _ e
+bare_while r e = (and_parts (at (is WHILE) r) _ e).0
 
 -- The last of the four forms.
 pub repeat_left : (r : List Sym) → (((at control_flow r && not (at (is IF) r)) && not (at (is DO) r)) && not (at (is WHILE) r)) ≡ true → at (is REPEAT) r ≡ true
 unfolding at one_of
 repeat_left [] e = e
-repeat_left (s ∷ r) e = c (is IF s) (is DO s) (is WHILE s) (is REPEAT s) e
-  where
-    c : (i d w p : Bool) → ((((i || (d || (w || (p || false)))) && not i) && not d) && not w) ≡ true → p ≡ true
-    c true d w p e = absurd (false≢true e)
-    c false true w p e = absurd (false≢true e)
-    c false false true p e = absurd (false≢true e)
-    c false false false true e = refl
-    c false false false false e = e
+repeat_left (s ∷ r) e = grind (arith, e)
 
 module _ {n : ℕ} {blk : Blocks} (h : (w : BlockOwner) (t : Terminators) (d : ℕ) → Live anywhere n (blk w t d)) (s : (w : BlockOwner) (t : Terminators) (d : ℕ) → Stops t (blk w t d)) where
   live_if_form : (d : ℕ) → Live (at (is IF)) (suc n) (parse_if blk d) × Eats (at (is IF)) (parse_if blk d)

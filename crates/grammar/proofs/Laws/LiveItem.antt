@@ -1,6 +1,6 @@
 -- Every item is Live and takes at least one token; the item loop leaves nothing.
 -- Assumes nothing.
-use Rattle.std.specs.Prelude.{ℕ, zero, suc, ◌<◌, ◌≡◌, Bool, not, ◌&&◌, ◌||◌}
+use Rattle.std.specs.Prelude.{ℕ, zero, suc, ◌<◌, ◌≡◌, Bool, not, ◌||◌}
 use Rattle.std.proofs.Math.Path.{refl}
 use Rattle.std.proofs.Math.Bool.{true, false}
 use Rattle.std.proofs.lemmas.Bool.{false≢true}
@@ -124,13 +124,7 @@ opens ks s = is PUB s || one_of ks s
 pub declaration_key : (ks : List Sym) (r : List Sym) → at_declaration ks r ≡ true → at (opens ks) r ≡ true
 unfolding at at_declaration at_prefixed_keyword
 declaration_key ks [] e = e
-declaration_key ks (s ∷ r) e = c (one_of ks s) (is PUB s) _ e
-  where
-    c : (u v w : Bool) → (u || (v && w)) ≡ true → (v || u) ≡ true
-    c true true w e = refl
-    c true false w e = refl
-    c false true w e = refl
-    c false false w e = e
+declaration_key ks (s ∷ r) e = grind (arith, e)
 
 pub eats_visibility : Eats (at (is PUB)) parse_visibility
 unfolding parse_visibility one_of
@@ -160,11 +154,7 @@ eats_constant = eats_node _ (eats_declared {n = 0} (CONST ∷ []) (λ a. search 
 
 eats_yes : (t : List Sym → Bool) {A : Type 0} {f : P A} (g : P A) → Eats t f → Eats t (when t then f else g)
 unfolding ◌>>=◌ peek
-eats_yes t {A} {f} g F = record { eats = λ r e. c (t r) r e (F.eats r e) }
-  where
-    c : (u : Bool) (r : List Sym) → u ≡ true → length (f r).rest < length r → length (pick u f g r).rest < length r
-    c true r e h = h
-    c false r e h = absurd (false≢true e)
+eats_yes t g F = record { eats = λ r e. rw e (F.eats r e) }
 
 eats_type : Eats (at (opens (TYPE ∷ ENUM ∷ []))) parse_type_decl
 unfolding parse_type_decl none one_of

@@ -1,9 +1,10 @@
 -- Demand 3's premise, read off A's tokens and events alone.
 -- Assumes nothing.
-use Rattle.std.specs.Prelude.{ℕ, zero, suc, ◌≤◌, ◌<◌, ◌≡◌, refl, Bool, true, false, cond, ◌&&◌, ◌||◌, List, [], ◌∷◌, ◌++◌, map, eqb, ltb, T, length}
-use Rattle.std.proofs.Common.{sym, ◌∙◌, ap, subst, append_assoc, append-nil, eqb→eq, arith, ltb-false}
+use Rattle.std.specs.Prelude.{ℕ, zero, suc, ◌<◌, ◌≡◌, refl, Bool, true, false, ◌&&◌, ◌||◌, List, [], ◌∷◌, ◌++◌, map, eqb, ltb, length}
+use Rattle.std.proofs.Common.{sym, ◌∙◌, ap, append_assoc, append-nil, arith}
 use Rattle.std.proofs.Math.Bool.{or-true}
 use Rattle.std.proofs.lemmas.Bool.{false≢true}
+use Rattle.std.proofs.lemmas.Bool.Decides.{nat_tests}
 use Rattle.std.proofs.lemmas.List.{map-append, length-map}
 use Rattle.lexer.specs.Syntax.{Newline}
 use Rattle.lexer.specs.Laws.{last}
@@ -14,7 +15,7 @@ use Rattle.grammar.specs.Block.{parse_block}
 use Rattle.grammar.specs.Item.{parse_source_item, items, items_in, parse}
 use Rattle.grammar.specs.Out.{kind, ev, events}
 use Rattle.grammar.specs.Joins.{leaf_events, zero_next, in_top, shut_by}
-use Rattle.grammar.specs.Laws.Here.{and_l, and_r}
+use Rattle.std.proofs.lemmas.Bool.{and_parts, eqb-true}
 use Rattle.grammar.proofs.Laws.StableBlock.{equal}
 use Rattle.grammar.proofs.Laws.StableItem.{good_item}
 use Rattle.grammar.specs.Laws.Numbers.{no_message}
@@ -26,27 +27,12 @@ use Rattle.grammar.specs.Laws.Shut.{empty, ends_end, ends_leaf, top_block, shuts
 use Rattle.grammar.proofs.Laws.Ends.{closes_item}
 use Rattle.grammar.proofs.Laws.Join.{Single, none, token, branch, item_single, items_leaves, one_nl}
 
-big : (n : ℕ) → 27 ≤ n → eqb 0 n ≡ false
-big n h = c (eqb 0 n) refl
-  where
-    c : (u : Bool) → eqb 0 n ≡ u → u ≡ false
-    c true e = let q = eqb→eq 0 n (subst T (sym e) tt) in absurd (omega (arith, q))
-    c false e = refl
-
 -- the event of a kind
 event_pos : (n : ℕ) → eqb 0 (event_of n) ≡ false
-event_pos n = c (ltb n 27) refl
-  where
-    c : (u : Bool) → ltb n 27 ≡ u → eqb 0 (event_of n) ≡ false
-    c true e = ap (λ (u : Bool). eqb 0 (cond u 60 n)) e
-    c false e = ap (λ (u : Bool). eqb 0 (cond u 60 n)) e ∙ big n (ltb-false n 27 e)
+event_pos n = grind (arith, nat_tests)
 
 event_high : (n : ℕ) → ltb (event_of n) 27 ≡ false
-event_high n = c (ltb n 27) refl
-  where
-    c : (u : Bool) → ltb n 27 ≡ u → ltb (event_of n) 27 ≡ false
-    c true e = ap (λ (u : Bool). ltb (cond u 60 n) 27) e
-    c false e = ap (λ (u : Bool). ltb (cond u 60 n) 27) e ∙ e
+event_high n = grind (arith, nat_tests)
 
 pub kind_pos : (s : Sym) → eqb 0 (kind s) ≡ false
 kind_pos s = event_pos (kind_of s)
@@ -115,9 +101,7 @@ step_node k st es = let n = num_node k in c (num k) n.0 n.1
     c m h k = rw (h, k)
 
 not_in : (u w v : Bool) → ((u && (w && false)) || v) ≡ v
-not_in true true v = refl
-not_in true false v = refl
-not_in false w v = refl
+not_in u w v = grind arith
 
 -- Where no procedure or begin block under the root is innermost, a token is passed.
 pass_leaf : (s : Sym) (st es : List ℕ) → in_top st ≡ false → shut_by st (kind s ∷ es) ≡ shut_by st es
@@ -158,17 +142,17 @@ child k r (leaf s c) es h =
     go (here (num k ∷ r ∷ []) (ev c ++ 0 ∷ es)) refl (sym (step_leaf s (num k ∷ r ∷ []) (ev c ++ 0 ∷ es)) ∙ h) (child k r c es)
   where
     more : Found k r c es → Found k r (leaf s c) es
-    more (inside t q) = inside (rw (and_l (top_block k) _ t, and_r (top_block k) _ t) (or-true (empty c))) q
+    more (inside t q) = let h = and_parts (top_block k) _ t in inside (rw (h.0, h.1) (or-true (empty c))) q
     more (past q) = past q
 
     go : (u : Bool) → here (num k ∷ r ∷ []) (ev c ++ 0 ∷ es) ≡ u → (u || shut_by (num k ∷ r ∷ []) (ev c ++ 0 ∷ es)) ≡ true
         → (shut_by (num k ∷ r ∷ []) (ev c ++ 0 ∷ es) ≡ true → Found k r c es) → Found k r (leaf s c) es
     go true e q ih =
-        let one = and_l (eqb 1 (length (leaf_events (ev c ++ 0 ∷ es)))) _ e in
-        let two = and_r (eqb 1 (length (leaf_events (ev c ++ 0 ∷ es)))) _ e in
-        let p : empty c ≡ true = no_tree c es (and_l (zero_next (ev c ++ 0 ∷ es)) _ two) in
-        let q : eqb 1 (length (leaf_events es)) ≡ true = rw (empty_events c (0 ∷ es) p) at one in
-        inside (rw p (rw (and_r (zero_next (ev c ++ 0 ∷ es)) _ two))) (sym (eqb→eq 1 (length (leaf_events es)) (subst T (sym q) tt)))
+        let h = and_parts (eqb 1 (length (leaf_events (ev c ++ 0 ∷ es)))) _ e in
+        let z = and_parts (zero_next (ev c ++ 0 ∷ es)) _ h.1 in
+        let p : empty c ≡ true = no_tree c es z.0 in
+        let q : eqb 1 (length (leaf_events es)) ≡ true = rw (empty_events c (0 ∷ es) p) at h.0 in
+        inside (rw p (rw z.1)) (sym (eqb-true 1 _ q))
     go false e q ih = more (ih q)
 child k r (node n d c) es h =
     more (child k r c es
@@ -193,7 +177,7 @@ last_app d (x ∷ l) r = last_app x l r
 
 only : (d : ℕ) (r : List Sym) → length r ≡ 1 → last d r ≡ Newline → r ≡ Newline ∷ []
 only d [] h e = absurd (omega arith)
-only d (s ∷ []) h e = ap (λ (t : Sym). t ∷ []) e
+only d (s ∷ []) h e = cc
 only d (s ∷ t ∷ r) h e = absurd (omega arith)
 
 -- One token is left behind the item that is found: the newline, an item by itself. d: the token before r.

@@ -1,6 +1,6 @@
 -- Lookahead for the starters of items, expressions, types and instructions are Good.
 -- Assumes nothing.
-use Rattle.std.specs.Prelude.{ℕ, ◌≡◌, Bool, false}
+use Rattle.std.specs.Prelude.{ℕ, ◌≡◌, Bool, false, Option}
 use Rattle.std.proofs.Math.Path.{refl}
 use mathlib.Core.List.{List, [], ◌∷◌, ◌++◌}
 use Rattle.lexer.specs.Syntax.{Whitespace, Newline, Comment, DocComment, RParen}
@@ -8,7 +8,7 @@ use Rattle.grammar.specs.Words.{Sym, is, ELSE}
 use Rattle.grammar.specs.Look.{one_of, starts_instruction, control_flow, punctuation_continues_instruction, at, next_relevant_top_level_token, at_prefixed_keyword, at_top_level_form_starter_in_block, at_block_recovery_boundary, can_start_operation, line_break_starts_new_top_level_item, space_before_top_level_item}
 use Rattle.grammar.specs.Nesting.{Nesting}
 use Rattle.grammar.specs.Line.{Expression, expr_round, parse_expr_until_line_end, type_round, parse_type_body}
-use Rattle.grammar.specs.Instruction.{Significant, Inst, should_continue_instruction_after_whitespace, should_stop_instruction_before, instruction_round, parse_instruction}
+use Rattle.grammar.specs.Instruction.{Inst, should_continue_instruction_after_whitespace, should_stop_instruction_before, instruction_round, parse_instruction}
 use Rattle.grammar.specs.declared.block.Terminators.{Terminators}
 use Rattle.grammar.specs.Laws.Ahead.{Cond}
 use Rattle.grammar.proofs.Laws.Ahead.{look_prefixed, look_starter_in_block, look_line_break, look_space}
@@ -23,11 +23,11 @@ module _ (b : List Sym) (side : at (is RParen) (next_relevant_top_level_token b)
   pub test_prefixed : (ks : List Sym) (r : List Sym) → Cond b r → at_prefixed_keyword ks (r ++ b) ≡ at_prefixed_keyword ks r
   test_prefixed ks = test _ (λ r r' h. look_prefixed b side ks h)
 
-  test_continue : (p : Significant) (n : Nesting) (r : List Sym) → Cond b r → should_continue_instruction_after_whitespace p n (r ++ b) ≡ should_continue_instruction_after_whitespace p n r
+  test_continue : (p : Option Sym) (n : Nesting) (r : List Sym) → Cond b r → should_continue_instruction_after_whitespace p n (r ++ b) ≡ should_continue_instruction_after_whitespace p n r
   unfolding should_continue_instruction_after_whitespace one_of
   test_continue p n r c = rw (test_skip punctuation_continues_instruction (is Whitespace) refl r c)
 
-  test_stop : (p : Significant) (n : Nesting) (r : List Sym) → Cond b r → should_stop_instruction_before p n (r ++ b) ≡ should_stop_instruction_before p n r
+  test_stop : (p : Option Sym) (n : Nesting) (r : List Sym) → Cond b r → should_stop_instruction_before p n (r ++ b) ≡ should_stop_instruction_before p n r
   unfolding should_stop_instruction_before can_start_operation at_block_recovery_boundary
   test_stop p n r c = rw (test_at punctuation_continues_instruction r c, test_terminator Terminators.ElseEnd r c, test_at starts_instruction r c, test_at control_flow r c, test_at (is ELSE) r c, test_starter r c)
 

@@ -1,8 +1,9 @@
 -- Blocks and control forms are Good: with more fuel, and at the same or a higher limit.
 -- Assumes nothing.
 use Prim.Native.Nat.{ℕ, zero, suc, ◌≤◌}
-use Rattle.std.specs.Prelude.{◌≡◌, refl, Bool, List, ◌++◌, leb, T, length}
-use Rattle.std.proofs.Common.{sym, ◌∙◌, subst, true≢false, leb→le, le→leb, arith}
+use Rattle.std.specs.Prelude.{◌≡◌, refl, Bool, List, ◌++◌, leb, length}
+use Rattle.std.proofs.lemmas.Bool.{leb-false, leb-true}
+use Rattle.std.proofs.Common.{sym, ◌∙◌, true≢false, arith}
 use Rattle.std.proofs.Math.Bool.{true, false}
 use Rattle.std.proofs.Math.ListN.{length-append}
 use Rattle.lexer.specs.Syntax.{RParen}
@@ -82,11 +83,7 @@ pub data Limits (bad : ℕ → Bool) (lim lim' : ℕ) : Type 0 where
   higher : bad m_depth ≡ true → lim ≤ lim' → Limits bad lim lim'
 
 leb_false : (lim lim' d : ℕ) → lim ≤ lim' → leb lim d ≡ false → leb lim' d ≡ true → ⊥
-leb_false lim lim' d h e e' = true≢false (sym (T_is (le→leb lim d (omega (arith, leb→le lim' d (subst T (sym e') tt))))) ∙ e)
-  where
-    T_is : {u : Bool} → T u → u ≡ true
-    T_is {u = true} t = refl
-    T_is {u = false} t = absurd t
+leb_false lim lim' d h e e' = omega (arith, h, leb-false lim d e, leb-true lim' d e')
 
 module _ (b : List Sym) (side : at (is RParen) (next_relevant_top_level_token b) ≡ false) (bad : ℕ → Bool) (fuel : bad m_never ≡ true)
     (lim lim' : ℕ) (lims : Limits bad lim lim') where

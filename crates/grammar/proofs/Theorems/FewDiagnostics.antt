@@ -2,14 +2,14 @@
 -- Assumes nothing.
 use Rattle.std.specs.Prelude.{ℕ, zero, suc, ◌+◌, ◌*◌, ◌≤◌, ◌<◌, ◌≡◌, refl, Bool, true, false, cond, List, [], ◌∷◌, length}
 use Rattle.std.proofs.Common.{length-append, arith, lit≤}
-use Rattle.lexer.specs.Syntax
 use Rattle.lexer.specs.Syntax.{DocComment}
 use Rattle.grammar.specs.Words.{Sym, is, ADV_MAP, BEGIN, CONST, ENUM, MOD, NAMESPACE, TYPE}
 use Rattle.grammar.specs.Look.{regular_trivia, at, eof}
 use Rattle.grammar.specs.Run.{Forest, nil, leaf, node, say, leaves, P, pure, peek, pick, ◌>>=◌, when◌then◌else◌}
+use Rattle.grammar.specs.Laws.Here.{both_branches}
 use Rattle.grammar.specs.Block.{BlockOwner, Terminators, Blocks, parse_block}
 use Rattle.grammar.specs.Item.{at_declaration, at_procedure, parse_source_item, items, items_in, parse}
-use Rattle.grammar.specs.Out.{noted, dg, diags}
+use Rattle.grammar.specs.Out.{dg, diags}
 use Rattle.grammar.specs.Laws.Stops.{Stops, stops_block}
 use Rattle.grammar.specs.Laws.Live.{anywhere, some}
 use Rattle.grammar.proofs.Laws.LiveItem.{declaration_key}
@@ -21,11 +21,7 @@ use Rattle.grammar.proofs.Theorems.Rounds.{round_takes}
 
 owes_case : {q : List Sym → Bool} {c e : ℕ} {A : Type 0} (t : List Sym → Bool) {f g : P A} → Owes t c e f → Owes q c e g → Owes q c e (when t then f else g)
 unfolding ◌>>=◌ peek
-owes_case {q} {c} {e} t {f} {g} F G = record { owes = λ r k. d (t r) r refl k }
-  where
-    d : (u : Bool) (r : List Sym) → t r ≡ u → q r ≡ true → weigh diags_price (pick u f g r).out + 2 * length (pick u f g r).rest + e ≤ 2 * length r + c + credit (pick u f g r).rest
-    d true r i k = F.owes r i
-    d false r i k = G.owes r k
+owes_case {c} {e} t F G = record { owes = λ r k. both_branches (λ x. weigh diags_price x.out + 2 * length x.rest + e ≤ 2 * length r + c + credit x.rest) (t r) _ _ (F.owes r) (λ i. G.owes r k) }
 
 -- A doc comment pays for one diagnostic before it.
 split : {f g : P Bool} → Cost2 (at (is DocComment)) 0 1 f → Owes some 0 0 g → (r : List Sym) → some r ≡ true →
@@ -61,11 +57,7 @@ items_owe (suc n) limit (x ∷ r) h =
 
 weigh_dg : (i : ℕ) (x : Forest) → length (dg i x) ≡ weigh diags_price x
 weigh_dg i nil = refl
-weigh_dg i (leaf s x) = c (is Syntax.Error s) (weigh_dg (suc i) x)
-  where
-    c : (u : Bool) → length (dg (suc i) x) ≡ weigh diags_price x → length (noted u i (dg (suc i) x)) ≡ cond u 1 0 + weigh diags_price x
-    c true e = omega arith
-    c false e = omega arith
+weigh_dg i (leaf s x) = grind (arith, weigh_dg (suc i) x)
 weigh_dg i (node k c x) = omega (arith, length-append (dg i c) (dg (i + length (leaves c)) x), weigh_dg i c, weigh_dg (i + length (leaves c)) x)
 weigh_dg i (say m x) = omega (arith, weigh_dg i x)
 

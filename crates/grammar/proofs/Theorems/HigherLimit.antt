@@ -1,6 +1,6 @@
 -- A file without the depth diagnostic at some limit has the same forest, so the same events and diagnostics, at any higher one.
 -- Assumes nothing.
-use Rattle.std.specs.Prelude.{ℕ, suc, ◌+◌, ◌≤◌, ◌≡◌, refl, Bool, true, false, not, ◌&&◌, ◌||◌, List, [], ◌∷◌, ◌++◌, eqb, length}
+use Rattle.std.specs.Prelude.{ℕ, suc, ◌+◌, ◌≤◌, ◌≡◌, refl, Bool, true, not, ◌&&◌, ◌||◌, List, [], ◌∷◌, ◌++◌, eqb, length}
 use Rattle.std.proofs.Common.{sym, ◌∙◌, arith}
 use Rattle.std.proofs.Math.Bool.{and_assoc}
 use Rattle.lexer.specs.Syntax
@@ -9,7 +9,7 @@ use Rattle.grammar.specs.Run.{Forest, nil, leaf, node, say, leaves}
 use Rattle.grammar.specs.Message.{number}
 use Rattle.grammar.specs.Item.{items_in, parse}
 use Rattle.grammar.specs.Out.{Diag, noted, dg, events, diags}
-use Rattle.grammar.specs.Laws.Here.{and_l, and_r, not_true}
+use Rattle.std.proofs.lemmas.Bool.{and_parts, not-true}
 use Rattle.grammar.specs.Laws.Good.{Calm}
 use Rattle.grammar.specs.Laws.StableBlock.{m_depth}
 use Rattle.grammar.proofs.Laws.StableBlock.{higher}
@@ -27,16 +27,16 @@ is_bad m = no_message m || eqb m_depth m
 
 noted_calm : (u : Bool) (i : ℕ) (l : List Diag) → calmly (noted u i l) ≡ true → calmly l ≡ true
 unfolding number
-noted_calm true i l e = e
-noted_calm false i l e = e
+noted_calm u i l e = grind (arith, e)
 
 calm_both : (i : ℕ) (x : Forest) → Calm no_message x → calmly (dg i x) ≡ true → Calm is_bad x
 calm_both i nil k e = tt
 calm_both i (leaf s x) k e = calm_both (suc i) x k (noted_calm (is Syntax.Error s) i (dg (suc i) x) e)
 calm_both i (node n c x) k e =
     let p = sym (calmly_app (dg i c) (dg (i + length (leaves c)) x)) ∙ e in
-    (calm_both i c k.0 (and_l (calmly (dg i c)) _ p), calm_both (i + length (leaves c)) x k.1 (and_r (calmly (dg i c)) _ p))
-calm_both i (say m x) k e = (rw k.0 (not_true (eqb m_depth m) (and_l (not (eqb m_depth m)) _ e)), calm_both i x k.1 (and_r (not (eqb m_depth m)) _ e))
+    let h = and_parts (calmly (dg i c)) _ p in
+    (calm_both i c k.0 h.0, calm_both (i + length (leaves c)) x k.1 h.1)
+calm_both i (say m x) k e = let h = and_parts (not (eqb m_depth m)) _ e in (rw k.0 (not-true (eqb m_depth m) h.0), calm_both i x k.1 h.1)
 
 -- The forest is the same.
 pub higher_limit_forest : (limit limit' : ℕ) (a : List Sym) → limit ≤ limit' → calmly (diags limit a) ≡ true → parse limit' a ≡ parse limit a

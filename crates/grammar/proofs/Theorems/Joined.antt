@@ -1,6 +1,6 @@
 -- Joined files (demand 3): the events and diagnostics of A's tokens and then B's are A's, and then B's.
 -- Assumes nothing.
-use Rattle.std.specs.Prelude.{ℕ, suc, ◌+◌, ◌<◌, ◌≡◌, refl, Bool, true, false, ◌||◌, length}
+use Rattle.std.specs.Prelude.{ℕ, suc, ◌+◌, ◌<◌, ◌≡◌, refl, Bool, true, false, length}
 use Rattle.std.proofs.Common.{sym, ◌∙◌, ap, length-append, arith}
 use mathlib.Core.List.{List, [], ◌∷◌, ◌++◌, append_assoc, map, tail, drop_last}
 use Rattle.std.proofs.lemmas.List.{length-map}
@@ -14,7 +14,7 @@ use Rattle.grammar.specs.Item.{parse}
 use Rattle.grammar.specs.Out.{ev, Diag, noted, dg, events, diags}
 use Rattle.grammar.specs.Joins.{Tail, here, there, shut_by, move, Joins, Joined}
 use Rattle.grammar.specs.Laws.Good.{leaves_app}
-use Rattle.grammar.specs.Laws.Here.{is_same}
+use Rattle.std.proofs.lemmas.Bool.Decides.{nat_tests}
 use Rattle.grammar.specs.Laws.Shut.{closed, closed_tail}
 use Rattle.grammar.proofs.Laws.Join.{join_forest, last_tree}
 use Rattle.grammar.proofs.Laws.Premise.{premise}
@@ -35,15 +35,7 @@ join_diags limit a b side c = rw (join_forest limit a b side c, dg_app, all_toke
 paren : (b : List Sym) → at (is RParen) (next_relevant_block_token b) ≡ false → at (is RParen) (next_relevant_top_level_token b) ≡ false
 unfolding at skip one_of
 paren [] e = refl
-paren (s ∷ b) e = c (is Whitespace s) (is Newline s) (is Comment s) (is DocComment s) refl e (paren b)
-  where
-    c : (w n k d : Bool) → is DocComment s ≡ d → at (is RParen) (elim (w || (n || (k || (d || false)))) [ true ↦ next_relevant_block_token b | false ↦ s ∷ b ]) ≡ false →
-        (at (is RParen) (next_relevant_block_token b) ≡ false → at (is RParen) (next_relevant_top_level_token b) ≡ false) → at (is RParen) (elim (w || (n || (k || false))) [ true ↦ next_relevant_top_level_token b | false ↦ s ∷ b ]) ≡ false
-    c true n k d q e ih = ih e
-    c false true k d q e ih = ih e
-    c false false true d q e ih = ih e
-    c false false false true q e ih = rw (is_same DocComment s q)
-    c false false false false q e ih = e
+paren (s ∷ b) e = grind (arith, nat_tests, e, paren b)
 
 -- The word follows: where the last token is a newline, and by the events the token before it closes a procedure or begin block under the
 -- root, that token is `end`.

@@ -2,6 +2,7 @@
 -- Assumes nothing.
 use Rattle.std.specs.Prelude.{ℕ, zero, suc, ◌+◌, ◌<◌, ◌≡◌, refl, List, [], ◌∷◌, ◌++◌, map, length}
 use Rattle.std.proofs.Common.{sym, ◌∙◌, ap, ap₂, arith}
+use Rattle.std.proofs.Math.Nat.{suc-add, add-zero}
 use Rattle.std.proofs.lemmas.List.{map-append}
 use Rattle.lexer.specs.Laws.{last}
 use Rattle.grammar.specs.Words.{Sym}
@@ -20,10 +21,7 @@ in_first m (e ∷ es) fs s eof eof' (suc i) h = in_first m es fs e eof eof' i (o
 
 in_second : (m : ℕ) (es fs : List ℕ) (s eof i : ℕ) → place m (es ++ fs) s eof (length es + i) ≡ place m fs (last s es) eof i
 in_second m [] fs s eof i = ap (place m fs s eof) (omega arith)
-in_second m (e ∷ es) fs s eof i = ap (place m (e ∷ (es ++ fs)) s eof) (suc_out (length es) i) ∙ in_second m es fs e eof i
-  where
-    suc_out : (a b : ℕ) → suc a + b ≡ suc (a + b)
-    suc_out a b = omega arith
+in_second m (e ∷ es) fs s eof i = ap (place m (e ∷ (es ++ fs)) s eof) (suc-add (length es) i) ∙ in_second m es fs e eof i
 
 shifted : (m n : ℕ) (es : List ℕ) (s eof i : ℕ) → place m (map (λ e. n + e) es) (n + s) (n + eof) i ≡ shift n (place m es s eof i)
 shifted m n [] s eof i = refl
@@ -37,11 +35,8 @@ places_first es fs eof eof' (d ∷ l) b = ap₂ ◌∷◌ (in_first d.msg es fs 
 places_second : (n : ℕ) (es fs : List ℕ) (eof : ℕ) → last 0 es ≡ n → (l : List Diag) → places (es ++ map (λ e. n + e) fs) (n + eof) (map (move (length es)) l) ≡ map (shift n) (places fs eof l)
 places_second n es fs eof h [] = refl
 places_second n es fs eof h (d ∷ l) = ap₂ ◌∷◌
-    (in_second d.msg es (map (λ e. n + e) fs) 0 (n + eof) d.pos ∙ ap (λ s. place d.msg (map (λ e. n + e) fs) s (n + eof) d.pos) (h ∙ plus_zero n) ∙ shifted d.msg n fs 0 eof d.pos)
+    (in_second d.msg es (map (λ e. n + e) fs) 0 (n + eof) d.pos ∙ ap (λ s. place d.msg (map (λ e. n + e) fs) s (n + eof) d.pos) (h ∙ sym (add-zero n)) ∙ shifted d.msg n fs 0 eof d.pos)
     (places_second n es fs eof h l)
-  where
-    plus_zero : (n : ℕ) → n ≡ n + 0
-    plus_zero n = omega arith
 
 -- An empty file has no diagnostic.
 no_diags : (limit : ℕ) → diags limit [] ≡ []
@@ -53,7 +48,7 @@ no_diags limit = refl
 module _ (limit n : ℕ) (es fs : List ℕ) (anchor_b anchor : ℕ) (k : last 0 es ≡ n) where
   second_part : (b : List Sym) → ((b ≡ [] → ⊥) → anchor ≡ n + anchor_b) → places (es ++ map (λ e. n + e) fs) anchor (map (move (length es)) (diags limit b)) ≡ map (shift n) (places fs anchor_b (diags limit b))
   second_part [] h = rw (no_diags limit)
-  second_part (s ∷ b) h = rw (h (λ e. let z : ◌≡◌ {A = ℕ} 0 1 = cc in omega arith)) (places_second n es fs anchor_b k (diags limit (s ∷ b)))
+  second_part (s ∷ b) h = rw (h (λ e. grind (arith, e))) (places_second n es fs anchor_b k (diags limit (s ∷ b)))
 
   pub joined_bytes : (a b : List Sym) → Joins limit a b → (anchor_a : ℕ) → length es ≡ length a → ((b ≡ [] → ⊥) → anchor ≡ n + anchor_b) →
       places (es ++ map (λ e. n + e) fs) anchor (diags limit (a ++ b)) ≡ places es anchor_a (diags limit a) ++ map (shift n) (places fs anchor_b (diags limit b))

@@ -1,7 +1,8 @@
 -- Only the innermost block that meets the end of the file reports its missing closer; where the depth diagnostic stands none does.
 -- Assumes nothing.
-use Rattle.std.specs.Prelude.{ℕ, suc, ◌+◌, ◌≡◌, refl, Bool, true, false, cond, List, [], ◌∷◌, ◌++◌, length}
-use Rattle.std.proofs.Common.{◌∙◌, ap, append-nil, length-append, arith}
+use Rattle.std.specs.Prelude.{ℕ, suc, ◌+◌, ◌≡◌, refl, Bool, true, false, List, [], ◌∷◌, ◌++◌, length}
+use Rattle.std.proofs.Common.{◌∙◌, append-nil, length-append, arith}
+use Rattle.std.proofs.Math.Nat.{add-zero, zero-add}
 use Rattle.lexer.specs.Syntax
 use Rattle.grammar.specs.Words.{Sym, is}
 use Rattle.grammar.specs.Run.{Kind, Error, Block, Forest, nil, leaf, node, say, ◌<>◌, leaves, Res}
@@ -28,11 +29,7 @@ innermost_reports limit a = c (finishes_items (suc (length a)) limit a (omega ar
 -- ---- In the diagnostics.
 endings_app : (l m : List Diag) → endings (l ++ m) ≡ endings l ++ endings m
 endings_app [] m = refl
-endings_app (d ∷ l) m = c (ending d.msg) (endings_app l m)
-  where
-    c : (u : Bool) → endings (l ++ m) ≡ endings l ++ endings m → cond u (d ∷ endings (l ++ m)) (endings (l ++ m)) ≡ cond u (d ∷ endings l) (endings l) ++ endings m
-    c true e = ap (λ x. d ∷ x) e
-    c false e = e
+endings_app (d ∷ l) m = grind (arith, endings_app l m)
 
 -- An unrecognized token is no ending.
 endings_noted : (u : Bool) (i : ℕ) (l : List Diag) → endings (noted u i l) ≡ endings l
@@ -69,10 +66,7 @@ owner_ending BlockOwner.DoWhile = refl
 owner_ending BlockOwner.Repeat = refl
 
 report : (w : BlockOwner) (i : ℕ) → Endings (i + 0) (endings (dg i (say (missing_end_number w) nil)))
-report w i = rw (owner_ending w, plus_zero) (Endings.missing_closer w)
-  where
-    plus_zero : i + 0 ≡ i
-    plus_zero = omega arith
+report w i = rw (owner_ending w, add-zero i) (Endings.missing_closer w)
 
 unclosed_endings : {x : Forest} → Unclosed x → (i : ℕ) → Endings (i + length (leaves x)) (endings (dg i x))
 unclosed_endings (Unclosed.reports w x y c d) i =
@@ -88,7 +82,4 @@ file_endings (FileEnd.unclosed x y k u) = behind 0 x y k (unclosed_endings u)
 -- At most one diagnostic has a number from 1 to 7 or 49; one from 1 to 7 stands at the end of the file.
 pub one_missing_end : (limit : ℕ) (a : List Sym) → Endings (length a) (endings (diags limit a))
 unfolding diags
-one_missing_end limit a = rw (all_tokens limit a, zero_plus) at (file_endings (innermost_reports limit a))
-  where
-    zero_plus : 0 + length a ≡ length a
-    zero_plus = omega arith
+one_missing_end limit a = rw (all_tokens limit a, zero-add (length a)) at (file_endings (innermost_reports limit a))

@@ -1,9 +1,9 @@
 -- Every round of the item loop takes at least one token. No loop runs out of fuel and no unreached message is said: each diagnostic has a
 -- number from 1 to 53.
 -- Assumes nothing.
-use Rattle.std.specs.Prelude.{ℕ, suc, ◌+◌, ◌≤◌, ◌<◌, ◌≡◌, refl, Bool, true, false, not, ◌&&◌, List, [], ◌∷◌, ◌++◌, leb, T, length}
-use Rattle.std.proofs.Common.{sym, subst, leb→le, arith}
-use Rattle.std.proofs.lemmas.Bool.{false≢true}
+use Rattle.std.specs.Prelude.{ℕ, suc, ◌+◌, ◌≤◌, ◌<◌, ◌≡◌, refl, Bool, true, false, List, [], ◌∷◌, ◌++◌, length}
+use Rattle.std.proofs.lemmas.Bool.Decides.{nat_tests}
+use Rattle.std.proofs.Common.{arith}
 use Rattle.lexer.specs.Syntax
 use Rattle.grammar.specs.Words.{Sym, is}
 use Rattle.grammar.specs.Run.{Forest, nil, leaf, node, say, leaves}
@@ -32,12 +32,7 @@ numbered_noted true i l h = (omega arith, omega arith, h)
 numbered_noted false i l h = h
 
 in_range : (m : ℕ) → no_message m ≡ false → (1 ≤ m) × (m ≤ 53)
-in_range m e = c (leb 1 m) (leb m 53) refl refl e
-  where
-    c : (u v : Bool) → leb 1 m ≡ u → leb m 53 ≡ v → not (u && v) ≡ false → (1 ≤ m) × (m ≤ 53)
-    c true true p q e = (leb→le 1 m (subst T (sym p) tt), leb→le m 53 (subst T (sym q) tt))
-    c true false p q e = absurd (false≢true (sym e))
-    c false v p q e = absurd (false≢true (sym e))
+in_range m e = (grind (arith, nat_tests, e), grind (arith, nat_tests, e))
 
 calm_numbered : (i : ℕ) (x : Forest) → Calm no_message x → AllNumbered (dg i x)
 calm_numbered i nil k = tt

@@ -1,32 +1,17 @@
 -- What the small steps do at a token that is known.
 -- Assumes nothing.
-use Rattle.std.specs.Prelude.{◌≡◌, refl, Bool, true, false, cond, not, ◌&&◌, ◌||◌, List, [], ◌∷◌, T}
-use Rattle.std.proofs.Common.{sym, ◌∙◌, ap, subst, eqb→eq}
+use Rattle.std.specs.Prelude.{◌≡◌, refl, Bool, true, false, cond, not, ◌&&◌, List, [], ◌∷◌}
+use Rattle.std.proofs.Common.{arith, sym, ◌∙◌, ap}
 use Rattle.std.proofs.Math.Bool.{or-false}
-use Rattle.std.proofs.lemmas.Bool.{false≢true}
+use Rattle.std.proofs.lemmas.Bool.{false≢true, eqb-true, ne_eqb, and_parts, not-true}
 use Rattle.grammar.specs.Words.{Sym, is}
 use Rattle.grammar.specs.Look.{one_of, regular_trivia, at, skip}
-use Rattle.grammar.specs.Run.{nil, leaf, ◌<>◌, Res, P, pure, peek, pick, ◌>>=◌, when◌then◌else◌, take_token, stop, go, turn, scan}
+use Rattle.grammar.specs.Run.{nil, leaf, ◌<>◌, Res, P, pure, peek, pick, ◌>>=◌, when◌then◌else◌, take_token, scan}
 use Rattle.grammar.specs.Message.{Message}
 use Rattle.grammar.specs.Laws.Good.{app_assoc}
 use Rattle.grammar.specs.Bump.{while_round, bump_while, expect_kind}
 
 -- ---- Tests.
-pub and_l : (u v : Bool) → (u && v) ≡ true → u ≡ true
-and_l true v e = refl
-and_l false v e = e
-
-pub and_r : (u v : Bool) → (u && v) ≡ true → v ≡ true
-and_r true v e = e
-and_r false v e = absurd (false≢true e)
-
-pub not_true : (u : Bool) → not u ≡ true → u ≡ false
-not_true true e = absurd (false≢true e)
-not_true false e = refl
-
-pub is_same : (k s : Sym) → is k s ≡ true → s ≡ k
-is_same k s e = sym (eqb→eq k s (subst T (sym e) tt))
-
 -- an `if`, as its test chooses between two arms
 pub if_arm : {A X : Type 0} (h : X → Res A) (t : List Sym → Bool) (f g : P A) (r : List Sym) {a b : X} → f r ≡ h a → g r ≡ h b → (when t then f else g) r ≡ h (cond (t r) a b)
 unfolding ◌>>=◌ peek
@@ -35,6 +20,11 @@ if_arm h t f g r {a} {b} p q = by (t r)
     by : (u : Bool) → pick u f g r ≡ h (cond u a b)
     by true = p
     by false = q
+
+-- What is shown of both branches holds of the one that is picked.
+pub both_branches : {A : Type 0} (Q : Res A → Type 0) (u : Bool) (f g : P A) {r : List Sym} → (u ≡ true → Q (f r)) → (u ≡ false → Q (g r)) → Q (pick u f g r)
+both_branches Q true f g F G = F refl
+both_branches Q false f g F G = G refl
 
 -- At a token that is not p, a run of p is empty.
 pub while_no : (p : Sym → Bool) (r : List Sym) → at p r ≡ false → bump_while p r ≡ pure true r
@@ -46,11 +36,7 @@ while_no p (s ∷ r) e = rw (e, scan)
 scan_rest : (p : Sym → Bool) (l : Bool) (r : List Sym) → (scan (while_round p) l r).rest ≡ skip p r
 unfolding scan while_round at skip
 scan_rest p l [] = refl
-scan_rest p l (s ∷ r) = c (scan_rest p l r) (p s)
-  where
-    c : (scan (while_round p) l r).rest ≡ skip p r → (u : Bool) → (turn (cond u (go l) stop) l s r (λ l'. scan (while_round p) l' r)).rest ≡ elim u [ true ↦ skip p r | false ↦ s ∷ r ]
-    c ih true = ih
-    c ih false = refl
+scan_rest p l (s ∷ r) = grind (arith, scan_rest p l r)
 
 pub while_rest : (p : Sym → Bool) (r : List Sym) → (bump_while p r).rest ≡ skip p r
 unfolding bump_while
@@ -75,16 +61,12 @@ taken s r = record { rest = r; out = leaf s nil; val = true }
 -- At its kind, expect takes it, and nothing else.
 pub expect_here : (k : Sym) (m : Message) → regular_trivia k ≡ false → (s : Sym) (r : List Sym) → is k s ≡ true → expect_kind k m (s ∷ r) ≡ taken s r
 unfolding expect_kind bump_while scan while_round at ◌>>=◌ peek take_token pure
-expect_here k m h s r e = let t : regular_trivia s ≡ false = rw (is_same k s e) h in rw (t, scan, e)
+expect_here k m h s r e = let t : regular_trivia s ≡ false = rw (← eqb-true k s e) h in rw (t, scan, e)
 
 -- ---- Classes that share no token.
 -- A token of p is none that p leaves out.
 pub is_not : (p : Sym → Bool) (k s : Sym) → p k ≡ false → p s ≡ true → is k s ≡ false
-is_not p k s h e = c (is k s) refl
-  where
-    c : (u : Bool) → is k s ≡ u → u ≡ false
-    c true q = absurd (false≢true (sym h ∙ ap p (sym (is_same k s q)) ∙ e))
-    c false q = refl
+is_not p k s h e = ne_eqb k s (λ i. false≢true (sym h ∙ ap p i ∙ e))
 
 unfoldable pub none : (Sym → Bool) → List Sym → Bool
 none p [] = true
@@ -93,11 +75,7 @@ none p (k ∷ ks) = not (p k) && none p ks
 pub one_of_not : (p : Sym → Bool) (ks : List Sym) → none p ks ≡ true → (s : Sym) → p s ≡ true → one_of ks s ≡ false
 unfolding none one_of
 one_of_not p [] h s e = refl
-one_of_not p (k ∷ ks) h s e = c (λ g. one_of_not p ks g s e) (p k) refl h
-  where
-    c : (none p ks ≡ true → one_of ks s ≡ false) → (u : Bool) → p k ≡ u → (not u && none p ks) ≡ true → (is k s || one_of ks s) ≡ false
-    c ih true q h = absurd (false≢true h)
-    c ih false q h = rw (is_not p k s q e) (ih h)
+one_of_not p (k ∷ ks) h s e = let g = and_parts (not (p k)) _ h in rw (is_not p k s (not-true (p k) g.0) e) (one_of_not p ks g.1 s e)
 
 pub at_not : (p : Sym → Bool) (ks : List Sym) → none p ks ≡ true → (r : List Sym) → at p r ≡ true → at (one_of ks) r ≡ false
 unfolding at

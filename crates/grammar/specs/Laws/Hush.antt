@@ -1,11 +1,11 @@
 -- Hush: a round that warns of nothing bad. A loop that takes token by token with such rounds says nothing bad.
 -- Assumes nothing.
-use Rattle.std.specs.Prelude.{ℕ, ◌≡◌, Bool, true, false, cond}
+use Rattle.std.specs.Prelude.{ℕ, ◌≡◌, Bool, true, false, cond, Result, Ok, Err}
 use mathlib.Core.List.{List, [], ◌∷◌}
 use Rattle.grammar.specs.Words.{Sym}
 use Rattle.grammar.specs.Run.{Res, Round, stop, go, warn, turn, scan}
 use Rattle.grammar.specs.Message.{Message, number}
-use Rattle.grammar.specs.Nesting.{Nesting, Bumped, bump_by, counted, bump_nesting}
+use Rattle.grammar.specs.Nesting.{Nesting, bump_by, counted, bump_nesting}
 use Rattle.grammar.specs.Bump.{while_round}
 use Rattle.grammar.specs.Path.{group_round}
 use Rattle.grammar.specs.Line.{Expression, expr_round, type_round, tail_round, ResultType, result_round}
@@ -55,10 +55,10 @@ module _ {bad : ℕ → Bool} where
 
   -- These report a closer without its opener.
   module _ (closers : (c : Closer) → bad (number (Message.UnexpectedCloser c)) ≡ false) where
-    hush_counted : {L : Type 0} (n : Nesting) (f : Nesting → L) (x : Bumped) → Hush bad (counted n f x)
+    hush_counted : {L : Type 0} (n : Nesting) (f : Nesting → L) (x : Result Nesting Closer) → Hush bad (counted n f x)
     unfolding counted
-    hush_counted n f (Bumped.Counts m) = hush_go (f m)
-    hush_counted n f (Bumped.Refused c) = record { hush = closers c }
+    hush_counted n f (Ok m) = hush_go (f m)
+    hush_counted n f (Err c) = record { hush = closers c }
 
     hush_nesting : {L : Type 0} (n : Nesting) (k : Sym) (f : Nesting → L) → Hush bad (bump_nesting n k f)
     unfolding bump_nesting

@@ -14,6 +14,7 @@ use Rattle.grammar.specs.Words.{Sym}
 use Rattle.grammar.specs.Look.{at, eof}
 use Rattle.grammar.specs.Run.{Kind, Forest, nil, leaf, node, say, ◌<>◌, P, pure, peek, in_node, pick, ◌>>=◌, when◌then◌else◌, take_token, err, Round, stop, go, warn, turn, scan, repeat, loop}
 use Rattle.grammar.specs.Laws.Good.{Calm, scan_split}
+use Rattle.grammar.specs.Laws.Here.{both_branches}
 use Rattle.grammar.specs.Laws.Hush.{Hush, scan_calm}
 use Rattle.grammar.specs.Laws.Numbers.{no_message}
 
@@ -91,28 +92,18 @@ module _ {n : ℕ} where
   -- In the first branch the test is known.
   pub live_case : {A : Type 0} (t : List Sym → Bool) {q : List Sym → Bool} {f g : P A} → Live t n f → Live q n g → Live q n (when t then f else g)
   unfolding ◌>>=◌ peek
-  live_case t {q} {f} {g} F G = record { calm = λ r e h. c (t r) r refl e h; less = λ r. l (t r) r }
-    where
-      c : (u : Bool) (r : List Sym) → t r ≡ u → q r ≡ true → length r < n → Calm no_message (pick u f g r).out
-      c true r e k h = F.calm r e h
-      c false r e k h = G.calm r k h
-
-      l : (u : Bool) (r : List Sym) → length (pick u f g r).rest ≤ length r
-      l true r = F.less r
-      l false r = G.less r
+  live_case t F G = record {
+    calm = λ r e h. both_branches (λ x. Calm no_message x.out) (t r) _ _ (λ i. F.calm r i h) (λ i. G.calm r e h);
+    less = λ r. both_branches (λ x. length x.rest ≤ length r) (t r) _ _ (λ i. F.less r) (λ i. G.less r);
+  }
 
   -- In the second too: there it is false.
   pub live_cases : {A : Type 0} (t : List Sym → Bool) {q : List Sym → Bool} {f g : P A} → Live t n f → Live (λ r. q r && not (t r)) n g → Live q n (when t then f else g)
   unfolding ◌>>=◌ peek
-  live_cases t {q} {f} {g} F G = record { calm = λ r e h. c (t r) r refl e h; less = λ r. l (t r) r }
-    where
-      c : (u : Bool) (r : List Sym) → t r ≡ u → q r ≡ true → length r < n → Calm no_message (pick u f g r).out
-      c true r e k h = F.calm r e h
-      c false r e k h = G.calm r (rw (k, e)) h
-
-      l : (u : Bool) (r : List Sym) → length (pick u f g r).rest ≤ length r
-      l true r = F.less r
-      l false r = G.less r
+  live_cases t F G = record {
+    calm = λ r e h. both_branches (λ x. Calm no_message x.out) (t r) _ _ (λ i. F.calm r i h) (λ i. G.calm r (rw (e, i)) h);
+    less = λ r. both_branches (λ x. length x.rest ≤ length r) (t r) _ _ (λ i. F.less r) (λ i. G.less r);
+  }
 
   pub live_eof : {A : Type 0} {f g : P A} → Live anywhere n f → Live some n g → Live anywhere n (when eof then f else g)
   unfolding ◌>>=◌ peek eof some
@@ -160,19 +151,11 @@ at_some p (s ∷ r) e = refl
 
 pub eats_case : {A : Type 0} (t : List Sym → Bool) {q : List Sym → Bool} {f g : P A} → Eats t f → Eats q g → Eats q (when t then f else g)
 unfolding ◌>>=◌ peek
-eats_case t {q} {f} {g} F G = record { eats = λ r e. c (t r) r refl e }
-  where
-    c : (u : Bool) (r : List Sym) → t r ≡ u → q r ≡ true → length (pick u f g r).rest < length r
-    c true r e k = F.eats r e
-    c false r e k = G.eats r k
+eats_case t F G = record { eats = λ r e. both_branches (λ x. length x.rest < length r) (t r) _ _ (F.eats r) (λ i. G.eats r e) }
 
 pub eats_cases : {A : Type 0} (t : List Sym → Bool) {q : List Sym → Bool} {f g : P A} → Eats t f → Eats (λ r. q r && not (t r)) g → Eats q (when t then f else g)
 unfolding ◌>>=◌ peek
-eats_cases t {q} {f} {g} F G = record { eats = λ r e. c (t r) r refl e }
-  where
-    c : (u : Bool) (r : List Sym) → t r ≡ u → q r ≡ true → length (pick u f g r).rest < length r
-    c true r e k = F.eats r e
-    c false r e k = G.eats r (rw (k, e))
+eats_cases t F G = record { eats = λ r e. both_branches (λ x. length x.rest < length r) (t r) _ _ (F.eats r) (λ i. G.eats r (rw (e, i))) }
 
 pub truly_bind : {A : Type 0} {f : P A} {g : A → P Bool} → Live anywhere 0 f → ((a : A) → Truly (g a)) → Truly (f >>= g)
 unfolding ◌>>=◌
@@ -180,19 +163,11 @@ truly_bind {A} {f} {g} F G = record { truly = λ r e. omega (arith, F.less r, (G
 
 pub truly_case : (t : List Sym → Bool) {f g : P Bool} → Eats t f → Truly g → Truly (when t then f else g)
 unfolding ◌>>=◌ peek
-truly_case t {f} {g} F G = record { truly = λ r. c (t r) r refl }
-  where
-    c : (u : Bool) (r : List Sym) → t r ≡ u → (pick u f g r).val ≡ true → length (pick u f g r).rest < length r
-    c true r q e = F.eats r q
-    c false r q e = G.truly r e
+truly_case t F G = record { truly = λ r. both_branches (λ x. x.val ≡ true → length x.rest < length r) (t r) _ _ (λ i e. F.eats r i) (λ i. G.truly r) }
 
 pub truly_if : (t : List Sym → Bool) {f g : P Bool} → Truly f → Truly g → Truly (when t then f else g)
 unfolding ◌>>=◌ peek
-truly_if t {f} {g} F G = record { truly = λ r. c (t r) r }
-  where
-    c : (u : Bool) (r : List Sym) → (pick u f g r).val ≡ true → length (pick u f g r).rest < length r
-    c true r e = F.truly r e
-    c false r e = G.truly r e
+truly_if t F G = record { truly = λ r. both_branches (λ x. x.val ≡ true → length x.rest < length r) (t r) _ _ (λ i. F.truly r) (λ i. G.truly r) }
 
 pub truly_false : Truly (pure false)
 unfolding pure
@@ -203,20 +178,13 @@ module _ {f : P Bool} (F : (n : ℕ) → Live anywhere n f) (E : Truly f) where
   repeat_calm : (n : ℕ) (r : List Sym) → length r < n → Calm no_message (repeat n f r).out
   unfolding repeat ◌>>=◌ pure
   repeat_calm zero r h = absurd (omega arith)
-  repeat_calm (suc n) r h = calm_join no_message (f r).out (pick (f r).val (repeat n f) (pure false) (f r).rest).out ((F (suc (length r))).calm r refl (omega arith)) (c (repeat_calm n (f r).rest) (f r).val refl)
-    where
-      c : (length (f r).rest < n → Calm no_message (repeat n f (f r).rest).out) → (u : Bool) → (f r).val ≡ u → Calm no_message (pick u (repeat n f) (pure false) (f r).rest).out
-      c ih true e = ih (omega (arith, E.truly r e))
-      c ih false e = tt
+  repeat_calm (suc n) r h = calm_join no_message (f r).out (pick (f r).val (repeat n f) (pure false) (f r).rest).out ((F (suc (length r))).calm r refl (omega arith))
+      (both_branches (λ x. Calm no_message x.out) (f r).val _ _ (λ i. repeat_calm n (f r).rest (omega (arith, E.truly r i))) (λ i. tt))
 
   repeat_less : (n : ℕ) (r : List Sym) → length (repeat n f r).rest ≤ length r
   unfolding repeat ◌>>=◌ pure err
   repeat_less zero r = omega arith
-  repeat_less (suc n) r = c (repeat_less n (f r).rest) (f r).val
-    where
-      c : length (repeat n f (f r).rest).rest ≤ length (f r).rest → (u : Bool) → length (pick u (repeat n f) (pure false) (f r).rest).rest ≤ length r
-      c ih true = omega (arith, (F 0).less r)
-      c ih false = (F 0).less r
+  repeat_less (suc n) r = both_branches (λ x. length x.rest ≤ length r) (f r).val _ _ (λ i. omega (arith, (F 0).less r, repeat_less n (f r).rest)) (λ i. (F 0).less r)
 
   pub live_loop : {n : ℕ} → Live anywhere n (loop f)
   unfolding loop
@@ -224,11 +192,7 @@ module _ {f : P Bool} (F : (n : ℕ) → Live anywhere n f) (E : Truly f) where
 
   pub eats_loop : {q : List Sym → Bool} → Eats q f → Eats q (loop f)
   unfolding loop repeat ◌>>=◌ pure
-  eats_loop X = record { eats = λ r e. c (f r).val r (X.eats r e) }
-    where
-      c : (u : Bool) (r : List Sym) → length (f r).rest < length r → length (pick u (repeat (length r) f) (pure false) (f r).rest).rest < length r
-      c true r h = omega (arith, repeat_less (length r) (f r).rest)
-      c false r h = h
+  eats_loop X = record { eats = λ r e. both_branches (λ x. length x.rest < length r) (f r).val _ _ (λ i. omega (arith, X.eats r e, repeat_less (length r) (f r).rest)) (λ i. X.eats r e) }
 
 -- The round takes the token.
 abbrev pub takes : {L : Type 0} → Round L → Bool

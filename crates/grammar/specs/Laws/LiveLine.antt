@@ -1,6 +1,6 @@
 -- Every function below the blocks is Live, and what takes a token for certain.
 -- Assumes nothing.
-use Rattle.std.specs.Prelude.{ℕ, suc, ◌<◌, ◌≡◌, refl, Bool, false}
+use Rattle.std.specs.Prelude.{ℕ, suc, ◌<◌, ◌≡◌, refl, Bool, false, Result, Ok, Err}
 use Rattle.std.proofs.Common.{ap, arith}
 use Rattle.std.proofs.Math.Bool.{true}
 use Rattle.std.proofs.lemmas.Bool.{false≢true}
@@ -11,11 +11,11 @@ use Rattle.grammar.specs.Words.{Sym, is}
 use Rattle.grammar.specs.Look.{one_of, name_like, regular_trivia, starts_instruction, at}
 use Rattle.grammar.specs.Run.{Kind, P, pure, in_node, ◌>>=◌, ◌>>◌, take_token, err, loop}
 use Rattle.grammar.specs.Message.{Message, number}
-use Rattle.grammar.specs.Nesting.{Nesting, Bumped, bump_by, counted, bump_nesting}
+use Rattle.grammar.specs.Nesting.{Nesting, Closer, bump_by, counted, bump_nesting}
 use Rattle.grammar.specs.Bump.{while_round, bump_while, expect_kind, expect_name, error_token}
 use Rattle.grammar.specs.Path.{path_segment, path_round, parse_path_with_message, group_round, parse_balanced_group}
 use Rattle.grammar.specs.Line.{expr_round, parse_expr_until_line_end, type_round, parse_type_body, tail_round, parse_line_tail, result_round, parse_signature_result_until_line_end}
-use Rattle.grammar.specs.Instruction.{is_some, before_first, instruction_round, parse_instruction}
+use Rattle.grammar.specs.Instruction.{before_first, instruction_round, parse_instruction}
 use Rattle.grammar.specs.Block.{suffix_operand, suffix_round, parse_structured_header_suffixes}
 use Rattle.grammar.specs.Laws.Good.{Calm}
 use Rattle.grammar.specs.Laws.Stable.{good_expect}
@@ -117,17 +117,17 @@ pub eats_error_token : (m : Message) → Eats some (error_token m)
 unfolding error_token ◌>>=◌ in_node err
 eats_error_token m = record { eats = λ r e. eats_take.eats r e }
 
-takes_counted : {L : Type 0} (n : Nesting) (f : Nesting → L) (x : Bumped) → takes (counted n f x) ≡ true
+takes_counted : {L : Type 0} (n : Nesting) (f : Nesting → L) (x : Result Nesting Closer) → takes (counted n f x) ≡ true
 unfolding counted
-takes_counted n f (Bumped.Counts m) = refl
-takes_counted n f (Bumped.Refused c) = refl
+takes_counted n f (Ok m) = refl
+takes_counted n f (Err c) = refl
 
 pub takes_nesting : {L : Type 0} (n : Nesting) (k : Sym) (f : Nesting → L) → takes (bump_nesting n k f) ≡ true
 unfolding bump_nesting
 takes_nesting n k f = takes_counted n f (bump_by n k)
 
 pub instruction_first : (s : Sym) (r : List Sym) → starts_instruction s ≡ true → takes (instruction_round before_first (s ∷ r)) ≡ true
-unfolding instruction_round at is_some one_of none starts_instruction name_like
+unfolding instruction_round at one_of none starts_instruction name_like
 instruction_first s r e = rw (is_not starts_instruction Whitespace s refl e, one_of_not starts_instruction (Newline ∷ Comment ∷ DocComment ∷ []) refl s e) (takes_nesting _ _ _)
 
 pub eats_instruction : Eats (at starts_instruction) parse_instruction

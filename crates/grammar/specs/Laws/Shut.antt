@@ -3,12 +3,12 @@
 use Rattle.std.specs.Prelude.{◌≡◌, refl, Bool, true, false, cond, ◌&&◌, ◌||◌, [], ◌∷◌, ◌++◌, eqb}
 use Rattle.std.proofs.Math.Bool.{and-false, or-true}
 use Rattle.std.proofs.lemmas.Bool.{false≢true}
-use Rattle.std.proofs.Common.{append-nil, append_assoc}
+use Rattle.std.proofs.Common.{arith, append-nil, append_assoc}
 use Rattle.lexer.specs.Syntax.{Newline}
 use Rattle.grammar.specs.Words.{is, END}
 use Rattle.grammar.specs.Run.{Kind, Procedure, BeginBlock, num, Forest, nil, leaf, node, say, ◌<>◌, leaves}
 use Rattle.grammar.specs.Laws.Ahead.{Tail, here, there, tail_after}
-use Rattle.grammar.specs.Laws.Here.{and_l, and_r, is_same}
+use Rattle.std.proofs.lemmas.Bool.{and_parts, eqb-true}
 
 -- No tree, only diagnostics.
 abbrev pub empty : Forest → Bool
@@ -77,11 +77,7 @@ empty_leaves (say m x) e = empty_leaves x e
 -- Behind a forest with a tree, the first forest does not count.
 pub ends_app : (x y : Forest) → empty y ≡ false → ends_end (x <> y) ≡ ends_end y
 ends_app nil y e = refl
-ends_app (leaf s x) y e = rw (empty_app x y, e) (c (empty x) (is END s) (ends_app x y e))
-  where
-    c : (u z : Bool) {v w : Bool} → v ≡ w → cond (u && false) z v ≡ w
-    c true z h = h
-    c false z h = h
+ends_app (leaf s x) y e = grind (arith, e, empty_app x y, ends_app x y e)
 ends_app (node k c x) y e = ends_app x y e
 ends_app (say m x) y e = ends_app x y e
 
@@ -96,14 +92,14 @@ ends_tail nil e = absurd (false≢true e)
 ends_tail (leaf s x) e = c (ends_tail x) (empty x) refl e
   where
     c : (ends_end x ≡ true → Tail (leaves x ++ Newline ∷ [])) → (u : Bool) → empty x ≡ u → cond u (is END s) (ends_end x) ≡ true → Tail (s ∷ (leaves x ++ Newline ∷ []))
-    c ih true h e = rw (is_same END s e, empty_leaves x h) here
+    c ih true h e = rw (← eqb-true END s e, empty_leaves x h) here
     c ih false h e = there (ih e)
 ends_tail (node k c x) e = rw append_assoc (tail_after (leaves c) (ends_tail x e))
 ends_tail (say m x) e = ends_tail x e
 
 pub nl_leaves : (x : Forest) → is_nl x ≡ true → leaves x ≡ Newline ∷ []
 nl_leaves nil e = absurd (false≢true e)
-nl_leaves (leaf s x) e = rw (is_same Newline s (and_l (is Newline s) (empty x) e), empty_leaves x (and_r (is Newline s) (empty x) e))
+nl_leaves (leaf s x) e = let h = and_parts (is Newline s) (empty x) e in rw (← eqb-true Newline s h.0, empty_leaves x h.1)
 nl_leaves (node k c x) e = absurd (false≢true e)
 nl_leaves (say m x) e = nl_leaves x e
 
@@ -113,7 +109,7 @@ shuts_tail (leaf s x) e = there (shuts_tail x e)
 shuts_tail (node k c x) e = g (shuts_tail x) (empty x) refl e
   where
     g : (shuts x ≡ true → Tail (leaves x ++ Newline ∷ [])) → (u : Bool) → empty x ≡ u → cond u (top_block k && ends_end c) (shuts x) ≡ true → Tail ((leaves c ++ leaves x) ++ Newline ∷ [])
-    g ih true h e = rw (empty_leaves x h, append-nil) (ends_tail c (and_r (top_block k) (ends_end c) e))
+    g ih true h e = rw (empty_leaves x h, append-nil) (ends_tail c (and_parts (top_block k) (ends_end c) e).1)
     g ih false h e = rw append_assoc (tail_after (leaves c) (ih e))
 shuts_tail (say m x) e = shuts_tail x e
 
@@ -123,7 +119,7 @@ closed_tail (leaf s x) e = there (closed_tail x e)
 closed_tail (node k c x) e = g (closed_tail x) (is_nl x) (top_block k && ends_end c) refl refl e
   where
     g : (closed x ≡ true → Tail (leaves x)) → (u v : Bool) → is_nl x ≡ u → (top_block k && ends_end c) ≡ v → ((u && v) || closed x) ≡ true → Tail (leaves c ++ leaves x)
-    g ih true true n q e = rw (nl_leaves x n) (ends_tail c (and_r (top_block k) (ends_end c) q))
+    g ih true true n q e = rw (nl_leaves x n) (ends_tail c (and_parts (top_block k) (ends_end c) q).1)
     g ih true false n q e = tail_after (leaves c) (ih e)
     g ih false v n q e = tail_after (leaves c) (ih e)
 closed_tail (say m x) e = closed_tail x e
@@ -141,12 +137,7 @@ pub data LastLine (x y : Forest) : Type 0 where
 
 nl_app : (x y : Forest) → is_nl (x <> y) ≡ true → LastLine x y
 nl_app nil y e = second refl e
-nl_app (leaf s x) y e = first (c (is Newline s) (empty x) (empty y) (rw (empty_app x y) at e))
-  where
-    c : (u v w : Bool) → (u && (v && w)) ≡ true → (u && v) ≡ true
-    c true true w e = refl
-    c true false w e = e
-    c false v w e = e
+nl_app (leaf s x) y e = first (grind (arith, e, empty_app x y))
 nl_app (node k c x) y e = absurd (false≢true e)
 nl_app (say m x) y e = elim (nl_app x y e) [ second p q ↦ second p q | first p ↦ first p ]
 

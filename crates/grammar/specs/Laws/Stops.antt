@@ -1,13 +1,14 @@
 -- A block that found its terminator is at it.
 -- Assumes nothing.
 use Rattle.std.specs.Prelude.{ℕ, zero, suc, Bool, length}
-use Rattle.std.proofs.Math.Path.{◌≡◌, refl}
+use Rattle.std.proofs.Math.Path.{◌≡◌}
 use Rattle.std.proofs.Math.Bool.{true, false}
 use mathlib.Core.List.{List}
 use Rattle.std.proofs.Common.{arith}
 use Rattle.grammar.specs.Words.{Sym}
 use Rattle.grammar.specs.Look.{at_terminator}
 use Rattle.grammar.specs.Run.{Kind, P, pure, peek, in_node, pick, ◌>>=◌, when◌then◌else◌}
+use Rattle.grammar.specs.Laws.Here.{both_branches}
 use Rattle.grammar.specs.Block.{BlockOwner, Terminators, BlockParseOutcome, Blocks, recover, block_round, block_loop, block_in, parse_block}
 
 pub record Stops (t : Terminators) (f : P BlockParseOutcome) : Type 0 where
@@ -28,20 +29,16 @@ module _ {t : Terminators} where
 
   stops_found : {g : P BlockParseOutcome} → Stops t g → Stops t (when at_terminator t then pure BlockParseOutcome.FoundTerminator else g)
   unfolding ◌>>=◌ peek pure
-  stops_found {g} G = record { stops = λ r. c (at_terminator t r) r refl }
-    where
-      c : (u : Bool) (r : List Sym) → at_terminator t r ≡ u → (pick u (pure BlockParseOutcome.FoundTerminator) g r).val ≡ BlockParseOutcome.FoundTerminator → at_terminator t (pick u (pure BlockParseOutcome.FoundTerminator) g r).rest ≡ true
-      c true r q e = q
-      c false r q e = G.stops r e
+  stops_found G = record { stops = λ r. both_branches (λ x. x.val ≡ BlockParseOutcome.FoundTerminator → at_terminator t x.rest ≡ true) (at_terminator t r) _ _ (λ i e. i) (λ i. G.stops r) }
 
   -- No other outcome is FoundTerminator.
   stops_eof : Stops t (pure BlockParseOutcome.ReachedEof)
   unfolding pure
-  stops_eof = record { stops = λ r e. let z : ◌≡◌ {A = ℕ} 0 1 = cc in absurd (omega arith) }
+  stops_eof = record { stops = λ r e. grind (arith, e) }
 
   stops_recovered : Stops t (pure BlockParseOutcome.RecoveredImplicitEnd)
   unfolding pure
-  stops_recovered = record { stops = λ r e. let z : ◌≡◌ {A = ℕ} 0 1 = cc in absurd (omega arith) }
+  stops_recovered = record { stops = λ r e. grind (arith, e) }
 
 stops_round : {again : Blocks} → ((w : BlockOwner) (t : Terminators) (d : ℕ) → Stops t (again w t d)) → (lim : ℕ) (w : BlockOwner) (t : Terminators) (d : ℕ) → Stops t (block_round again lim w t d)
 unfolding block_round recover

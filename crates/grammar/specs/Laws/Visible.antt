@@ -1,7 +1,7 @@
 -- Behind a visibility that lookahead saw past, a token is left that is no regular trivia.
 -- Assumes nothing.
 use Rattle.std.specs.Prelude.{◌≡◌, refl, Bool, true, false, ◌&&◌, List, [], ◌∷◌}
-use Rattle.std.proofs.Common.{sym, ◌∙◌, ap}
+use Rattle.std.proofs.Common.{arith, sym, ◌∙◌, ap}
 use Rattle.std.proofs.lemmas.Bool.{false≢true}
 use Rattle.lexer.specs.Syntax.{LParen, RParen}
 use Rattle.grammar.specs.Words.{Sym, is, PACKAGE, PUB}
@@ -26,11 +26,7 @@ onward k (s ∷ l) = elim (is k s) [ true ↦ l | false ↦ s ∷ l ]
 pub skip_no : (p : Sym → Bool) (r : List Sym) → at p (skip p r) ≡ false
 unfolding skip at
 skip_no p [] = refl
-skip_no p (s ∷ r) = c (skip_no p r) (p s) refl
-  where
-    c : at p (skip p r) ≡ false → (u : Bool) → p s ≡ u → at p (elim u [ true ↦ skip p r | false ↦ s ∷ r ]) ≡ false
-    c ih true e = ih
-    c ih false e = e
+skip_no p (s ∷ r) = grind (arith, skip_no p r)
 
 pub skip_at : (p : Sym → Bool) (r : List Sym) → at p r ≡ false → skip p r ≡ r
 unfolding skip at
@@ -40,11 +36,7 @@ skip_at p (s ∷ r) e = rw (e, skip)
 expect_key : (k : Sym) (m : Message) (l : List Sym) → (pick (at (is k) l) (take_token >> pure true) (err (number m) >> pure false) l).rest ≡ onward k l
 unfolding at ◌>>=◌ take_token pure err onward
 expect_key k m [] = refl
-expect_key k m (s ∷ l) = c (is k s)
-  where
-    c : (u : Bool) → (pick u (take_token >> pure true) (err (number m) >> pure false) (s ∷ l)).rest ≡ elim u [ true ↦ l | false ↦ s ∷ l ]
-    c true = refl
-    c false = refl
+expect_key k m (s ∷ l) = grind arith
 
 expect_rest : (k : Sym) (m : Message) (r : List Sym) → (expect_kind k m r).rest ≡ onward k (skip regular_trivia r)
 unfolding expect_kind ◌>>=◌ peek

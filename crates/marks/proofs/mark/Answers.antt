@@ -1,35 +1,34 @@
 -- `marks::mark` meets its contract: only an Ident has a number. Assumes nothing.
-use Prim.Native.Nat.{ℕ, ◌+◌, ◌*◌, ◌≤◌}
-use mathlib.Core.Path.{◌≡◌, sym, ap, ◌∙◌}
-use mathlib.Core.Bool.{Bool, cond}
+use Prim.Native.Nat.{ℕ, ◌+◌, ◌*◌}
+use mathlib.Core.Path.{◌≡◌, ◌∙◌}
+use mathlib.Core.Bool.{false}
 use mathlib.Core.List.{List}
 use native.Mathlib.Omega.{arith}
-use borrow.Author.Tests.{eq-eqb, ne_eqb}
-use Rattle.lexer.specs.Syntax.{Ident}
+use lib.Dec.{eqb}
+use Rattle.lexer.specs.declared.syntax.SyntaxKind.{SyntaxKind}
+use Rattle.lexer.specs.declared.syntax.SyntaxKind.TheVariants as kind
+use Rattle.lexer.specs.Syntax.{kind_number, Ident}
 use Rattle.grammar.specs.Words.{MARK}
-use Rattle.marks.specs.Code.{text_number, number_of, few_numbers, marked}
+use Rattle.marks.specs.Code.{text_number, number_of, marked}
 use Rattle.marks.proofs.mark.Goals as goal
 
-module _ (kind : ℕ) (text : List ℕ) where
-  other : (kind ≡ Ident → ⊥) → kind ≡ marked kind text
+not_ident : (k : SyntaxKind) → (k ≡ kind.Ident → ⊥) → eqb Ident (kind_number k) ≡ false
+not_ident k n = grind arith
+
+module _ (k : SyntaxKind) (text : List ℕ) where
+  other : (k ≡ kind.Ident → ⊥) → kind_number k ≡ marked (kind_number k) text
   unfolding number_of
-  other n = rw (ne_eqb Ident kind (λ e. n (sym e))) (omega arith)
+  other n = rw (not_ident k n) (omega arith)
 
-  ident : {n : ℕ} → kind ≡ Ident → n ≡ text_number text → kind + MARK * n ≡ marked kind text
+  ident : {n : ℕ} → k ≡ kind.Ident → n ≡ text_number text → Ident + MARK * n ≡ marked (kind_number k) text
   unfolding number_of
-  ident e f = ap (λ (i : ℕ). kind + MARK * i) f ∙ sym (ap (λ (u : Bool). kind + MARK * cond u (text_number text) 0) (eq-eqb Ident kind (sym e)))
+  ident e f = rw (e, f)
 
-few : {n : ℕ} (text : List ℕ) → n ≡ text_number text → n ≤ 18
-few text e = rw e (few_numbers text)
+pub returns-in-Some : goal.returns-in-Some
+returns-in-Some c = ident _ _ c.in-Ident.is (c.from.ensures ∙ c.in-Some.ensures)
 
-pub returns-then-kind-ne-IDENT : goal.returns-then-kind-ne-IDENT
-returns-then-kind-ne-IDENT c = other _ _ c.if-kind-ne-IDENT.true
+pub returns-in-None : goal.returns-in-None
+returns-in-None c = ident _ _ c.in-Ident.is c.in-None.ensures
 
-pub overflow_mul-result : goal.overflow_mul-result
-overflow_mul-result c = omega (arith, few _ c.number_of.ensures)
-
-pub overflow_add-result : goal.overflow_add-result
-overflow_add-result c = omega (arith, few _ c.number_of.ensures, c.if-kind-ne-IDENT.false)
-
-pub returns : goal.returns
-returns c = ident _ _ c.if-kind-ne-IDENT.false c.number_of.ensures
+pub returns-in_default : goal.returns-in_default
+returns-in_default c = c.from-in_default.ensures ∙ other _ _ c.in_default.not-Ident

@@ -7,6 +7,3 @@ use Rattle.refusals.proofs.main.Goals as goal
 
 pub slice_bounds-put_calls-end : goal.slice_bounds-put_calls-end
 slice_bounds-put_calls-end c = sym (length-replicate {0} {A = ℕ} (MAX_SOURCE + 1) 32)
-
-pub slice_bounds-put_calls-end-4 : goal.slice_bounds-put_calls-end-4
-slice_bounds-put_calls-end-4 c = sym (length-replicate {0} {A = ℕ} 4096 0)

@@ -6,8 +6,8 @@ use Rattle.parser.specs.Rep.{world}
 use Rattle.parser.proofs.Kit.{Leads}
 use Rattle.blocks.proofs.suffix.parse_structured_header_suffixes.Given as goal
 
-abbrev pub invariant-loop-sc : goal.invariant-loop-sc
-invariant-loop-sc l = Leads parse_structured_header_suffixes (world l.initial.parser l.initial.c) parse_structured_header_suffixes (world l.parser l.c)
+abbrev pub invariant-loop-s : goal.invariant-loop-s
+invariant-loop-s l = Leads parse_structured_header_suffixes (world l.initial.parser l.initial.c) parse_structured_header_suffixes (world l.parser l.c)
 
-abbrev pub decreases-loop-sc : goal.decreases-loop-sc
-decreases-loop-sc l = length l.parser.kinds.now - l.c.pos
+abbrev pub decreases-loop-s : goal.decreases-loop-s
+decreases-loop-s l = length l.parser.kinds.now - l.c.pos

@@ -4,9 +4,9 @@ use mathlib.Core.Path.{◌≡◌, refl, sym, ◌∙◌}
 use mathlib.Core.List.{List}
 use native.Mathlib.Omega.{arith}
 use lib.ListN.{length}
+use Rattle.std.specs.Prelude.{None, Some}
 use Rattle.lexer.specs.Lexer.{tokenize}
 use Rattle.lexer.specs.Tokens.{room}
-use Rattle.marks.specs.declared.Refusal.TheVariants.{Nothing, At}
 use Rattle.marks.specs.Marks.{first_refused}
 use Rattle.marks.specs.Laws.{all_marked}
 use Rattle.answer.specs.declared.Answer.TheVariants.{TokenRoom, Refused}
@@ -20,33 +20,33 @@ module _ (source : List ℕ) (s : Slices) (t : ℕ) (count_is : t ≡ length (to
   no_room h = rw (sym count_is, lt-ltb (token_room s) t h) refl
 
   module _ (h : t ≤ token_room s) where
-    refused : (n : ℕ) → first_refused 0 (tokenize source) ≡ At n → outcome (Refused n) s ≡ from_row_3 source s
+    refused : (n : ℕ) → first_refused 0 (tokenize source) ≡ Some n → outcome (Refused n) s ≡ from_row_3 source s
     unfolding from_row_3 from_row_4
     refused n e = rw (sym count_is, le-ltb (token_room s) t h, e) refl
 
-    goes_on : {o : Outcome} → first_refused 0 (tokenize source) ≡ Nothing → o ≡ from_row_5 source s → o ≡ from_row_3 source s
+    goes_on : {o : Outcome} → first_refused 0 (tokenize source) ≡ None → o ≡ from_row_5 source s → o ≡ from_row_3 source s
     unfolding from_row_3 from_row_4
     goes_on e l = l ∙ rw (sym count_is, le-ltb (token_room s) t h, e) refl
 
-pub returns-then-least-t : goal.returns-then-least-t
-returns-then-least-t c =
+pub returns-then-min-t-clause-answer : goal.returns-then-min-t-clause-answer
+returns-then-min-t-clause-answer c =
     let pre = c.requires in
-    no_room _ _ _ pre.3.count_is (omega (arith, c.if-least-t.true, c.least.ensures))
+    no_room _ _ _ pre.1.count_is (omega arith)
 
 pub parse_from_row_5-requires : goal.parse_from_row_5-requires
 parse_from_row_5-requires c =
     let a = c.args in
     let pre = c.requires in
-    let h : a.t ≤ room a.kinds.now a.ends.now = omega (arith, c.if-least-t.false, c.least.ensures) in
-    let symbols_are = pre.3.kinds_are h ∙ all_marked _ (sym pre.2 ∙ c.in-Nothing.is) in
-    (pre.0, pre.1, omega (arith, h), symbols_are, omega (arith, h), pre.3.ends_are h)
+    let h : a.read.count ≤ room a.slices.now.kinds.now a.slices.now.ends.now = omega arith in
+    let symbols_are = pre.1.kinds_are h ∙ all_marked _ (sym pre.0 ∙ c.in-None.is) in
+    (omega arith, symbols_are, omega arith, pre.1.ends_are h)
 
-pub returns-in-At : goal.returns-in-At
-returns-in-At c =
+pub returns-in-Some-clause-answer : goal.returns-in-Some-clause-answer
+returns-in-Some-clause-answer c =
     let pre = c.requires in
-    refused _ _ _ pre.3.count_is (omega (arith, c.if-least-t.false, c.least.ensures)) _ (sym pre.2 ∙ c.in-At.is)
+    refused _ _ _ pre.1.count_is (omega arith) _ (sym pre.0 ∙ c.in-Some.is)
 
-pub returns-in-Nothing : goal.returns-in-Nothing
-returns-in-Nothing c =
+pub returns-in-None-clause-answer : goal.returns-in-None-clause-answer
+returns-in-None-clause-answer c =
     let pre = c.requires in
-    goes_on _ _ _ pre.3.count_is (omega (arith, c.if-least-t.false, c.least.ensures)) (sym pre.2 ∙ c.in-Nothing.is) c.parse_from_row_5.ensures
+    goes_on _ _ _ pre.1.count_is (omega arith) (sym pre.0 ∙ c.in-None.is) c.parse_from_row_5.ensures

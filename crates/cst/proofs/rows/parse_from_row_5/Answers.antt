@@ -1,78 +1,115 @@
 -- `cst::rows::parse_from_row_5` meets its contract: the slices of diagnostics are lent as far as the shortest goes. Assumes nothing.
-use Prim.Native.Nat.{ℕ}
+use Prim.Native.Nat.{ℕ, ◌≤◌}
 use mathlib.Core.Path.{◌≡◌, refl, sym, ap, ◌∙◌}
 use mathlib.Core.Bool.{cond, ◌||◌}
+use mathlib.Core.Logic.{inl, inr}
 use mathlib.Core.List.{List, ◌++◌, map}
 use native.Mathlib.Omega.{arith}
+use borrow.Author.Tests.{lt-ltb, le-ltb}
 use lib.Dec.{ltb}
 use lib.ListN.{length, take, drop, length-map}
 use lib.Seq.{length-take-le}
+use Rattle.std.proofs.Common.{take_at, drop_at}
+use Rattle.utf8.specs.Last.{last_char}
+use Rattle.utf8.specs.Laws.{accepted}
 use Rattle.lexer.specs.Lexer.{tokenize}
-use Rattle.room.specs.Over.{length_over, over_fit, given_back}
-use Rattle.grammar.specs.Source.{token_symbol}
-use Rattle.cst.specs.declared.rows.Counts.{Counts}
+use Rattle.lexer.specs.Tokens.{token_ends}
+use Rattle.lexer.specs.Laws.{few_tokens}
+use Rattle.room.specs.Over.{over, length_over, over_fit, given_back}
+use Rattle.grammar.specs.Block.{MAX_CONTROL_FLOW_NESTING as limit}
+use Rattle.grammar.specs.Out.{diags}
+use Rattle.grammar.specs.Source.{token_symbol, symbols}
+use Rattle.items.specs.Entry.{ParserSlices, Parse}
+use Rattle.places.specs.Places.{Places}
 use Rattle.cst.specs.Reading.{WriteReading}
+use Rattle.cst.specs.Laws.{last_within, reading_is}
 use Rattle.answer.specs.declared.Answer.{Answer}
 use Rattle.answer.specs.declared.Answer.TheVariants.{OutputRoom, Accepted}
 use Rattle.answer.specs.Answer.{slices, diagnostic_room, outcome, events_of, places_of, from_row_5}
 use Rattle.cst.proofs.rows.parse_from_row_5.Goals as goal
 
-module _ (source kinds ends ev dm ds de : List ℕ) (t n : ℕ) (tokens : t ≡ length (tokenize source)) (m : n ≡ diagnostic_room (slices kinds ends ev dm ds de)) where
-  whole : (k : Counts) (r : Answer) (ev' dm' ds' de' : List ℕ) → WriteReading source ev (take n dm) (take n ds) (take n de) k ev' dm' ds' de'
-      → r ≡ cond (ltb (length ev') k.events || ltb n k.diagnostics) OutputRoom Accepted t k.events k.diagnostics
-      → outcome r (slices kinds ends ev' (dm' ++ drop n dm) (ds' ++ drop n ds) (de' ++ drop n de))
-      ≡ from_row_5 source (slices kinds ends ev dm ds de)
-  unfolding from_row_5
-  whole k r ev' dm' ds' de' w a =
-      let event-room : length ev' ≡ length ev = ap length w.events_are ∙ length_over ev 0 (events_of source) in
-      let answer-is : r ≡ (from_row_5 source (slices kinds ends ev dm ds de)).answer =
-      a ∙ rw (tokens, event-room, m, w.event_count, w.diagnostic_count) refl in
-      rw (
-        answer-is,
-        w.events_are ∙ over_fit ev (events_of source),
-        given_back dm dm' (map (λ p. p.msg) (places_of source)) n n w.messages_are refl (omega arith),
-        given_back ds ds' (map (λ p. p.start) (places_of source)) n n w.starts_are refl (omega arith),
-        given_back de de' (map (λ p. p.stop) (places_of source)) n n w.stops_are refl (omega arith),
-        m,
-      )
-      refl
+count_is : (source kinds : List ℕ) (t : ℕ) → t ≤ length kinds → take t kinds ≡ symbols source → t ≡ length (tokenize source)
+count_is source kinds t h e = sym (length-take-le t kinds h) ∙ ap length e ∙ length-map (tokenize source) token_symbol
 
--- the t tokens are a part of each slice of tokens
-pub slice_bounds-write_reading-end : goal.slice_bounds-write_reading-end
-slice_bounds-write_reading-end c = sym (length-take-le _ _ c.requires.2)
+written_room : (n : ℕ) (l' l vs : List ℕ) → l' ≡ over (take n l) 0 vs → n ≤ length l → length l' ≡ n
+written_room n l' l vs e h = ap length e ∙ length_over (take n l) 0 vs ∙ length-take-le n l h
 
-pub slice_bounds-write_reading-end-2 : goal.slice_bounds-write_reading-end-2
-slice_bounds-write_reading-end-2 c = sym (length-take-le _ _ c.requires.4)
+module _
+    (source kinds ends dm ds de : List ℕ) (t n anchor : ℕ) (b w : ParserSlices) (ds' de' : List ℕ)
+    (fits : t ≤ length kinds) (kinds_are : take t kinds ≡ symbols source) (ends_are : take t ends ≡ token_ends source)
+    (anchor_is : anchor ≡ last_char source) (room_is : n ≡ diagnostic_room (slices kinds ends b.ev dm ds de))
+    (messages_are : b.dm ≡ take n dm) (starts_are : b.ds ≡ take n ds)
+    (parsed : Parse (take t kinds) b w)
+    (placed : Places (take t ends) anchor w.c.diags (take n (w.ds ++ drop n ds)) (take n de) ds' de')
+  where
+    abbrev e : ℕ
+    e = w.c.events
 
--- and the shortest room a part of each slice of diagnostics
-pub slice_bounds-write_reading-end-4 : goal.slice_bounds-write_reading-end-4
-slice_bounds-write_reading-end-4 c =
-    sym (length-take-le _ _ (omega (arith, c.least.ensures, c.least-room.ensures)))
+    abbrev d : ℕ
+    d = w.c.diags
 
-pub slice_bounds-write_reading-end-6 : goal.slice_bounds-write_reading-end-6
-slice_bounds-write_reading-end-6 c =
-    sym (length-take-le _ _ (omega (arith, c.least.ensures, c.least-room.ensures)))
+    starts-room : length w.ds ≡ n
+    starts-room =
+        written_room n w.ds ds (map (λ d. d.pos) (diags limit (take t kinds)))
+        (parsed.ds ∙ ap (λ l. over l 0 (map (λ d. d.pos) (diags limit (take t kinds)))) starts_are) (omega (arith, room_is))
 
-pub slice_bounds-write_reading-end-8 : goal.slice_bounds-write_reading-end-8
-slice_bounds-write_reading-end-8 c =
-    sym (length-take-le _ _ (omega (arith, c.least.ensures, c.least-room.ensures)))
+    reading : WriteReading source b.ev (take n dm) (take n ds) (take n de) e d w.ev w.dm ds' de'
+    reading =
+        rw (sym messages_are, sym starts_are)
+        (reading_is source _ _ _ b w _ _ _ kinds_are ends_are anchor_is
+        (ap length starts_are ∙ length-take-le n ds (omega (arith, room_is)) ∙ sym (length-take-le n de (omega (arith, room_is))))
+        parsed (rw (take_at w.ds (drop n ds) n starts-room) at placed))
 
-pub write_reading-counts-requires : goal.write_reading-counts-requires
-write_reading-counts-requires c =
-    let a = c.args in
+    whole : (r : Answer) → r ≡ cond (ltb (length w.ev) e || ltb n d) OutputRoom Accepted t e d
+        → outcome r (slices kinds ends w.ev (w.dm ++ drop n dm) (ds' ++ drop n (w.ds ++ drop n ds)) (de' ++ drop n de))
+        ≡ from_row_5 source (slices kinds ends b.ev dm ds de)
+    unfolding from_row_5
+    whole r a =
+        let event-room : length w.ev ≡ length b.ev = ap length reading.events_are ∙ length_over b.ev 0 (events_of source) in
+        let answer-is : r ≡ (from_row_5 source (slices kinds ends b.ev dm ds de)).answer =
+        a ∙ rw (count_is source kinds t fits kinds_are, event-room, room_is, reading.event_count, reading.diagnostic_count) refl in
+        rw (
+          drop_at w.ds (drop n ds) n starts-room,
+          answer-is,
+          reading.events_are ∙ over_fit b.ev (events_of source),
+          given_back dm w.dm (map (λ p. p.msg) (places_of source)) n n reading.messages_are refl (omega arith),
+          given_back ds ds' (map (λ p. p.start) (places_of source)) n n reading.starts_are refl (omega arith),
+          given_back de de' (map (λ p. p.stop) (places_of source)) n n reading.stops_are refl (omega arith),
+          room_is,
+        )
+        refl
+
+pub last_char-anchor-requires : goal.last_char-anchor-requires
+last_char-anchor-requires c = accepted _ c.args.text.is_utf8
+
+pub parse-end-requires : goal.parse-end-requires
+parse-end-requires c =
     let pre = c.requires in
-    let n = c.least-room.result in
-    let l = c.least.ensures in
-    let m = c.least-room.ensures in
-    let ds = length-take-le n a.starts.now (omega arith) in
-    let de = length-take-le n a.stops.now (omega arith) in
-    (pre.0, pre.1, pre.3, pre.5, ds ∙ sym de)
+    let source = c.args.text.bytes.now in
+    omega (arith, c.args.text.within_limit, ap length pre.1, length-map (tokenize source) token_symbol, few_tokens source)
+
+pub places-requires : goal.places-requires
+places-requires c =
+    let pre = c.requires in
+    let a = c.args in
+    let n = c.min-room.result in
+    let few : n ≤ length a.slices.starts.now = omega arith in
+    let starts-room = written_room n c.parse-end.new.starts a.slices.starts.now (map (λ d. d.pos) (diags limit (take a.t a.slices.kinds.now))) c.parse-end.ensures.ds few in (
+      omega (arith, a.text.within_limit, last_within a.text.bytes.now, c.last_char-anchor.ensures),
+      ap length (take_at c.parse-end.new.starts _ n starts-room) ∙ starts-room ∙ sym (length-take-le n a.slices.stops.now (omega arith)),
+    )
+
+pub returns-then-events-e : goal.returns-then-events-e
+returns-then-events-e c =
+    let pre = c.requires in
+    whole c.args.text.bytes.now _ _ _ _ _ _ _ _ _ _ _ _ pre.0 pre.1 pre.3 c.last_char-anchor.ensures (omega arith) refl refl
+    c.parse-end.ensures c.places.ensures _ (elim c.then-events-e.either [
+      | inl h ↦ rw (lt-ltb _ _ h)
+      | inr h ↦ rw (le-ltb _ _ h.0, lt-ltb _ _ h.1)
+    ])
 
 pub returns : goal.returns
 returns c =
-    let a = c.args in
     let pre = c.requires in
-    let source = a.source.now in
-    let tokens = sym (length-take-le a.t a.kinds.now pre.2) ∙ ap length pre.3 ∙ length-map (tokenize source) token_symbol in
-    whole source a.kinds.now a.ends.now a.events.now a.messages.now a.starts.now a.stops.now
-    _ _ tokens (omega (arith, c.least.ensures, c.least-room.ensures)) _ _ _ _ _ _ c.write_reading-counts.ensures c.answer_by_room.ensures
+    whole c.args.text.bytes.now _ _ _ _ _ _ _ _ _ _ _ _ pre.0 pre.1 pre.3 c.last_char-anchor.ensures (omega arith) refl refl
+    c.parse-end.ensures c.places.ensures _ (rw (le-ltb (length c.parse-end.new.events) c.parse-end.result.events (omega arith), le-ltb c.min-room.result c.parse-end.result.diags (omega arith)))

@@ -7,19 +7,19 @@ use Rattle.declarations.proofs.Steps.{round_last, round_more, round_moves}
 use Rattle.parser.proofs.Kit.{begins, goes_on, answers}
 use Rattle.declarations.proofs.attribute.attributes.Goals as goal
 
-pub loop-sc-init : goal.loop-sc-init
-loop-sc-init c = begins
+pub loop-s-init : goal.loop-s-init
+loop-s-init c = begins
 
 pub returns-then-not-s : goal.returns-then-not-s
 returns-then-not-s c =
-    (c.loop-sc.invariant.on _ _ (round_last attribute_round truly_attribute_round.truly (answers c.attribute_round-s.ensures (not-true _ c.if-not-s.true)))).ran
+    (c.loop-s.invariant.on _ _ (round_last attribute_round truly_attribute_round.truly (answers c.attribute_round-s.ensures (not-true _ c.if-not-s.true)))).ran
 
-pub loop-sc-smaller : goal.loop-sc-smaller
-loop-sc-smaller c =
+pub loop-s-smaller : goal.loop-s-smaller
+loop-s-smaller c =
     let m = round_moves attribute_round truly_attribute_round.truly (answers c.attribute_round-s.ensures (not-false _ c.if-not-s.false)) in
     omega (arith, m)
 
-pub loop-sc-preserved : goal.loop-sc-preserved
-loop-sc-preserved c =
+pub loop-s-preserved : goal.loop-s-preserved
+loop-s-preserved c =
     let h = answers c.attribute_round-s.ensures (not-false _ c.if-not-s.false) in
-    goes_on c.loop-sc.invariant (λ w' r k. round_more attribute_round truly_attribute_round.truly h k)
+    goes_on c.loop-s.invariant (λ w' r k. round_more attribute_round truly_attribute_round.truly h k)

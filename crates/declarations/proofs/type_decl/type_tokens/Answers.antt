@@ -6,14 +6,14 @@ use Rattle.grammar.specs.Nesting.{NestingBelow}
 use Rattle.grammar.specs.Run.{scan}
 use Rattle.declarations.proofs.Rounds.{type_stops, type_counts}
 use Rattle.parser.proofs.Ahead.{remembers_none, remembers_later}
-use Rattle.parser.proofs.Counts.{scan_counted, below_le, below_default}
+use Rattle.parser.proofs.Counts.{scan_counted, below_le, below_default, all_closed}
 use Rattle.parser.proofs.Kit.{same_file, ◌farther◌, goes_on, scan_stop, scan_end, begins_as}
 use Rattle.parser.proofs.Laws.{eof_within}
 use Rattle.declarations.proofs.type_decl.type_tokens.Goals as goal
 
 pub loop-nesting-init : goal.loop-nesting-init
 loop-nesting-init c =
-    (begins_as (ap (scan type_round) (sym c.new-nesting.ensures)), subst (NestingBelow _) (sym c.new-nesting.ensures) (below_default _ (omega arith)), remembers_none (omega arith))
+    (begins_as (ap (scan type_round) (sym (all_closed _ c.default-nesting.ensures))), subst (NestingBelow _) (sym (all_closed _ c.default-nesting.ensures)) (below_default _ (omega arith)), remembers_none (omega arith))
 
 pub at_type_end-e-requires : goal.at_type_end-e-requires
 at_type_end-e-requires c = c.loop-nesting.invariant.2

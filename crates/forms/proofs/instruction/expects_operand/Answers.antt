@@ -1,12 +1,14 @@
--- `forms::instruction::expects_operand`: meets its contract. Assumes nothing.
-use mathlib.Core.Path.{sym, ap, ◌∙◌}
+-- `forms::instruction::expects_operand` asks it of the kind, if there is one. Assumes nothing.
+use Rattle.std.specs.Prelude.{◌≡◌, Bool, false, Option, Some, None, MatchOption}
+use Rattle.grammar.specs.Words.{Sym}
+use Rattle.grammar.specs.Look.{expects_continuation_operand}
 use Rattle.grammar.specs.Instruction.{expects_operand}
 use Rattle.forms.proofs.instruction.expects_operand.Goals as goal
 
-pub returns-in-Nothing : goal.returns-in-Nothing
+asked : (p : Option Sym) {x : Bool} → MatchOption p (x ≡ false) (λ k. x ≡ expects_continuation_operand k) → x ≡ expects_operand p
 unfolding expects_operand
-returns-in-Nothing c = sym (ap expects_operand c.in-Nothing.is)
+asked None e = e
+asked (Some k) e = e
 
-pub returns-in-Kind : goal.returns-in-Kind
-unfolding expects_operand
-returns-in-Kind c = c.expects_continuation_operand.ensures ∙ sym (ap expects_operand c.in-Kind.is)
+pub returns : goal.returns
+returns c = asked _ c.is_some_and.ensures

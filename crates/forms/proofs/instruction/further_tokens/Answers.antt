@@ -6,15 +6,15 @@ use Rattle.grammar.specs.Look.{one_of, is_trivia}
 use Rattle.grammar.specs.Nesting.{NestingBelow}
 use Rattle.grammar.specs.Run.{scan}
 use Rattle.forms.proofs.Rounds.{instruction_locals, instruction_next, instruction_stops, instruction_takes, instruction_counts}
-use Rattle.parser.proofs.Counts.{scan_counted, below_le, below_default}
+use Rattle.parser.proofs.Counts.{scan_counted, below_le, below_default, all_closed}
 use Rattle.parser.proofs.Kit.{begins_as, goes_on, scan_stop, scan_end, scan_go}
 use Rattle.parser.proofs.Laws.{eof_within, at_by}
 use Rattle.forms.proofs.instruction.further_tokens.Goals as goal
 
 pub loop-nesting-init : goal.loop-nesting-init
 loop-nesting-init c = (
-  begins_as (ap (λ n. scan instruction_round (record { nesting = n; previous = c.args.previous0 })) (sym c.new-nesting.ensures)),
-  subst (NestingBelow _) (sym c.new-nesting.ensures) (below_default _ (omega arith)),
+  begins_as (ap (λ n. scan instruction_round (record { nesting = n; previous = c.args.previous0 })) (sym (all_closed _ c.default-nesting.ensures))),
+  subst (NestingBelow _) (sym (all_closed _ c.default-nesting.ensures)) (below_default _ (omega arith)),
 )
 
 pub returns-then-at_instruction_end : goal.returns-then-at_instruction_end

@@ -1,11 +1,11 @@
 -- `forms::instruction::plain_tokens`: each round is one of `scan`'s that takes the token and leaves the counts. Assumes nothing.
 use mathlib.Core.Bool.{Bool, true}
 use mathlib.Core.Path.{◌≡◌, refl, sym, ap, subst, ◌∙◌}
+use Rattle.std.specs.Prelude.{Some}
 use Prim.Native.Nat.{ℕ}
 use native.Mathlib.Omega.{arith}
 use Rattle.grammar.specs.Instruction.{instruction_round}
 use Rattle.grammar.specs.Out.{kind}
-use Rattle.grammar.specs.declared.nesting.Significant.{Significant}
 use Rattle.parser.specs.Sets.{bit}
 use Rattle.parser.proofs.Kit.{stays, ◌farther◌, scan_go}
 use Rattle.parser.proofs.Laws.{eof_within, current_in}
@@ -48,7 +48,7 @@ loop-parser-preserved c =
     let e = plain_round c.loop-parser.previous _ c.current-k.result z c.current-k.ensures b in (
       record {
         leads = λ w' l k. i.0.leads w' l
-            (scan_go instruction_round (behind c.loop-parser.previous) (behind (Significant.Kind c.current-k.result)) z e c.bump_plain-c.ensures.ran k);
+            (scan_go instruction_round (behind c.loop-parser.previous) (behind (Some c.current-k.result)) z e c.bump_plain-c.ensures.ran k);
         onward = i.0.onward farther c.bump_plain-c.ensures.ran.onward;
       },
       c.open_behind-mask.ensures,

@@ -6,15 +6,15 @@ use Rattle.grammar.specs.Line.{Expression, expr_round}
 use Rattle.grammar.specs.Nesting.{NestingBelow}
 use Rattle.grammar.specs.Run.{scan}
 use Rattle.forms.proofs.Rounds.{expr_locals, expr_next, expr_stops, expr_counts}
-use Rattle.parser.proofs.Counts.{scan_counted, below_le, below_default}
+use Rattle.parser.proofs.Counts.{scan_counted, below_le, below_default, all_closed}
 use Rattle.parser.proofs.Kit.{begins_as, goes_on, scan_stop, scan_end}
 use Rattle.parser.proofs.Laws.{eof_within}
 use Rattle.forms.proofs.line.expr_tokens.Goals as goal
 
 pub loop-nesting-init : goal.loop-nesting-init
 loop-nesting-init c = (
-  begins_as (ap (λ n. scan expr_round (record { nesting = n; saw_significant = false })) (sym c.new-nesting.ensures)),
-  subst (NestingBelow _) (sym c.new-nesting.ensures) (below_default _ (omega arith)),
+  begins_as (ap (λ n. scan expr_round (record { nesting = n; saw_significant = false })) (sym (all_closed _ c.default-nesting.ensures))),
+  subst (NestingBelow _) (sym (all_closed _ c.default-nesting.ensures)) (below_default _ (omega arith)),
 )
 
 pub returns-then-at_expr_end : goal.returns-then-at_expr_end

@@ -7,15 +7,15 @@ use Rattle.grammar.specs.Line.{ResultType, result_round, parse_signature_result_
 use Rattle.grammar.specs.Nesting.{NestingBelow}
 use Rattle.grammar.specs.Run.{scan}
 use Rattle.forms.proofs.Rounds.{result_locals, result_stops, result_counts}
-use Rattle.parser.proofs.Counts.{scan_counted, below_le, below_default}
+use Rattle.parser.proofs.Counts.{scan_counted, below_le, below_default, all_closed}
 use Rattle.parser.proofs.Kit.{bind, begins_as, goes_on, scan_stop, scan_end}
 use Rattle.parser.proofs.Laws.{eof_within}
 use Rattle.forms.proofs.line.parse_signature_result_until_line_end.Goals as goal
 
 pub loop-nesting-init : goal.loop-nesting-init
 loop-nesting-init c = (
-  begins_as (ap (λ n. scan result_round (record { nesting = n; taken = false })) (sym c.new-nesting.ensures)),
-  subst (NestingBelow _) (sym c.new-nesting.ensures) (below_default _ (omega arith)),
+  begins_as (ap (λ n. scan result_round (record { nesting = n; taken = false })) (sym (all_closed _ c.default-nesting.ensures))),
+  subst (NestingBelow _) (sym (all_closed _ c.default-nesting.ensures)) (below_default _ (omega arith)),
 )
 
 pub returns-then-at_line_end : goal.returns-then-at_line_end

@@ -15,7 +15,7 @@ returns-then-current_is c =
     let a = c.args in
     c.pair.ensures ∙ placed_yes 46 (follow 46 (lex_one DotDotDot) (lex_one DotDot)) (lex_one Dot) a.source.now a.from (sym c.current_is.ensures ∙ c.if-current_is.true)
 
-pub returns : goal.returns
-returns c =
+pub returns-else-current_is : goal.returns-else-current_is
+returns-else-current_is c =
     let a = c.args in
     one_here Dot a.from ∙ placed_no 46 (follow 46 (lex_one DotDotDot) (lex_one DotDot)) (lex_one Dot) a.from _ (sym c.current_is.ensures ∙ c.if-current_is.false)

@@ -1,13 +1,14 @@
 -- `lexer::lexer::next` meets its contract: at the class of the first byte the definition is that class's arm. Assumes nothing.
 use Prim.Native.Nat.{ℕ, ◌+◌}
-use mathlib.Core.Path.{◌≡◌, sym, ap, ◌∙◌}
+use mathlib.Core.Path.{◌≡◌, refl, sym, ap, ◌∙◌}
+use mathlib.Core.Bool.{Bool, true, false, not, ◌||◌, true≢false, false≢true}
 use mathlib.Core.List.{List}
-use native.Mathlib.Omega.{arith}
-use borrow.Author.Tests.{ne_eqb}
 use lib.ListN.{get_or, drop}
-use Rattle.lexer.specs.Chars.{class}
+use lib.Dec.{eqb}
+use Rattle.lexer.specs.Syntax.{Whitespace, Comment, SpecialIdent, QuotedIdent, Colon, Dot, Minus, Slash}
+use Rattle.lexer.specs.Chars.{class, blank, word, Cr, Letter, Digit}
 use Rattle.lexer.specs.Lexer.{arm, next}
-use Rattle.lexer.specs.Code.{placed}
+use Rattle.lexer.specs.Code.{placed, class_number, has_arm, is_alone}
 use Rattle.lexer.proofs.Laws.{one_here}
 use Rattle.lexer.proofs.lexer.next.Goals as goal
 
@@ -17,87 +18,84 @@ chosen : (source : List ℕ) (at k : ℕ) → class (get_or source at 0) ≡ k
 unfolding next
 chosen source at k e = ap (λ (j : ℕ). placed (at + 1) (arm j (get_or source at 0) (drop (at + 1) source))) (sym e)
 
--- a class that no other arm takes: one byte
-single : (k b : ℕ) (r : List ℕ) → (k ≡ 27 → ⊥) → (k ≡ 0 → ⊥) → (k ≡ 29 → ⊥) → (k ≡ 95 → ⊥) → (k ≡ 32 → ⊥) → (k ≡ 97 → ⊥) → (k ≡ 34 → ⊥) → (k ≡ 38 → ⊥) → (k ≡ 41 → ⊥) → (k ≡ 49 → ⊥) → (k ≡ 57 → ⊥) → (k ≡ 1 → ⊥) → arm k b r ≡ record { kind = k; more = 0 }
-unfolding arm
-single k b r n27 n0 n29 n95 n32 n97 n34 n38 n41 n49 n57 n1 = rw (ne_eqb k 27 n27, ne_eqb k 0 n0, ne_eqb k 29 n29, ne_eqb k 95 n95, ne_eqb k 32 n32, ne_eqb k 97 n97, ne_eqb k 34 n34, ne_eqb k 38 n38, ne_eqb k 41 n41, ne_eqb k 49 n49, ne_eqb k 57 n57, ne_eqb k 1 n1)
+neither : (t u : Bool) → t || u ≡ false → (t ≡ false) × (u ≡ false)
+neither true u e = absurd (true≢false e)
+neither false u e = (refl, e)
 
-pub returns-in-27 : goal.returns-in-27
+-- a class that has no arm: one byte
+single : (k b : ℕ) (r : List ℕ) → has_arm k ≡ false → arm k b r ≡ record { kind = k; more = 0 }
 unfolding arm
-returns-in-27 c =
-    let a = c.args in
-    c.run.ensures ∙ chosen a.source.now a.at 27 (sym c.class_in-class.ensures ∙ c.in-27.is)
+single k b r e =
+    let e0 = neither (eqb k Whitespace) _ e in
+    let e1 = neither (eqb k Cr) _ e0.1 in
+    let e2 = neither (eqb k Comment) _ e1.1 in
+    let e3 = neither (eqb k Letter) _ e2.1 in
+    let e4 = neither (eqb k SpecialIdent) _ e3.1 in
+    let e5 = neither (eqb k Digit) _ e4.1 in
+    let e6 = neither (eqb k QuotedIdent) _ e5.1 in
+    let e7 = neither (eqb k Colon) _ e6.1 in
+    let e8 = neither (eqb k Dot) _ e7.1 in
+    let e9 = neither (eqb k Minus) _ e8.1 in
+    let e10 = neither (eqb k Slash) _ e9.1 in
+    rw (e0.0, e1.0, e2.0, e3.0, e4.0, e5.0, e6.0, e7.0, e8.0, e9.0, e10.0, e10.1)
 
-pub returns-in-0 : goal.returns-in-0
+off : (t : Bool) → not t ≡ true → t ≡ false
+off true e = absurd (false≢true e)
+off false e = refl
+
+pub returns-in-Blank : goal.returns-in-Blank
 unfolding arm
-returns-in-0 c =
-    let a = c.args in
-    c.pair.ensures ∙ chosen a.source.now a.at 0 (sym c.class_in-class.ensures ∙ c.in-0.is)
+returns-in-Blank c = c.lex_while.ensures blank (λ b r h e. e) ∙ chosen c.args.source.now c.args.at _ (sym c.class_of.ensures.number ∙ ap class_number c.in-Blank.is)
 
-pub returns-in-29 : goal.returns-in-29
+pub returns-in-Cr : goal.returns-in-Cr
 unfolding arm
-returns-in-29 c =
-    let a = c.args in
-    c.comment.ensures ∙ chosen a.source.now a.at 29 (sym c.class_in-class.ensures ∙ c.in-29.is)
+returns-in-Cr c = c.pair.ensures ∙ chosen c.args.source.now c.args.at _ (sym c.class_of.ensures.number ∙ ap class_number c.in-Cr.is)
 
-pub returns-in-95 : goal.returns-in-95
+pub returns-in-Comment : goal.returns-in-Comment
 unfolding arm
-returns-in-95 c =
-    let a = c.args in
-    c.ident.ensures ∙ chosen a.source.now a.at 95 (sym c.class_in-class.ensures ∙ c.in-95.is)
+returns-in-Comment c = c.comment.ensures ∙ chosen c.args.source.now c.args.at _ (sym c.class_of.ensures.number ∙ ap class_number c.in-Comment.is)
 
-pub returns-in-32 : goal.returns-in-32
+pub returns-in-Letter : goal.returns-in-Letter
 unfolding arm
-returns-in-32 c =
-    let a = c.args in
-    c.special.ensures ∙ chosen a.source.now a.at 32 (sym c.class_in-class.ensures ∙ c.in-32.is)
+returns-in-Letter c = c.lex_while-in-Letter.ensures word (λ b r h e. e) ∙ chosen c.args.source.now c.args.at _ (sym c.class_of.ensures.number ∙ ap class_number c.in-Letter.is)
 
-pub returns-in-97 : goal.returns-in-97
+pub returns-in-Special : goal.returns-in-Special
 unfolding arm
-returns-in-97 c =
-    let a = c.args in
-    c.lex_number.ensures ∙ chosen a.source.now a.at 97 (sym c.class_in-class.ensures ∙ c.in-97.is)
+returns-in-Special c = c.special.ensures ∙ chosen c.args.source.now c.args.at _ (sym c.class_of.ensures.number ∙ ap class_number c.in-Special.is)
 
-pub returns-in-34 : goal.returns-in-34
+pub returns-in-Digit : goal.returns-in-Digit
 unfolding arm
-returns-in-34 c =
-    let a = c.args in
-    c.lex_quoted.ensures ∙ chosen a.source.now a.at 34 (sym c.class_in-class.ensures ∙ c.in-34.is)
+returns-in-Digit c = c.lex_number.ensures ∙ chosen c.args.source.now c.args.at _ (sym c.class_of.ensures.number ∙ ap class_number c.in-Digit.is)
 
-pub returns-in-38 : goal.returns-in-38
+pub returns-in-Quote : goal.returns-in-Quote
 unfolding arm
-returns-in-38 c =
-    let a = c.args in
-    c.pair-in-38.ensures ∙ chosen a.source.now a.at 38 (sym c.class_in-class.ensures ∙ c.in-38.is)
+returns-in-Quote c = c.lex_quoted.ensures ∙ chosen c.args.source.now c.args.at _ (sym c.class_of.ensures.number ∙ ap class_number c.in-Quote.is)
 
-pub returns-in-41 : goal.returns-in-41
+pub returns-in-Colon : goal.returns-in-Colon
 unfolding arm
-returns-in-41 c =
-    let a = c.args in
-    c.dot.ensures ∙ chosen a.source.now a.at 41 (sym c.class_in-class.ensures ∙ c.in-41.is)
+returns-in-Colon c = c.pair-in-Colon.ensures ∙ chosen c.args.source.now c.args.at _ (sym c.class_of.ensures.number ∙ ap class_number c.in-Colon.is)
 
-pub returns-in-49 : goal.returns-in-49
+pub returns-in-Dot : goal.returns-in-Dot
 unfolding arm
-returns-in-49 c =
-    let a = c.args in
-    c.pair-in-49.ensures ∙ chosen a.source.now a.at 49 (sym c.class_in-class.ensures ∙ c.in-49.is)
+returns-in-Dot c = c.dot.ensures ∙ chosen c.args.source.now c.args.at _ (sym c.class_of.ensures.number ∙ ap class_number c.in-Dot.is)
 
-pub returns-in-57 : goal.returns-in-57
+pub returns-in-Minus : goal.returns-in-Minus
 unfolding arm
-returns-in-57 c =
-    let a = c.args in
-    c.pair-in-57.ensures ∙ chosen a.source.now a.at 57 (sym c.class_in-class.ensures ∙ c.in-57.is)
+returns-in-Minus c = c.pair-in-Minus.ensures ∙ chosen c.args.source.now c.args.at _ (sym c.class_of.ensures.number ∙ ap class_number c.in-Minus.is)
 
-pub returns-in-1 : goal.returns-in-1
+pub returns-in-Slash : goal.returns-in-Slash
 unfolding arm
-returns-in-1 c =
-    let a = c.args in
-    c.stray.ensures ∙ chosen a.source.now a.at 1 (sym c.class_in-class.ensures ∙ c.in-1.is)
+returns-in-Slash c = c.pair-in-Slash.ensures ∙ chosen c.args.source.now c.args.at _ (sym c.class_of.ensures.number ∙ ap class_number c.in-Slash.is)
 
-pub returns-in_default : goal.returns-in_default
-returns-in_default c =
+pub returns-in-Stray : goal.returns-in-Stray
+unfolding arm
+returns-in-Stray c = c.stray.ensures ∙ chosen c.args.source.now c.args.at _ (sym c.class_of.ensures.number ∙ ap class_number c.in-Stray.is)
+
+pub returns-in-Single : goal.returns-in-Single
+returns-in-Single c =
     let a = c.args in
-    let k = c.class_in-class.result in
-    one_here k (a.at + 1)
-    ∙ ap (placed (a.at + 1)) (sym (single k (get_or a.source.now a.at 0) (drop (a.at + 1) a.source.now) (omega arith) (omega arith) (omega arith) (omega arith) (omega arith) (omega arith) (omega arith) (omega arith) (omega arith) (omega arith) (omega arith) (omega arith)))
-    ∙ chosen a.source.now a.at k (sym c.class_in-class.ensures)
+    let k = c.in-Single in
+    let alone = off _ (sym (ap is_alone k.is) ∙ c.class_of.ensures.alone) in
+    one_here _ (a.at + 1)
+    ∙ ap (placed (a.at + 1)) (sym (single _ (get_or a.source.now a.at 0) (drop (a.at + 1) a.source.now) alone))
+    ∙ chosen a.source.now a.at _ (sym c.class_of.ensures.number ∙ ap class_number k.is)

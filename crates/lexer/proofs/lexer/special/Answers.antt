@@ -1,45 +1,51 @@
 -- `lexer::lexer::special` meets its contract. Assumes nothing.
 use Prim.Native.Nat.{ℕ, ◌+◌, ◌-◌}
-use mathlib.Core.Path.{◌≡◌, refl, ap, ◌∙◌}
+use mathlib.Core.Path.{◌≡◌, ap, ◌∙◌}
 use mathlib.Core.Bool.{Bool, cond, ◌||◌}
 use mathlib.Core.List.{List}
 use native.Mathlib.Omega.{arith}
 use lib.ListN.{take, drop, length-drop}
-use Rattle.lexer.specs.declared.lexer.Token.{Token}
 use Rattle.lexer.specs.Syntax.{SpecialIdent, Error}
 use Rattle.lexer.specs.Chars.{word}
 use Rattle.lexer.specs.Lexer.{advance_while, same, kernel, exec, special}
 use Rattle.lexer.specs.Good.{advance_within}
-use Rattle.lexer.specs.Code.{placed}
+use Rattle.lexer.specs.Code.{Placed, placed}
 use Rattle.lexer.proofs.lexer.special.Goals as goal
 
 -- the token, by what its text was compared with
-named : (from end : ℕ) (r : List ℕ) (t u : Bool) → end ≡ from + advance_while word r
-    → t ≡ same (take (end - from) r) kernel → u ≡ same (take (end - from) r) exec
-    → ◌≡◌ {A = Token} (record { kind = cond (t || u) SpecialIdent Error; end = end }) (placed from (special r))
+named : (from end : ℕ) (r : List ℕ) (t : Bool) → end ≡ from + advance_while word r
+    → t ≡ (same (take (end - from) r) kernel || same (take (end - from) r) exec)
+    → ◌≡◌ {A = Placed} (record { kind = cond t SpecialIdent Error; end = end }) (placed from (special r))
 unfolding special
-named from end r t u e p q =
+named from end r t e p =
     let n : end - from ≡ advance_while word r = omega arith in
     let h : end ≡ from + (end - from) = omega arith in
     let m : ℕ = end - from in
-    let first : ◌≡◌ {A = Token} (record { kind = cond (t || u) SpecialIdent Error; end = end }) (record { kind = cond (same (take m r) kernel || same (take m r) exec) SpecialIdent Error; end = from + m }) =
-    λ i. record { kind = cond (p i || q i) SpecialIdent Error; end = h i } in
+    let first : ◌≡◌ {A = Placed} (record { kind = cond t SpecialIdent Error; end = end }) (record { kind = cond (same (take m r) kernel || same (take m r) exec) SpecialIdent Error; end = from + m }) =
+    λ i. record { kind = cond (p i) SpecialIdent Error; end = h i } in
     first ∙ ap (λ (k : ℕ). record { kind = cond (same (take k r) kernel || same (take k r) exec) SpecialIdent Error; end = from + k }) n
 
-pub slice_bounds-text-end : goal.slice_bounds-text-end
-slice_bounds-text-end c = omega (arith, c.word_end-end.ensures, advance_within word (drop c.args.from c.args.source.now), length-drop c.args.from c.args.source.now)
+pub slice_bounds-is_special-end : goal.slice_bounds-is_special-end
+slice_bounds-is_special-end c =
+    let end = c.advance_while-end.ensures word (λ b r h e. e) in
+    omega (arith, end, advance_within word (drop c.args.from c.args.source.now), length-drop c.args.from c.args.source.now)
 
-pub returns-then-same : goal.returns-then-same
-returns-then-same c =
-    let a = c.args in
-    rw c.if-same.true at (named a.from _ (drop a.from a.source.now) c.same.result _ c.word_end-end.ensures c.same.ensures refl)
+pub slice_bounds-is_special-count : goal.slice_bounds-is_special-count
+slice_bounds-is_special-count c = let end = c.advance_while-end.ensures word (λ b r h e. e) in omega arith
 
-pub returns-then-same-2 : goal.returns-then-same-2
-returns-then-same-2 c =
-    let a = c.args in
-    rw (c.if-same.false, c.if-same-2.true) at (named a.from _ (drop a.from a.source.now) c.same.result c.same-2.result c.word_end-end.ensures c.same.ensures c.same-2.ensures)
+pub slice_bounds-is_special-start : goal.slice_bounds-is_special-start
+slice_bounds-is_special-start c =
+    let end = c.advance_while-end.ensures word (λ b r h e. e) in
+    omega (arith, advance_within word (drop c.args.from c.args.source.now), length-drop c.args.from c.args.source.now)
 
-pub returns : goal.returns
-returns c =
+pub returns-then-is_special : goal.returns-then-is_special
+returns-then-is_special c =
     let a = c.args in
-    rw (c.if-same.false, c.if-same-2.false) at (named a.from _ (drop a.from a.source.now) c.same.result c.same-2.result c.word_end-end.ensures c.same.ensures c.same-2.ensures)
+    let end = c.advance_while-end.ensures word (λ b r h e. e) in
+    rw c.if-is_special.true at (named a.from _ (drop a.from a.source.now) c.is_special.result end c.is_special.ensures)
+
+pub returns-else-is_special : goal.returns-else-is_special
+returns-else-is_special c =
+    let a = c.args in
+    let end = c.advance_while-end.ensures word (λ b r h e. e) in
+    rw c.if-is_special.false at (named a.from _ (drop a.from a.source.now) c.is_special.result end c.is_special.ensures)

@@ -11,18 +11,10 @@ use Rattle.lexer.proofs.lexer.stray.Goals as goal
 pub overflow_sub-more : goal.overflow_sub-more
 overflow_sub-more c = omega (arith, c.width-more.ensures, width_pos c.args.b)
 
-pub returns-then-more-source : goal.returns-then-more-source
-unfolding stray
-returns-then-more-source c =
-    let a = c.args in
-    let w = c.width-more.ensures in
-    ap (λ (n : ℕ). record { kind = Error; end = n })
-    (omega (arith, w, width_pos a.b, length-take (pred (width a.b)) (drop a.from a.source.now), length-drop a.from a.source.now))
-
 pub returns : goal.returns
 unfolding stray
 returns c =
     let a = c.args in
     let w = c.width-more.ensures in
     ap (λ (n : ℕ). record { kind = Error; end = n })
-    (omega (arith, w, width_pos a.b, length-take (pred (width a.b)) (drop a.from a.source.now), length-drop a.from a.source.now))
+    (omega (arith, w, width_pos a.b, length-take (pred (width a.b)) (drop a.from a.source.now), length-drop a.from a.source.now, c.min.ensures))

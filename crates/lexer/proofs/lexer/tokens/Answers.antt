@@ -1,33 +1,36 @@
 -- `lexer::lexer::tokens` meets its contract: for each token its kind is written. Assumes nothing.
-use mathlib.Core.Path.{sym, ap, ◌∙◌}
+use Prim.Native.Nat.{ℕ, ◌+◌}
+use mathlib.Core.Path.{refl, sym, ap, subst, ◌∙◌}
 use native.Mathlib.Omega.{arith}
-use Rattle.lexer.specs.declared.lexer.Token.{Token as Placed}
-use Rattle.lexer.proofs.Going.{begins, ends_within, goes_on, ended}
+use lib.ListN.{length}
+use Rattle.lexer.specs.Code.{Placed, token_of}
+use Rattle.lexer.specs.Tokens.{token_kind}
+use Rattle.lexer.proofs.Going.{Going, ends_within, goes_on, ended, same_source}
 use Rattle.lexer.proofs.lexer.tokens.Goals as goal
 
-pub loop-at-init : goal.loop-at-init
-loop-at-init c = begins _ _ _ c.requires.0 c.requires.1
+pub overflow_cast-token : goal.overflow_cast-token
+overflow_cast-token c =
+    let l = c.loop-token in
+    let step = c.in-Some.ensures.steps in
+    let here = same_source c.args.source.now l.token-iterator.offset (token_of c.in-Some.token) l.invariant.2 refl step.0 step.1 in
+    omega (arith, l.invariant.3.size, (ends_within l.invariant.3 here.0 _ here.1).1)
 
-pub overflow_cast-end : goal.overflow_cast-end
-overflow_cast-end c =
-    let t = c.next-t in
-    let g = c.loop-at.invariant in
-    omega (arith, g.size, (ends_within g c.loop-at-test.true t.result t.ensures).1)
-
-pub put_token-requires : goal.put_token-requires
-put_token-requires c = let g = c.loop-at.invariant in g.kinds_len ∙ g.same_room ∙ sym g.ends_len
-
-pub loop-at-smaller : goal.loop-at-smaller
-loop-at-smaller c =
-    let t = c.next-t in
-    let g = c.loop-at.invariant in
-    omega (arith, ends_within g c.loop-at-test.true t.result t.ensures)
-
-pub loop-at-preserved : goal.loop-at-preserved
-loop-at-preserved c =
-    let t = c.next-t in
-    let p = c.put_token in
-    goes_on c.loop-at.invariant c.loop-at-test.true t.result t.ensures _ (ap (λ (x : Placed). x.kind) t.ensures) _ _ p.ensures.0 p.ensures.1
+pub loop-token-preserved : goal.loop-token-preserved
+loop-token-preserved c =
+    let a = c.args in
+    let l = c.loop-token in
+    let step = c.in-Some.ensures.steps in
+    let here = same_source a.source.now l.token-iterator.offset (token_of c.in-Some.token) l.invariant.2 refl step.0 step.1 in
+    let p = c.put_token in (
+      tt,
+      tt,
+      step.2 ∙ l.invariant.2,
+      subst (λ (at : ℕ). Going token_kind a.source.now a.kinds.now a.ends.now p.new.kinds p.new.ends at (l.n + 1)) (sym step.3)
+          (goes_on l.invariant.3 here.0 _ here.1 _ (c.from.ensures ∙ ap (λ (x : Placed). x.kind) here.1) _ _ p.ensures.0 p.ensures.1),
+    )
 
 pub returns : goal.returns
-returns c = ended c.loop-at.invariant c.loop-at-test.false
+returns c =
+    let l = c.loop-token in
+    let none = c.in-None.ensures.steps in
+    ended l.invariant.3 (omega (arith, none.0, ap length l.invariant.2))

@@ -1,76 +1,64 @@
--- `lexer::lexer::zero_led` meets its contract. Assumes nothing.
-use mathlib.Core.Path.{sym, ◌∙◌}
+-- `lexer::lexer::zero_led` meets its contract, by the byte that follows. Assumes nothing.
+use Prim.Native.Nat.{ℕ}
+use mathlib.Core.Path.{◌≡◌, refl, sym, ap, ◌∙◌}
+use mathlib.Core.Logic.{◌⊎◌, inl, inr}
+use mathlib.Core.List.{List, [], ◌∷◌}
+use borrow.Author.Rules.{rules}
+use borrow.Author.Tests.{ne_eqb}
+use lib.ListN.{drop}
 use Rattle.lexer.specs.Syntax.{Number}
 use Rattle.lexer.specs.Chars.{decimal, hex, binary}
-use Rattle.lexer.specs.Lexer.{LexRule, lex_while, follow}
-use Rattle.lexer.proofs.Laws.{placed_yes, placed_no, starts_within}
+use Rattle.lexer.specs.Lexer.{later, follow, lex_while, zero_led}
+use Rattle.lexer.specs.Code.{placed}
+use Rattle.lexer.proofs.Laws.{got_some, got_none}
+use Rattle.lexer.proofs.Quotes.{moved}
 use Rattle.lexer.proofs.lexer.zero_led.Goals as goal
+use Rattle.lexer.proofs.lexer.zero_led.Goals.{in_default-via-in-Some+in_default, in_default-via-in_default}
 
--- what is asked once `x`, `X` and `b` are not there
-abbrev after_98 : LexRule
-after_98 = follow 66 (lex_while Number binary) (lex_while Number decimal)
+-- what the definition gives, by the byte that follows
+module _ (b : ℕ) (r : List ℕ) where
+  hexadecimal : (b ≡ 120) ⊎ (b ≡ 88) → zero_led (b ∷ r) ≡ later (lex_while Number hex r)
+  unfolding follow
+  hexadecimal (inl e) = rw e
+  hexadecimal (inr e) = rw e
 
-abbrev after_88 : LexRule
-after_88 = follow 98 (lex_while Number binary) after_98
+  in_binary : (b ≡ 98) ⊎ (b ≡ 66) → zero_led (b ∷ r) ≡ later (lex_while Number binary r)
+  unfolding follow
+  in_binary (inl e) = rw e
+  in_binary (inr e) = rw e
 
-abbrev after_120 : LexRule
-after_120 = follow 88 (lex_while Number hex) after_88
+  in_decimal : (b ≡ 120 → ⊥) → (b ≡ 88 → ⊥) → (b ≡ 98 → ⊥) → (b ≡ 66 → ⊥) → zero_led (b ∷ r) ≡ lex_while Number decimal (b ∷ r)
+  unfolding follow
+  in_decimal x X y Y = rw (ne_eqb b 120 x, ne_eqb b 88 X, ne_eqb b 98 y, ne_eqb b 66 Y)
 
-pub run-requires : goal.run-requires
-run-requires c =
-    let a = c.args in
-    starts_within 120 a.source.now a.from (sym c.current_is.ensures ∙ c.if-current_is.true)
+at_end : zero_led [] ≡ lex_while Number decimal []
+unfolding follow
+at_end = refl
 
-pub returns-then-current_is : goal.returns-then-current_is
-returns-then-current_is c =
-    let a = c.args in
-    c.run.ensures
-    ∙ placed_yes 120 (lex_while Number hex) after_120 a.source.now a.from (sym c.current_is.ensures ∙ c.if-current_is.true)
+pub returns-in-Some-eq120 : goal.returns-in-Some-eq120
+returns-in-Some-eq120 c =
+    let v = c.in-Some-eq120 in
+    let g = c.get.ensures.lookup in
+    let s = got_some c.args.source.now c.args.from c.get.result v.field-0 g.0 (g.4 (search rules) 0) v.is in
+    c.lex_while.ensures hex (λ b r h e. e) ∙ sym (moved _ _) ∙ ap (placed c.args.from) (sym (ap zero_led s ∙ hexadecimal _ _ (search rules)))
 
-pub run-requires-then-current_is-2 : goal.run-requires-then-current_is-2
-run-requires-then-current_is-2 c =
-    let a = c.args in
-    starts_within 88 a.source.now a.from (sym c.current_is-2.ensures ∙ c.if-current_is-2.true)
+pub returns-in-Some-eq98 : goal.returns-in-Some-eq98
+returns-in-Some-eq98 c =
+    let v = c.in-Some-eq98 in
+    let g = c.get.ensures.lookup in
+    let s = got_some c.args.source.now c.args.from c.get.result v.field-0 g.0 (g.4 (search rules) 0) v.is in
+    c.lex_while-in-Some-eq98.ensures binary (λ b r h e. e) ∙ sym (moved _ _) ∙ ap (placed c.args.from) (sym (ap zero_led s ∙ in_binary _ _ (search rules)))
 
-pub returns-then-current_is-2 : goal.returns-then-current_is-2
-returns-then-current_is-2 c =
-    let a = c.args in
-    c.run-then-current_is-2.ensures
-    ∙ placed_yes 88 (lex_while Number hex) after_88 a.source.now a.from (sym c.current_is-2.ensures ∙ c.if-current_is-2.true)
-    ∙ placed_no 120 (lex_while Number hex) after_120 a.from _ (sym c.current_is.ensures ∙ c.if-current_is.false)
-
-pub run-requires-then-current_is-3 : goal.run-requires-then-current_is-3
-run-requires-then-current_is-3 c =
-    let a = c.args in
-    starts_within 98 a.source.now a.from (sym c.current_is-3.ensures ∙ c.if-current_is-3.true)
-
-pub returns-then-current_is-3 : goal.returns-then-current_is-3
-returns-then-current_is-3 c =
-    let a = c.args in
-    c.run-then-current_is-3.ensures
-    ∙ placed_yes 98 (lex_while Number binary) after_98 a.source.now a.from (sym c.current_is-3.ensures ∙ c.if-current_is-3.true)
-    ∙ placed_no 88 (lex_while Number hex) after_88 a.from _ (sym c.current_is-2.ensures ∙ c.if-current_is-2.false)
-    ∙ placed_no 120 (lex_while Number hex) after_120 a.from _ (sym c.current_is.ensures ∙ c.if-current_is.false)
-
-pub run-requires-then-current_is-4 : goal.run-requires-then-current_is-4
-run-requires-then-current_is-4 c =
-    let a = c.args in
-    starts_within 66 a.source.now a.from (sym c.current_is-4.ensures ∙ c.if-current_is-4.true)
-
-pub returns-then-current_is-4 : goal.returns-then-current_is-4
-returns-then-current_is-4 c =
-    let a = c.args in
-    c.run-then-current_is-4.ensures
-    ∙ placed_yes 66 (lex_while Number binary) (lex_while Number decimal) a.source.now a.from (sym c.current_is-4.ensures ∙ c.if-current_is-4.true)
-    ∙ placed_no 98 (lex_while Number binary) after_98 a.from _ (sym c.current_is-3.ensures ∙ c.if-current_is-3.false)
-    ∙ placed_no 88 (lex_while Number hex) after_88 a.from _ (sym c.current_is-2.ensures ∙ c.if-current_is-2.false)
-    ∙ placed_no 120 (lex_while Number hex) after_120 a.from _ (sym c.current_is.ensures ∙ c.if-current_is.false)
-
-pub returns : goal.returns
-returns c =
-    let a = c.args in
-    c.run-2.ensures
-    ∙ placed_no 66 (lex_while Number binary) (lex_while Number decimal) a.from _ (sym c.current_is-4.ensures ∙ c.if-current_is-4.false)
-    ∙ placed_no 98 (lex_while Number binary) after_98 a.from _ (sym c.current_is-3.ensures ∙ c.if-current_is-3.false)
-    ∙ placed_no 88 (lex_while Number hex) after_88 a.from _ (sym c.current_is-2.ensures ∙ c.if-current_is-2.false)
-    ∙ placed_no 120 (lex_while Number hex) after_120 a.from _ (sym c.current_is.ensures ∙ c.if-current_is.false)
+pub returns-in_default : goal.returns-in_default
+returns-in_default c =
+    let g = c.get.ensures.lookup in
+    let decimal_here : zero_led (drop c.args.from c.args.source.now) ≡ lex_while Number decimal (drop c.args.from c.args.source.now) = elim c.in_default.branch [
+      | in_default-via-in-Some+in_default w ↦
+          let v = w.in_default in
+          let s = got_some c.args.source.now c.args.from c.get.result v.field-0 g.0 (g.4 (search rules) 0) v.is in
+          ap zero_led s ∙ in_decimal _ _ (search rules) (search rules) (search rules) (search rules) ∙ ap (lex_while Number decimal) (sym s)
+      | in_default-via-in_default w ↦
+          let s = got_none c.args.source.now c.args.from c.get.result g.0 w.in_default.is in
+          ap zero_led s ∙ at_end ∙ ap (lex_while Number decimal) (sym s)
+    ] in
+    c.lex_while-in_default.ensures decimal (λ b r h e. e) ∙ ap (placed c.args.from) (sym decimal_here)

@@ -8,11 +8,10 @@ use borrow.Author.Rules.{rules}
 use borrow.Author.Tests.{eq-eqb, ne_eqb}
 use lib.Dec.{eqb}
 use lib.ListN.{length, drop, get_or, drop_of_length-le}
-use Rattle.lexer.specs.declared.lexer.Token.{Token}
 use Rattle.lexer.specs.Syntax.{Error, QuotedIdent, QuotedString}
 use Rattle.lexer.specs.Chars.{line_end}
 use Rattle.lexer.specs.Lexer.{Lexeme, quoted}
-use Rattle.lexer.specs.Code.{placed, kept}
+use Rattle.lexer.specs.Code.{Placed, placed, kept}
 use Rattle.lexer.proofs.Laws.{next_byte}
 use Rattle.lexer.proofs.Quotes.{moved}
 use Rattle.lexer.proofs.quoted.quote.Goals as goal
@@ -76,7 +75,7 @@ returns-then-source-at c =
     let l = c.loop-at in
     let s = c.args.source.now in
     let e = ends_with s _ a.result l.taken l.identifier_like _ (l.invariant.1 ∙ a.ensures.2) (ended s a.result l.identifier_like l.taken c.if-source-at.true) in
-    record { kind_is = sym (ap (λ (t : Token). t.kind) e); end_is = omega (arith, ap (λ (t : Token). t.end) e) }
+    record { kind_is = sym (ap (λ (t : Placed). t.kind) e); end_is = omega (arith, ap (λ (t : Placed). t.end) e) }
 
 pub returns-then-is_line_end : goal.returns-then-is_line_end
 returns-then-is_line_end c =
@@ -87,7 +86,7 @@ returns-then-is_line_end c =
     ends_with s _ a.result false l.identifier_like _
     (l.invariant.1 ∙ a.ensures.2 ∙ ap (λ (t : Bool). placed a.result (quoted t l.identifier_like (drop a.result s))) c.if-taken.false)
     (breaks s a.result l.identifier_like (search rules) (sym c.is_line_end.ensures ∙ c.if-is_line_end.true)) in
-    record { kind_is = sym (ap (λ (t : Token). t.kind) e); end_is = omega (arith, ap (λ (t : Token). t.end) e) }
+    record { kind_is = sym (ap (λ (t : Placed). t.kind) e); end_is = omega (arith, ap (λ (t : Placed). t.end) e) }
 
 pub returns-then-b-eq34 : goal.returns-then-b-eq34
 returns-then-b-eq34 c =
@@ -98,4 +97,4 @@ returns-then-b-eq34 c =
     ends_with s _ a.result false l.identifier_like _
     (l.invariant.1 ∙ a.ensures.2 ∙ ap (λ (t : Bool). placed a.result (quoted t l.identifier_like (drop a.result s))) c.if-taken.false)
     (closes s a.result l.identifier_like (search rules) (sym c.is_line_end.ensures ∙ c.if-is_line_end.false) (eq-eqb _ _ c.if-b-eq34.true)) in
-    record { kind_is = sym (ap (λ (t : Token). t.kind) e); end_is = sym (ap (λ (t : Token). t.end) e) }
+    record { kind_is = sym (ap (λ (t : Placed). t.kind) e); end_is = sym (ap (λ (t : Placed). t.end) e) }

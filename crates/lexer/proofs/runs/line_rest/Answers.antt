@@ -1,18 +1,26 @@
 -- `lexer::runs::line_rest` meets its contract: a block with no line end is passed whole. Assumes nothing.
-use mathlib.Core.Path.{refl, sym, ◌∙◌}
+use Prim.Native.Nat.{ℕ, ◌+◌, ◌-◌, ◌≤◌}
+use native.Mathlib.Nat.{zero-add}
+use mathlib.Core.Path.{◌≡◌, sym, ap, ◌∙◌}
+use mathlib.Core.Bool.{Bool}
+use mathlib.Core.List.{List}
 use native.Mathlib.Omega.{arith}
-use borrow.Author.Rules.{rules}
+use lib.ListN.{length, take, drop, length-drop}
+use lib.Seq.{length-take-le, get_or-take, get_or-drop}
+use Rattle.lexer.specs.Lexer.{in_line}
+use Rattle.lexer.specs.Code.{AllHold}
 use Rattle.lexer.proofs.Laws.{reaches_over}
 use Rattle.lexer.proofs.runs.line_rest.Goals as goal
 
-pub loop-at-init : goal.loop-at-init
-loop-at-init c = record { within = search rules; goes = refl }
-
-pub returns-then-not-in_line_within : goal.returns-then-not-in_line_within
-returns-then-not-in_line_within c = c.run_end.ensures ∙ sym c.loop-at.invariant.goes
+-- what holds of a part of the source
+part_holds : (p : ℕ → Bool) (s : List ℕ) (at n : ℕ) → at + n ≤ length s
+    → AllHold p (take (at + n - at) (drop at s)) 0 (length (take (at + n - at) (drop at s))) → AllHold p s at n
+part_holds p s at n h all = λ k l.
+    let m : ℕ = at + n - at in
+    let part : length (take m (drop at s)) ≡ m = length-take-le m (drop at s) (omega (arith, length-drop at s)) in
+    sym (ap p (get_or-take m (drop at s) k 0 (omega arith) ∙ get_or-drop at s k 0)) ∙ rw zero-add at (all k (omega arith))
 
 pub loop-at-preserved : goal.loop-at-preserved
-loop-at-preserved c = reaches_over c.loop-at.invariant 16 (omega arith) (c.in_line_within.ensures c.if-not-in_line_within.false)
-
-pub returns : goal.returns
-returns c = c.run_end-2.ensures ∙ sym c.loop-at.invariant.goes
+loop-at-preserved c =
+    let a = c.args in
+    reaches_over c.loop-at.invariant 16 (omega arith) (part_holds in_line a.source.now c.loop-at.at 16 (omega arith) (c.all_in_line.ensures c.if-not-all_in_line.false))

@@ -8,7 +8,7 @@ use Rattle.lexer.specs.Lexer.{same}
 use Rattle.grammar.specs.Words.{words, number_in}
 use Rattle.marks.specs.Marks.{extern_text}
 use Rattle.marks.specs.Code.{text_number}
-use Rattle.marks.proofs.Texts.{compared, led}
+use Rattle.marks.proofs.Texts.{compared, led, numbered}
 use Rattle.marks.proofs.word.e_word.Goals as goal
 
 abbrev else_text : List ℕ
@@ -44,12 +44,12 @@ returns-then-same c =
 
 pub returns-then-same-2 : goal.returns-then-same-2
 returns-then-same-2 c =
-    rw (c.if-same.false, c.if-same-2.true) at (answers _ c.requires c.same.ensures c.same-2.ensures refl refl)
+    rw (c.if-same.false, c.if-same-2.true) at (answers _ c.requires c.same.ensures c.same-else-same.ensures refl refl)
 
 pub returns-then-same-3 : goal.returns-then-same-3
 returns-then-same-3 c =
-    rw (c.if-same.false, c.if-same-2.false, c.if-same-3.true) at (answers _ c.requires c.same.ensures c.same-2.ensures c.same-3.ensures refl)
+    rw (c.if-same.false, c.if-same-2.false, c.if-same-3.true) at (answers _ c.requires c.same.ensures c.same-else-same.ensures c.same-else-same-2.ensures refl)
 
-pub returns : goal.returns
-returns c =
-    rw (c.if-same.false, c.if-same-2.false, c.if-same-3.false) at (answers _ c.requires c.same.ensures c.same-2.ensures c.same-3.ensures c.only.ensures)
+pub returns-else-same-3 : goal.returns-else-same-3
+returns-else-same-3 c =
+    rw (c.if-same.false, c.if-same-2.false, c.if-same-3.false) at (answers _ c.requires c.same.ensures c.same-else-same.ensures c.same-else-same-2.ensures (numbered _ _ c.only.ensures))

@@ -7,7 +7,7 @@ use lib.ListN.{length, get_or}
 use Rattle.lexer.specs.Lexer.{same}
 use Rattle.grammar.specs.Words.{words, number_in}
 use Rattle.marks.specs.Code.{text_number}
-use Rattle.marks.proofs.Texts.{compared, led}
+use Rattle.marks.proofs.Texts.{compared, led, numbered}
 use Rattle.marks.proofs.word.p_word.Goals as goal
 
 abbrev package_text : List ℕ
@@ -41,8 +41,8 @@ returns-then-same c = rw c.if-same.true at (answers _ c.requires c.same.ensures 
 
 pub returns-then-same-2 : goal.returns-then-same-2
 returns-then-same-2 c =
-    rw (c.if-same.false, c.if-same-2.true) at (answers _ c.requires c.same.ensures c.same-2.ensures refl)
+    rw (c.if-same.false, c.if-same-2.true) at (answers _ c.requires c.same.ensures c.same-else-same.ensures refl)
 
-pub returns : goal.returns
-returns c =
-    rw (c.if-same.false, c.if-same-2.false) at (answers _ c.requires c.same.ensures c.same-2.ensures c.only.ensures)
+pub returns-else-same-2 : goal.returns-else-same-2
+returns-else-same-2 c =
+    rw (c.if-same.false, c.if-same-2.false) at (answers _ c.requires c.same.ensures c.same-else-same.ensures (numbered _ _ c.only.ensures))

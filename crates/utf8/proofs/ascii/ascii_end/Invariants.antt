@@ -1,11 +1,7 @@
 -- `utf8::ascii::ascii_end` meets its contract: each block passed is 64 characters. Assumes nothing.
-use Prim.Native.Nat.{◌-◌}
-use lib.ListN.{length}
+use Prim.Native.Nat.{◌+◌, ◌*◌}
 use Rattle.utf8.specs.Passes.{Passes}
 use Rattle.utf8.proofs.ascii.ascii_end.Given as goal
 
-abbrev pub invariant-loop-at : goal.invariant-loop-at
-invariant-loop-at l = Passes l.source l.from l.at
-
-abbrev pub decreases-loop-at : goal.decreases-loop-at
-decreases-loop-at l = length l.source - l.at
+abbrev pub invariant-loop-i : goal.invariant-loop-i
+invariant-loop-i l = Passes l.source l.from (l.from + 64 * l.i)

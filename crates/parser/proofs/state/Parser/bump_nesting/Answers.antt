@@ -2,10 +2,10 @@
 use Rattle.parser.proofs.Counts.{counted_go, counted_refused}
 use Rattle.parser.proofs.state.Parser.bump_nesting.Goals as goal
 
-pub returns-in-Counts : goal.returns-in-Counts
-returns-in-Counts c =
-    counted_go _ c.bump-b.ensures c.in-Counts.is
+pub returns-in-Ok : goal.returns-in-Ok
+returns-in-Ok c =
+    counted_go _ c.bump.ensures c.in-Ok.is
 
-pub returns-in-Refused : goal.returns-in-Refused
-returns-in-Refused c =
-    counted_refused _ c.bump-b.ensures c.in-Refused.is c.error_here-d.ensures
+pub returns-in-Err : goal.returns-in-Err
+returns-in-Err c =
+    counted_refused _ c.bump.ensures c.in-Err.is c.error_here-d.ensures

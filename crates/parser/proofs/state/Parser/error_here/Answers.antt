@@ -7,6 +7,6 @@ use Rattle.parser.proofs.state.Parser.error_here.Goals as goal
 pub returns : goal.returns
 returns c =
     record {
-      ran = says _ _ c.number.ensures (say_here _ _ refl refl _ refl refl c.set_u16.ensures c.set_u32.ensures c.low_half.ensures refl refl c.one_more.ensures);
+      ran = says _ _ c.from.ensures (say_here _ _ refl refl _ refl refl c.set_in_room.ensures c.set_in_room-2.ensures c.low_half.ensures refl refl c.one_more.ensures);
       pos = refl;
     }

@@ -4,4 +4,4 @@ use Rattle.parser.proofs.Laws.{put_event}
 use Rattle.parser.proofs.state.Parser.put.Goals as goal
 
 pub returns : goal.returns
-returns c = put_event _ _ refl refl _ refl c.set_u16.ensures refl refl c.one_more.ensures refl
+returns c = put_event _ _ refl refl _ refl c.set_in_room.ensures refl refl c.one_more.ensures refl
