@@ -22,15 +22,15 @@ use Rattle.grammar.specs.Laws.LiveLine.{eats_error_token, eats_instruction}
 use Rattle.grammar.proofs.Laws.LiveBlock.{bare_while, repeat_left}
 use Rattle.grammar.specs.Laws.Stops.{stops_block}
 use Rattle.parser.specs.Rep.{World, file, remaining, Onward, Past, Wrote, Ran, RanTo}
-use Rattle.parser.proofs.Kit.{◌farther◌, answers, like_to, yes_to, no_to, done_to, bind_to, node_to, ◌then_to◌}
+use Rattle.parser.proofs.Kit.{Leads, ◌farther◌, answers, like_to, yes_to, no_to, done_to, bind_to, node_to, ◌then_to◌}
 use Rattle.parser.proofs.Expect.{take_expected}
 use Rattle.parser.proofs.Laws.{at_current, at_some}
 use Rattle.blocks.specs.declared.arm.Taken.{Taken}
 use Rattle.blocks.specs.declared.arm.Closing.{Closing}
 use Rattle.blocks.specs.declared.arm.BlockArm.{BlockArm}
-use Rattle.blocks.specs.declared.rounds.Stop.{Stop}
+use Rattle.blocks.specs.declared.rounds.Stopped.{Stopped}
 use Rattle.blocks.specs.Arms.{block_arm, inner_arm, by_block_arm, block_by, silent, taking, block_ending}
-use Rattle.blocks.specs.Shapes.{else_line, else_part, KeywordLine, FormHeader, ItemAt, Close, Finish, AtForm, Ended, BlockRounds, ParseForm}
+use Rattle.blocks.specs.Shapes.{else_line, else_part, KeywordLine, FormHeader, ItemAt, Close, Finish, BlockRounds, ParseForm}
 
 -- ---- tests of the token here
 -- a test of its number
@@ -284,29 +284,30 @@ pub repeat_here : (r : List Sym) → at control_flow r ≡ true → at (is IF) r
 repeat_here r a b c d = repeat_left r (rw (a, b, c, d))
 
 -- ---- the rounds of a block
-module _ (owner : BlockOwner) (terminators : Terminators) (depth : ℕ) (w' : World) where
-  pub rounds_onward : {w : World} (s : Stop) → BlockRounds owner terminators depth w w' s → Onward w w'
-  unfolding BlockRounds
-  rounds_onward (Stop.AtForm word) r = r.onward
-  rounds_onward (Stop.Ended outcome item) r = r.ran.ran.onward farther r.wrote.onward
+module _ {owner : BlockOwner} {terminators : Terminators} {depth : ℕ} {m w v w' : World} {word word' : Sym} {outcome₀ outcome : BlockParseOutcome} {item₀ control₀ item control : Bool} where
+  -- the rounds behind a form, which goes from w to v, are rounds from before it on
+  pub from_form : control₀ ≡ true → BlockRounds owner terminators depth m w outcome₀ item₀ control₀ word
+      → ((u : World) (r : BlockParseOutcome) → RanTo (block_in limit owner terminators depth) v u r → RanTo (block_in limit owner terminators depth) w u r)
+      → Onward w v → BlockRounds owner terminators depth v w' outcome item control word' → BlockRounds owner terminators depth m w' outcome item control word'
+  from_form e₀ r₀ f o r =
+      let a = r₀.form e₀ in
+      record {
+        onward = r₀.onward farther o farther r.onward;
+        form = λ e. let b = r.form e in record { on = λ u x h. a.on u x (f u x (b.on u x h)); arm = b.arm; first = b.first; below = b.below };
+        over = λ e. let b = r.over e in record { mid = b.mid; ran = a.on _ _ (f _ _ b.ran); wrote = b.wrote; here = b.here };
+      }
 
-  -- rounds from w on are rounds from m on, where what is left of the block at w is what was left of it at m
-  pub rounds_from : {m w : World} (s : Stop) → ((u : World) (r : BlockParseOutcome) → RanTo (block_in limit owner terminators depth) w u r → RanTo (block_in limit owner terminators depth) m u r)
-      → Onward m w → BlockRounds owner terminators depth w w' s → BlockRounds owner terminators depth m w' s
-  unfolding BlockRounds
-  rounds_from (Stop.AtForm word) f o r = record {
-    on = λ u x h. f u x (r.on u x h);
-    arm = r.arm;
-    first = r.first;
-    below = r.below;
-    onward = o farther r.onward;
-  }
-  rounds_from (Stop.Ended outcome item) f o r = record { mid = r.mid; ran = f _ _ r.ran; wrote = r.wrote; here = r.here }
+-- the same behind rounds that took tokens
+pub from_here : {owner : BlockOwner} {terminators : Terminators} {depth : ℕ} {m w w' : World} {word : Sym} {outcome : BlockParseOutcome} {item control : Bool}
+    → Leads (block_in limit owner terminators depth) m (block_in limit owner terminators depth) w → Onward m w
+    → BlockRounds owner terminators depth w w' outcome item control word → BlockRounds owner terminators depth m w' outcome item control word
+from_here l o r = record {
+  onward = o farther r.onward;
+  form = λ e. let b = r.form e in record { on = λ u x h. l.on u x (b.on u x h); arm = b.arm; first = b.first; below = b.below };
+  over = λ e. let b = r.over e in record { mid = b.mid; ran = l.on _ _ b.ran; wrote = b.wrote; here = b.here };
+}
 
-  pub at_form : {w : World} {s : Stop} (word : Sym) → s ≡ Stop.AtForm word → BlockRounds owner terminators depth w w' s → AtForm owner terminators depth w w' word
-  unfolding BlockRounds
-  at_form {w} word e r = subst (BlockRounds owner terminators depth w w') e r
-
-  pub at_end : {w : World} {s : Stop} (outcome : BlockParseOutcome) (item : Bool) → s ≡ Stop.Ended outcome item → BlockRounds owner terminators depth w w' s → Ended owner terminators depth w w' outcome item
-  unfolding BlockRounds
-  at_end {w} outcome item e r = subst (BlockRounds owner terminators depth w w') e r
+-- what block_from's loop holds: rounds up to where it began are rounds up to where it is
+pub record Going (owner : BlockOwner) (terminators : Terminators) (depth : ℕ) (w₀ : World) (s₀ : Stopped) (w : World) (s : Stopped) : Type 0 where
+  pub on : (m : World) → BlockRounds owner terminators depth m w₀ s₀.outcome s₀.item s₀.control s₀.word
+      → BlockRounds owner terminators depth m w s.outcome s.item s.control s.word

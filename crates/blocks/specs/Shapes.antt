@@ -1,5 +1,5 @@
 -- What the functions around a block do, as parts of a form: an opening, what leads up to a block, an end. Assumes nothing: these are definitions.
-use Rattle.std.specs.Prelude.{◌≡◌, Bool, true, ℕ, ◌<◌}
+use Rattle.std.specs.Prelude.{◌≡◌, Bool, true, false, ℕ, ◌<◌}
 use Rattle.grammar.specs.Words.{Sym, File, from, ELSE}
 use Rattle.grammar.specs.Look.{at_keyword, current, at_top_level_form_starter_in_block}
 use Rattle.grammar.specs.Run.{Kind, num, Error, P, pure, in_node, pick, ◌>>◌, ◌>>=◌, when◌then◌else◌}
@@ -13,7 +13,6 @@ use Rattle.grammar.specs.Line.{parse_line_tail}
 use Rattle.grammar.specs.Block.{MAX_CONTROL_FLOW_NESTING as limit, Blocks, parse_structured_header_suffixes, reached_eof, ended, block_in, parse_block}
 use Rattle.parser.specs.Rep.{World, file, remaining, Onward, Past, Wrote, Ran, RanTo}
 use Rattle.blocks.specs.declared.arm.Closing.{Closing}
-use Rattle.blocks.specs.declared.rounds.Stop.{Stop}
 use Rattle.blocks.specs.declared.arm.BlockArm.{BlockArm}
 use Rattle.blocks.specs.Arms.{block_arm, block_ending}
 
@@ -82,29 +81,30 @@ pub record AtForm (owner : BlockOwner) (terminators : Terminators) (depth : ℕ)
   pub arm : block_arm terminators (remaining w') ≡ BlockArm.Control
   pub first : word ≡ current (remaining w')
   pub below : depth < limit
-  pub onward : Onward w w'
 
 -- Or they end the block, and its closing event is written.
-pub record Ended (owner : BlockOwner) (terminators : Terminators) (depth : ℕ) (w w' : World) (outcome : BlockParseOutcome) (item : Bool) : Type 0 where
+pub record Over (owner : BlockOwner) (terminators : Terminators) (depth : ℕ) (w w' : World) (outcome : BlockParseOutcome) (item : Bool) : Type 0 where
   pub mid : World
   pub ran : RanTo (block_in limit owner terminators depth) w mid outcome
   pub wrote : Wrote 0 mid w'
   pub here : ItemAt (file w') w'.c.pos item
 
--- from w to w', where they stop
-unfoldable pub BlockRounds : BlockOwner → Terminators → ℕ → World → World → Stop → Type 0
-BlockRounds owner terminators depth w w' (Stop.AtForm word) = AtForm owner terminators depth w w' word
-BlockRounds owner terminators depth w w' (Stop.Ended outcome item) = Ended owner terminators depth w w' outcome item
+pub record BlockRounds (owner : BlockOwner) (terminators : Terminators) (depth : ℕ) (w w' : World) (outcome : BlockParseOutcome) (item control : Bool) (word : Sym) : Type 0 where
+  pub onward : Onward w w'
+  pub form : control ≡ true → AtForm owner terminators depth w w' word
+  pub over : control ≡ false → Over owner terminators depth w w' outcome item
 
 -- at a form, in whatever block
-pub record FormHere (depth : ℕ) (w w' : World) (stop : Stop) : Type 0 where
-  pub of : (owner : BlockOwner) (terminators : Terminators) → block_arm terminators (remaining w) ≡ BlockArm.Control → BlockRounds owner terminators depth w w' stop
+pub record FormHere (depth : ℕ) (w w' : World) (outcome : BlockParseOutcome) (item control : Bool) (word : Sym) : Type 0 where
+  pub onward : Onward w w'
+  pub of : (owner : BlockOwner) (terminators : Terminators) → block_arm terminators (remaining w) ≡ BlockArm.Control → BlockRounds owner terminators depth w w' outcome item control word
 
 -- the same behind the block's opening event
-pub record FirstRounds (owner : BlockOwner) (terminators : Terminators) (depth : ℕ) (w w' : World) (stop : Stop) : Type 0 where
+pub record FirstRounds (owner : BlockOwner) (terminators : Terminators) (depth : ℕ) (w w' : World) (outcome : BlockParseOutcome) (item control : Bool) (word : Sym) : Type 0 where
   pub mid : World
   pub wrote : Wrote (num Kind.Block) w mid
-  pub rounds : BlockRounds owner terminators depth mid w' stop
+  pub onward : Onward w w'
+  pub rounds : BlockRounds owner terminators depth mid w' outcome item control word
 
 -- ---- a block, and a form
 pub record ParseBlock (owner : BlockOwner) (terminators : Terminators) (depth : ℕ) (w w' : World) (outcome : BlockParseOutcome) (item : Bool) : Type 0 where

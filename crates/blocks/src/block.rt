@@ -11,7 +11,7 @@ ghost use Rattle.blocks.specs.Shapes.{ParseBlock, ParseForm};
 
 use crate::close::{BlockEnd, Form, ended_file, finish, goes_to_else, goes_to_while};
 use crate::header::{do_header, if_header, keyword_line, repeat_header, while_header};
-use crate::rounds::{BlockPlace, Stop, first_rounds, rounds};
+use crate::rounds::{BlockPlace, first_rounds, next_rounds};
 use grammar::block::{BlockOwner, Terminators};
 use grammar::words::{DO, ELSE, IF, WHILE};
 use parser::cursor::Cursor;
@@ -37,10 +37,13 @@ pub fn parse_block(
 {
     let place = BlockPlace {
         depth: depth as u16,
-        owner,
-        terminators,
+        owner: owner,
+        terminators: terminators,
     };
-    let start = Start { c: c0, place };
+    let start = Start {
+        c: c0,
+        place: place,
+    };
     block_from(parser, start)
 }
 
@@ -51,20 +54,25 @@ fn block_from(parser: &mut Parser, start: Start) -> BlockEnd
     ensures { ParseBlock start.place.owner start.place.terminators start.place.depth
         (entry parser start.c) (exit parser result.c) result.outcome result.item }
 {
+    let c0 = start.c;
     let place = start.place;
-    let mut stopped = first_rounds(parser, start.c, place);
-    loop {
-        let c = stopped.c;
-        match stopped.stop {
-            Stop::Ended(outcome, item) => return BlockEnd { c, outcome, item },
-            Stop::AtForm(word) => {
-                let f = parse_control_flow(parser, c, word, place.depth as usize + 1);
-                if f.eof {
-                    return ended_file(parser, f.c);
-                }
-                stopped = rounds(parser, f.c, place, f.item);
-            }
+    let depth = place.depth as usize;
+    let mut s = first_rounds(parser, c0, place);
+    while s.control {
+        let c = s.c;
+        let f = parse_control_flow(parser, c, s.word, depth + 1);
+        let fc = f.c;
+        if f.eof {
+            return ended_file(parser, fc);
         }
+        s = next_rounds(parser, fc, place, f.item);
+    }
+    let c = s.c;
+    let outcome = s.outcome;
+    BlockEnd {
+        c: c,
+        outcome: outcome,
+        item: s.item,
     }
 }
 
@@ -104,10 +112,13 @@ fn inner_block(
 {
     let place = BlockPlace {
         depth: depth as u16,
-        owner,
-        terminators,
+        owner: owner,
+        terminators: terminators,
     };
-    let start = Start { c: c0, place };
+    let start = Start {
+        c: c0,
+        place: place,
+    };
     block_from(parser, start)
 }
 

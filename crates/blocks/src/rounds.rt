@@ -3,10 +3,11 @@ ghost use Rattle.parser.specs.Rep.{entry, exit};
 ghost use Rattle.blocks.specs.Shapes.{ItemAt, FormHere, BlockRounds, FirstRounds};
 
 use crate::arm::{BlockArm, block_arm_here};
-use crate::close::{close, ended_file};
+use crate::close::close;
 use crate::reject::reject_excessive_control_flow_nesting;
 use crate::step::take;
 use grammar::block::{BlockOwner, BlockParseOutcome, Terminators};
+use grammar::event::CLOSE;
 use lexer::syntax::BLOCK;
 use parser::cursor::Cursor;
 use parser::look::Remembered;
@@ -23,45 +24,50 @@ pub struct BlockPlace {
     pub terminators: Terminators,
 }
 
-// Why the rounds stop: a form starts here, with its keyword, or the block has ended.
-#[derive(Clone, Copy)]
-pub enum Stop {
-    AtForm(u16),
-    Ended(BlockParseOutcome, bool),
-}
-
-// Where they stop, and why.
+// Where the rounds stop: at a form, whose keyword is `word`, or behind the block's closing event. A flag, and no enum of the two: with
+// that each level of the cycle takes 64 bytes more.
 #[derive(Clone, Copy)]
 pub struct Stopped {
     pub c: Cursor,
-    pub stop: Stop,
+    pub control: bool,
+    pub word: u16,
+    pub outcome: BlockParseOutcome,
+    pub item: bool,
 }
 
 // At a form. Past the limit the rest of the file is rejected, and the block has ended.
 fn form_here(parser: &mut Parser, c0: Cursor, depth: usize) -> Stopped
-    ensures { FormHere depth (entry parser c0) (exit parser result.c) result.stop }
+    ensures { FormHere depth
+        (entry parser c0) (exit parser result.c) result.outcome result.item result.control result.word }
 {
     if MAX_CONTROL_FLOW_NESTING <= depth {
         let d = reject_excessive_control_flow_nesting(parser, c0);
-        let e = ended_file(parser, d);
+        let e = parser.put(d, CLOSE);
         return Stopped {
-            c: e.c,
-            stop: Stop::Ended(e.outcome, e.item),
+            c: e,
+            control: false,
+            word: 0,
+            outcome: BlockParseOutcome::ReachedEof,
+            item: false,
         };
     }
     let word = parser.current(c0.pos);
     Stopped {
         c: c0,
-        stop: Stop::AtForm(word),
+        control: true,
+        word: word,
+        outcome: BlockParseOutcome::ReachedEof,
+        item: false,
     }
 }
 
 // Trivia behind what a round took is taken at once, without its tests.
 // Where `item0` holds, a form before this ended at an item that starts here. A lookahead remembered before a form holds only
 // of trivia before it, so nothing is remembered over a form.
-pub fn rounds(parser: &mut Parser, c0: Cursor, place: BlockPlace, item0: bool) -> Stopped
+fn rounds(parser: &mut Parser, c0: Cursor, place: BlockPlace, item0: bool) -> Stopped
     requires { ItemAt parser.old.kinds.now c0.pos item0 }
-    ensures { BlockRounds place.owner place.terminators place.depth (entry parser c0) (exit parser result.c) result.stop }
+    ensures { BlockRounds place.owner place.terminators place.depth
+        (entry parser c0) (exit parser result.c) result.outcome result.item result.control result.word }
 {
     let owner = place.owner;
     let terminators = place.terminators;
@@ -74,8 +80,9 @@ pub fn rounds(parser: &mut Parser, c0: Cursor, place: BlockPlace, item0: bool) -
     };
     loop {
         let seen = block_arm_here(parser, c.pos, terminators, known, item);
+        let a = seen.arm;
         known = seen.known;
-        match seen.arm {
+        match a {
             BlockArm::Takes(t) => {
                 let d = take(parser, c, t);
                 c = parser.bump_regular_trivia(d);
@@ -84,9 +91,14 @@ pub fn rounds(parser: &mut Parser, c0: Cursor, place: BlockPlace, item0: bool) -
             }
             BlockArm::Closes(k) => {
                 let e = close(parser, c, owner, k);
+                let ec = e.c;
+                let outcome = e.outcome;
                 return Stopped {
-                    c: e.c,
-                    stop: Stop::Ended(e.outcome, e.item),
+                    c: ec,
+                    control: false,
+                    word: 0,
+                    outcome: outcome,
+                    item: e.item,
                 };
             }
             BlockArm::Control => {
@@ -98,8 +110,18 @@ pub fn rounds(parser: &mut Parser, c0: Cursor, place: BlockPlace, item0: bool) -
 
 // The block's opening event, and its rounds up to the first form.
 pub fn first_rounds(parser: &mut Parser, c0: Cursor, place: BlockPlace) -> Stopped
-    ensures { FirstRounds place.owner place.terminators place.depth (entry parser c0) (exit parser result.c) result.stop }
+    ensures { FirstRounds place.owner place.terminators place.depth
+        (entry parser c0) (exit parser result.c) result.outcome result.item result.control result.word }
 {
     let c = parser.put(c0, BLOCK);
     rounds(parser, c, place, false)
+}
+
+// The rounds behind a form.
+pub fn next_rounds(parser: &mut Parser, c0: Cursor, place: BlockPlace, item0: bool) -> Stopped
+    requires { ItemAt parser.old.kinds.now c0.pos item0 }
+    ensures { BlockRounds place.owner place.terminators place.depth
+        (entry parser c0) (exit parser result.c) result.outcome result.item result.control result.word }
+{
+    rounds(parser, c0, place, item0)
 }

@@ -7,7 +7,7 @@ ghost use Rattle.parser.specs.Rep.{entry, exit, Ran, RanTo};
 
 use forms::path::parse_balanced_group;
 use grammar::message::{BlockMessage, Message};
-use lexer::syntax::{DOT, L_BRACKET};
+use lexer::syntax::{DOT, L_BRACKET, R_BRACKET};
 use parser::cursor::{Cursor, Flow};
 use parser::kinds::{in_set, is_name_like};
 use parser::sets::LITERALS;
@@ -28,8 +28,8 @@ fn suffix_operand(parser: &mut Parser, c0: Cursor) -> Flow
         let g = parse_balanced_group(
             parser,
             c0,
-            47,
-            54,
+            L_BRACKET,
+            R_BRACKET,
             Message::Block(BlockMessage::ExpectedSuffixEnd),
         );
         return Flow { c: g, ok: true };

@@ -76,7 +76,7 @@ fn put_part(
     match part {
         Part::Lexer => lexing::put_lexing(out, source, slices),
         Part::Reading => reading::put_reading(out, source, slices),
-        Part::Tree => show::put_tree(out, source, slices),
+        Part::Tree => show::write_tree(out, source, slices),
     }
 }
 

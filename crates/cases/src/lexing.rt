@@ -2,7 +2,7 @@
 use crate::filling;
 use answer::{Answer, FourNumbers};
 use cst::Slices;
-use frames::output::put_line;
+use frames::output::write_line;
 use lexer::MAX_SOURCE;
 use std::io;
 use std::io::Write;
@@ -23,12 +23,12 @@ pub fn put_lexing(out: &mut impl Write, source: &[u8], slices: &mut Slices<'_>) 
     slices.kinds.fill(filling::SHORT);
     slices.ends.fill(filling::LONG);
     match tokenize(source, slices) {
-        Ok(count) => put_line(out, &[0, count as u64])?,
+        Ok(count) => write_line(out, &[0, count as u64])?,
         Err(refusal) => {
             let row = FourNumbers::from(refusal);
-            put_line(out, &[row.status, row.first])?;
+            write_line(out, &[row.status, row.first])?;
         }
     }
-    put_line(out, slices.kinds)?;
-    put_line(out, slices.ends)
+    write_line(out, slices.kinds)?;
+    write_line(out, slices.ends)
 }

@@ -2,7 +2,7 @@
 use crate::filling;
 use answer::FourNumbers;
 use cst::Slices;
-use frames::output::put_line;
+use frames::output::write_line;
 use std::io;
 use std::io::Write;
 
@@ -24,11 +24,11 @@ pub fn put_reading(out: &mut impl Write, source: &[u8], slices: &mut Slices<'_>)
         second,
         third,
     } = FourNumbers::from(cst::parse_text(source, slices));
-    put_line(out, &[status, first, second, third])?;
-    put_line(out, slices.kinds)?;
-    put_line(out, slices.ends)?;
-    put_line(out, slices.events)?;
-    put_line(out, slices.messages)?;
-    put_line(out, slices.starts)?;
-    put_line(out, slices.stops)
+    write_line(out, &[status, first, second, third])?;
+    write_line(out, slices.kinds)?;
+    write_line(out, slices.ends)?;
+    write_line(out, slices.events)?;
+    write_line(out, slices.messages)?;
+    write_line(out, slices.starts)?;
+    write_line(out, slices.stops)
 }

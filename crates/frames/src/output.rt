@@ -21,6 +21,7 @@ pub struct Output<'a, P: Print> {
 impl<'a, P: Print> Output<'a, P> {
     pub fn new(rt: &'a P, buf: &'a mut [u8]) -> Output<'a, P>
         requires { 32 ≤ length buf.old }
+        ensures { result.used ≡ 0 }
     {
         Output { rt, buf, used: 0 }
     }
@@ -71,7 +72,7 @@ impl<P: Print> Write for Output<'_, P> {
 }
 
 // A number in decimal. None has more than twenty digits.
-pub fn put_number<W: Write>(out: &mut W, number: u64) -> io::Result<()>
+pub fn write_number<W: Write>(out: &mut W, number: u64) -> io::Result<()>
     ensures { OnOk result (Appends (W.contents out.old) (W.contents out.new) (decimal number)) }
 {
     let mut text = [0; 20];
@@ -90,7 +91,7 @@ fn put_spaced<W: Write>(out: &mut W, number: u64) -> io::Result<()>
 }
 
 // Each number of a slice behind a space.
-pub fn put_numbers<T: Copy + Into<u64>, W: Write>(out: &mut W, numbers: &[T]) -> io::Result<()>
+pub fn write_numbers<T: Copy + Into<u64>, W: Write>(out: &mut W, numbers: &[T]) -> io::Result<()>
     ensures { OnOk result ((values : List ℕ) × AllZip T.converts numbers.now values
         × Appends (W.contents out.old) (W.contents out.new) (flat_map spaced values)) }
 {
@@ -101,20 +102,20 @@ pub fn put_numbers<T: Copy + Into<u64>, W: Write>(out: &mut W, numbers: &[T]) ->
 }
 
 // The numbers of a slice as one line, with spaces between them.
-pub fn put_line<T: Copy + Into<u64>, W: Write>(out: &mut W, numbers: &[T]) -> io::Result<()>
+pub fn write_line<T: Copy + Into<u64>, W: Write>(out: &mut W, numbers: &[T]) -> io::Result<()>
     ensures { OnOk result ((values : List ℕ) × AllZip T.converts numbers.now values
         × Appends (W.contents out.old) (W.contents out.new) (number_line values)) }
 {
     let [first, rest @ ..] = numbers else {
         return out.write_all(b"\n");
     };
-    put_number(out, (*first).into())?;
-    put_numbers(out, rest)?;
+    write_number(out, (*first).into())?;
+    write_numbers(out, rest)?;
     out.write_all(b"\n")
 }
 
 // A line of a tag and numbers, each behind a space.
-pub fn put_tagged<T: Copy + Into<u64>, W: Write>(
+pub fn write_tagged<T: Copy + Into<u64>, W: Write>(
     out: &mut W,
     tag: &[u8],
     numbers: &[T],
@@ -123,6 +124,6 @@ pub fn put_tagged<T: Copy + Into<u64>, W: Write>(
         × Appends (W.contents out.old) (W.contents out.new) (tagged_line tag.now values)) }
 {
     out.write_all(tag)?;
-    put_numbers(out, numbers)?;
+    write_numbers(out, numbers)?;
     out.write_all(b"\n")
 }

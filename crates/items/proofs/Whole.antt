@@ -53,12 +53,12 @@ small F h = record {
 }
 
 -- e, m and t are what the parser left
-pub whole : (p : Parser) {w : World} {e m t : List ℕ} → e ≡ w.p.events.now → m ≡ w.p.messages.now → t ≡ w.p.starts.now → Ran root (world p start) w
+pub whole : (p : Parser) → length p.kinds.now ≤ MAX_SOURCE → {w : World} {e m t : List ℕ} → e ≡ w.p.events.now → m ≡ w.p.messages.now → t ≡ w.p.starts.now → Ran root (world p start) w
     → Parse p.kinds.now (parser_slices p.events.now p.messages.now p.starts.now start) (parser_slices e m t w.c)
 unfolding run
-whole p e-is m-is t-is h =
+whole p few e-is m-is t-is h =
     let F = p.kinds.now in
-    let r = h.sim (world p start) (begun F) (starts p) (small F p.short) in
+    let r = h.sim (world p start) (begun F) (starts p) (small F few) in
     record {
       pos = sym r.pos ∙ ap (λ (t : File). 0 + length t) (root_leaves F) ∙ omega arith;
       events = sym r.evs ∙ ap length (root_events F);

@@ -94,6 +94,7 @@ module _ {n : Nesting} {k : Sym} {w : World} (x : Result Nesting Closer) (b : x 
         is = sym (ap (counts n) q);
         below = λ i h. subst (NestingBelow (i + 1)) (ap (counts n) q) (bump_below i n h k);
         pos = refl;
+        events = refl;
       }
 
   pub counted_refused : {y : Closer} {w' : World} → x ≡ Err y → ErrorHere (number (Message.UnexpectedCloser y)) w w' → BumpNesting n k w w' n
@@ -105,4 +106,5 @@ module _ {n : Nesting} {k : Sym} {w : World} (x : Result Nesting Closer) (b : x 
         is = sym (ap (counts n) q);
         below = λ i h. subst (NestingBelow (i + 1)) (ap (counts n) q) (bump_below i n h k);
         pos = s.pos;
+        events = s.events;
       }

@@ -70,6 +70,8 @@ module _ (w w' : World) (k : w'.p.kinds ≡ w.p.kinds) (p : w'.c.pos ≡ w.c.pos
         };
     rest = remaining_is;
     pos = p;
+    messages = m;
+    starts = t;
     onward = record {
       ahead = omega (arith, p);
       tokens = tokens_is;

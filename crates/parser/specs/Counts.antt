@@ -23,3 +23,4 @@ pub record BumpNesting (n : Nesting) (k : Sym) (w w' : World) (n' : Nesting) : T
   pub is : n' ≡ counts n (bump_by n k)
   pub below : (b : ℕ) → NestingBelow b n → NestingBelow (b + 1) n'
   pub pos : w'.c.pos ≡ w.c.pos
+  pub events : w'.p.events ≡ w.p.events

@@ -80,6 +80,8 @@ pub record Wrote (v : ℕ) (w w' : World) : Type 0 where
   pub sim : (b : World) (s : State) → Rep b w s → Small (write v s) → Rep b w' (write v s)
   pub rest : remaining w' ≡ remaining w
   pub pos : w'.c.pos ≡ w.c.pos
+  pub messages : w'.p.messages ≡ w.p.messages
+  pub starts : w'.p.starts ≡ w.p.starts
   pub onward : Onward w w'
 
 -- the code goes from w to w' as f does
@@ -97,6 +99,7 @@ pub record RanTo {A : Type 0} (f : P A) (w w' : World) (r : A) : Type 0 where
 pub record ErrorHere (m : ℕ) (w w' : World) : Type 0 where
   pub ran : Ran (Run.err m) w w'
   pub pos : w'.c.pos ≡ w.c.pos
+  pub events : w'.p.events ≡ w.p.events
 
 -- the token at p is not Error, and its event is v
 pub record PlainToken (F : File) (p v : ℕ) : Type 0 where
@@ -107,3 +110,9 @@ pub record PlainToken (F : File) (p v : ℕ) : Type 0 where
 pub record Bump (w w' : World) : Type 0 where
   pub ran : Ran take_token w w'
   pub moved : w.c.pos < length (file w) → w'.c.pos ≡ w.c.pos + 1
+
+-- a token whose event is all that is written
+pub record BumpPlain (w w' : World) : Type 0 where
+  pub bumped : Bump w w'
+  pub messages : w'.p.messages ≡ w.p.messages
+  pub starts : w'.p.starts ≡ w.p.starts

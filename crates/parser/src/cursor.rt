@@ -2,7 +2,7 @@
 ghost use Rattle.std.specs.Prelude.{◌≡◌, ◌+◌, ◌<◌, ◌^◌};
 ghost use Rattle.grammar.specs.Message.{number as number_of};
 ghost use Rattle.grammar.specs.Out.{kind};
-ghost use Rattle.parser.specs.Rep.{entry, exit, Wrote, ErrorHere, PlainToken, Bump};
+ghost use Rattle.parser.specs.Rep.{entry, exit, Wrote, ErrorHere, PlainToken, Bump, BumpPlain};
 
 use crate::state::Parser;
 use grammar::event::ERROR_TOKEN;
@@ -87,7 +87,7 @@ impl Parser<'_> {
     // bump at a token that is not Error, and whose event is v.
     pub fn bump_plain(&mut self, c: Cursor, v: u16) -> Cursor
         requires { PlainToken self.old.kinds.now c.pos v }
-        ensures { Bump (entry self c) (exit self result) }
+        ensures { BumpPlain (entry self c) (exit self result) }
     {
         let next = c.pos + 1;
         let b = self.put(c, v);

@@ -1,7 +1,7 @@
 // Calls of `masm_parse_text` that the program `cases` does not make: counts of two words, and sources at the greatest length.
 #![tactic(auto)]
 
-use frames::output::{Output, put_line, put_number, put_numbers};
+use frames::output::{Output, write_line, write_number, write_numbers};
 use lexer::MAX_SOURCE;
 use std::io;
 use std::io::Write;
@@ -21,12 +21,12 @@ fn put_call(out: &mut impl Write, source: &[u8], counts: &mut [u64]) -> io::Resu
         &mut [7u32; 1],
         counts,
     );
-    put_number(out, status)?;
-    put_numbers(out, counts)?;
+    write_number(out, status)?;
+    write_numbers(out, counts)?;
     out.write_all(b"\n")?;
-    put_line(out, &kinds)?;
-    put_line(out, &ends)?;
-    put_line(out, &events)
+    write_line(out, &kinds)?;
+    write_line(out, &ends)?;
+    write_line(out, &events)
 }
 
 // The three calls: counts of two words, the whole source, and all of it but its last byte.

@@ -3,7 +3,7 @@ ghost use Rattle.std.specs.Prelude.{◌≡◌, ◌+◌, ◌≤◌, ◌<◌, min,
 ghost use Rattle.show.specs.Lines.{Marks};
 
 use crate::message::put_message;
-use frames::output::put_numbers;
+use frames::output::write_numbers;
 use std::io::Write;
 use std::{io, iter};
 
@@ -90,7 +90,7 @@ fn put_diagnostic(
 ) -> io::Result<()> {
     let Spot { line, column, .. } = walk.spot;
     out.write_all(b"!")?;
-    put_numbers(out, &[line as u64, column as u64, start.into(), end.into()])?;
+    write_numbers(out, &[line as u64, column as u64, start.into(), end.into()])?;
     out.write_all(b" ")?;
     // Where the bytes are not in the source, there is no text.
     if let Some(said) = walk.source.get(start as usize..end as usize) {

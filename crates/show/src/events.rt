@@ -1,5 +1,5 @@
 // One line for each event.
-use frames::output::put_tagged;
+use frames::output::write_tagged;
 use std::io;
 use std::io::Write;
 
@@ -32,10 +32,10 @@ pub fn put_events(out: &mut impl Write, ends: &[u32], events: &[u16]) -> io::Res
     for &entry in events {
         match Event::from(entry) {
             Event::Close => out.write_all(b"-\n")?,
-            Event::Open(kind) => put_tagged(out, b"+", &[kind])?,
+            Event::Open(kind) => write_tagged(out, b"+", &[kind])?,
             Event::Token(kind) => {
                 let end = ends.next().copied().unwrap_or(0);
-                put_tagged(out, b"=", &[kind.into(), start, end])?;
+                write_tagged(out, b"=", &[kind.into(), start, end])?;
                 start = end;
             }
         }

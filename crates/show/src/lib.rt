@@ -3,7 +3,7 @@
 
 use answer::{Answer, FourNumbers};
 use cst::Slices;
-use frames::output::put_tagged;
+use frames::output::{Output, write_tagged};
 use std::io;
 use std::io::Write;
 
@@ -23,8 +23,8 @@ fn put_row(out: &mut impl Write, answer: Answer) -> io::Result<()> {
         third,
     } = FourNumbers::from(answer);
     match answer {
-        Answer::Accepted(..) => put_tagged(out, b"ok", &[first, second, third]),
-        _ => put_tagged(out, b"no", &[status, first, second, third]),
+        Answer::Accepted(..) => write_tagged(out, b"ok", &[first, second, third]),
+        _ => write_tagged(out, b"no", &[status, first, second, third]),
     }
 }
 
@@ -48,8 +48,8 @@ fn put_lists(
     )
 }
 
-// What `tree` prints for a source, the slices being its room.
-pub fn put_tree(out: &mut impl Write, source: &[u8], slices: &mut Slices<'_>) -> io::Result<()> {
+// What `tree` prints for a source, the slices being its room, to any writer.
+pub fn write_tree(out: &mut impl Write, source: &[u8], slices: &mut Slices<'_>) -> io::Result<()> {
     if LONGEST < source.len() {
         return out.write_all(b"long\n");
     }
@@ -61,4 +61,9 @@ pub fn put_tree(out: &mut impl Write, source: &[u8], slices: &mut Slices<'_>) ->
         }
         _ => Ok(()),
     }
+}
+
+// The same to standard output, where what can't be written is lost.
+pub fn put_tree<P: Print>(out: &mut Output<'_, P>, source: &[u8], slices: &mut Slices<'_>) {
+    let _ = write_tree(out, source, slices);
 }

@@ -8,14 +8,14 @@ use std::io;
 use std::io::{Read, Write};
 
 // One byte more is read, for which the text is that there are too many.
-fn put_input(
-    out: &mut impl Write,
+fn put_input<P: Print>(
+    out: &mut Output<'_, P>,
     from: &mut impl Read,
     slices: &mut Slices<'_>,
 ) -> io::Result<()> {
     let mut source = [0u8; 2049];
     match read_input(from, &mut source) {
-        Ok(got) => show::put_tree(out, &source[..got], slices)?,
+        Ok(got) => show::put_tree(out, &source[..got], slices),
         Err(_) => out.write_all(b"unread\n")?,
     }
     out.flush()

@@ -4,8 +4,8 @@ use native.Mathlib.Omega.{arith}
 use borrow.Author.Tests.{lt-leb}
 use Rattle.blocks.specs.declared.arm.BlockArm.{BlockArm}
 use Rattle.blocks.specs.Arms.{by_block_arm}
-use Rattle.blocks.proofs.Laws.{meant, deeper, round, said_no_item, gives, at_form, at_end, rounds_onward, rounds_from, repeat_here, formed, no_condition, condition, no_else, with_else}
-use Rattle.parser.proofs.Kit.{◌farther◌, on_to, off_to, node_to, bind_to, yes_to, no_to}
+use Rattle.blocks.proofs.Laws.{meant, deeper, round, said_no_item, gives, from_form, repeat_here, formed, no_condition, condition, no_else, with_else}
+use Rattle.parser.proofs.Kit.{on_to, off_to, node_to, bind_to, yes_to, no_to}
 use Rattle.grammar.specs.Block.{MAX_CONTROL_FLOW_NESTING as limit, parse_block, parse_control_flow, do_condition, found_terminator, parse_do_while, parse_if, reached_eof, ended, parse_repeat, parse_while}
 use Rattle.grammar.specs.Words.{DO, IF, WHILE}
 use Rattle.parser.proofs.Ahead.{at_here, at_not}
@@ -16,58 +16,62 @@ use Rattle.blocks.specs.Shapes.{else_part}
 use Rattle.grammar.specs.declared.block.BlockOwner.{BlockOwner}
 use Rattle.blocks.proofs.block.+forms.Goals as goal
 
-pub block_from-loop-stopped-init : goal.block_from-loop-stopped-init
-block_from-loop-stopped-init t c = c.first_rounds-stopped.ensures
+pub block_from-overflow_cast-depth : goal.block_from-overflow_cast-depth
+block_from-overflow_cast-depth t c =
+    omega (arith, c.requires)
+
+pub block_from-loop-s-init : goal.block_from-loop-s-init
+block_from-loop-s-init t c = record { on = λ w r. r }
+
+pub block_from-overflow_add-depth : goal.block_from-overflow_add-depth
+block_from-overflow_add-depth t c =
+    omega (arith, c.requires)
 
 pub block_from-parse_control_flow-f-requires : goal.block_from-parse_control_flow-f-requires
 block_from-parse_control_flow-f-requires t c =
-    let place = c.args.start.place in
-    let i = c.loop-stopped.invariant in
-    let here = at_form place.owner place.terminators place.depth _ _ c.in-AtForm.is i.rounds in
-    let control = meant place.terminators _ BlockArm.Control refl here.arm in
-    (omega (arith, c.requires, i.wrote.pos, i.wrote.onward.tokens, here.onward), (here.first, control, omega (arith, here.below)))
+    let begun = c.first_rounds-s.ensures in
+    let rounds = c.loop-s.invariant.on _ begun.rounds in
+    let here = rounds.form c.loop-s-test.true in
+    let control = meant c.args.start.place.terminators _ BlockArm.Control refl here.arm in
+    (omega (arith, c.requires, begun.wrote.pos, rounds.onward), (here.first, control, omega (arith, here.below)))
 
 pub block_from-returns-then-f : goal.block_from-returns-then-f
 unfolding parse_block by_block_arm
 block_from-returns-then-f t c =
-    let place = c.args.start.place in
-    let i = c.loop-stopped.invariant in
-    let here = at_form place.owner place.terminators place.depth _ _ c.in-AtForm.is i.rounds in
-    let form = deeper place.depth c.parse_control_flow-f.ensures.ran in
+    let begun = c.first_rounds-s.ensures in
+    let here = (c.loop-s.invariant.on _ begun.rounds).form c.loop-s-test.true in
+    let form = deeper c.args.start.place.depth c.parse_control_flow-f.ensures.ran in
     let rest = bind_to _ form (on_to _ c.if-f.true (gives c.ended_file.ensures.1)) in
-    let inside = here.on _ _ (round place.owner place.terminators place.depth BlockArm.Control (sym here.arm) refl (off_to _ (lt-leb limit place.depth here.below) rest)) in
-    record { ran = node_to _ i.wrote inside c.ended_file.ensures.0; here = said_no_item c.ended_file.ensures.2 }
+    let inside = here.on _ _ (round c.args.start.place.owner c.args.start.place.terminators c.args.start.place.depth BlockArm.Control (sym here.arm) refl (off_to _ (lt-leb limit c.args.start.place.depth here.below) rest)) in
+    record { ran = node_to _ begun.wrote inside c.ended_file.ensures.0; here = said_no_item c.ended_file.ensures.2 }
 
-pub block_from-rounds-stopped-requires : goal.block_from-rounds-stopped-requires
-block_from-rounds-stopped-requires t c = c.parse_control_flow-f.ensures.here
+pub block_from-next_rounds-s-requires : goal.block_from-next_rounds-s-requires
+block_from-next_rounds-s-requires t c =
+    c.parse_control_flow-f.ensures.here
 
-pub block_from-loop-stopped-smaller : goal.block_from-loop-stopped-smaller
-block_from-loop-stopped-smaller t c =
-    let place = c.args.start.place in
-    omega (arith, c.parse_control_flow-f.ensures.past, c.parse_control_flow-f.ensures.ran.ran.onward.tokens, rounds_onward place.owner place.terminators place.depth _ _ c.rounds-stopped.ensures)
+pub block_from-loop-s-smaller : goal.block_from-loop-s-smaller
+block_from-loop-s-smaller t c =
+    omega (arith, c.parse_control_flow-f.ensures.past, c.next_rounds-s.ensures.onward)
 
-pub block_from-loop-stopped-preserved : goal.block_from-loop-stopped-preserved
+pub block_from-loop-s-preserved : goal.block_from-loop-s-preserved
 unfolding by_block_arm
-block_from-loop-stopped-preserved t c =
-    let place = c.args.start.place in
-    let i = c.loop-stopped.invariant in
-    let here = at_form place.owner place.terminators place.depth _ _ c.in-AtForm.is i.rounds in
-    let form = deeper place.depth c.parse_control_flow-f.ensures.ran in
+block_from-loop-s-preserved t c =
+    let form = deeper c.args.start.place.depth c.parse_control_flow-f.ensures.ran in
+    let i = c.loop-s.invariant in
     record {
-      mid = i.mid;
-      wrote = i.wrote;
-      rounds = rounds_from place.owner place.terminators place.depth _ _
-          (λ u x h. here.on u x (round place.owner place.terminators place.depth BlockArm.Control (sym here.arm) refl (off_to _ (lt-leb limit place.depth here.below) (bind_to _ form (off_to _ c.if-f.false h)))))
-          (here.onward farther c.parse_control_flow-f.ensures.ran.ran.onward) c.rounds-stopped.ensures;
+      on = λ w r.
+          let rounds = i.on w r in
+          let here = rounds.form c.loop-s-test.true in
+          from_form c.loop-s-test.true rounds (λ u x h. round c.args.start.place.owner c.args.start.place.terminators c.args.start.place.depth BlockArm.Control (sym here.arm) refl (off_to _ (lt-leb limit c.args.start.place.depth here.below) (bind_to _ form (off_to _ c.if-f.false h))))
+          c.parse_control_flow-f.ensures.ran.ran.onward c.next_rounds-s.ensures;
     }
 
-pub block_from-returns-in-Ended : goal.block_from-returns-in-Ended
+pub block_from-returns : goal.block_from-returns
 unfolding parse_block
-block_from-returns-in-Ended t c =
-    let place = c.args.start.place in
-    let i = c.loop-stopped.invariant in
-    let over = at_end place.owner place.terminators place.depth _ _ _ c.in-Ended.is i.rounds in
-    record { ran = node_to _ i.wrote over.ran over.wrote; here = over.here }
+block_from-returns t c =
+    let begun = c.first_rounds-s.ensures in
+    let over = (c.loop-s.invariant.on _ begun.rounds).over c.loop-s-test.false in
+    record { ran = node_to _ begun.wrote over.ran over.wrote; here = over.here }
 
 pub inner_block-overflow_cast-place : goal.inner_block-overflow_cast-place
 inner_block-overflow_cast-place t c =

@@ -2,7 +2,7 @@
 use Prim.Native.Nat.{◌+◌, ◌-◌, ◌*◌}
 use lib.ListN.{length}
 use Rattle.parser.specs.Rep.{world}
-use Rattle.blocks.specs.Shapes.{FirstRounds}
+use Rattle.blocks.proofs.Laws.{Going}
 use Rattle.blocks.proofs.block.+forms.Given as goal
 
 abbrev pub decreases-block_from : goal.decreases-block_from
@@ -26,9 +26,9 @@ decreases-parse_repeat l = 4 * (length l.parser.now.kinds.now - l.c0.pos)
 abbrev pub decreases-parse_while : goal.decreases-parse_while
 decreases-parse_while l = 4 * (length l.parser.now.kinds.now - l.c0.pos)
 
-abbrev pub invariant-block_from-loop-stopped : goal.invariant-block_from-loop-stopped
-invariant-block_from-loop-stopped l =
-    FirstRounds l.place.owner l.place.terminators l.place.depth (world l.fn.parser l.fn.start.c) (world l.parser l.stopped.c) l.stopped.stop
+abbrev pub invariant-block_from-loop-s : goal.invariant-block_from-loop-s
+invariant-block_from-loop-s l =
+    Going l.place.owner l.place.terminators l.place.depth (world l.initial.parser l.initial.s.c) l.initial.s (world l.parser l.s.c) l.s
 
-abbrev pub decreases-block_from-loop-stopped : goal.decreases-block_from-loop-stopped
-decreases-block_from-loop-stopped l = length l.parser.kinds.now - l.stopped.c.pos
+abbrev pub decreases-block_from-loop-s : goal.decreases-block_from-loop-s
+decreases-block_from-loop-s l = length l.parser.kinds.now - l.s.c.pos

@@ -1,4 +1,5 @@
 -- `blocks::rounds::first_rounds`: the event, and the rounds. Assumes nothing.
+use Rattle.parser.proofs.Kit.{◌farther◌}
 use Rattle.blocks.proofs.Laws.{no_item}
 use Rattle.blocks.proofs.rounds.first_rounds.Goals as goal
 
@@ -11,5 +12,6 @@ returns c =
     record {
       mid = _;
       wrote = c.put-c.ensures;
+      onward = c.put-c.ensures.onward farther c.rounds.ensures.onward;
       rounds = c.rounds.ensures;
     }

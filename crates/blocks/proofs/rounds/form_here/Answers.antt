@@ -3,36 +3,44 @@ use mathlib.Core.Path.{refl, sym}
 use native.Mathlib.Omega.{arith}
 use borrow.Author.Tests.{le-leb}
 use Rattle.grammar.specs.Block.{MAX_CONTROL_FLOW_NESTING as limit}
+use Rattle.grammar.specs.declared.block.BlockParseOutcome.{BlockParseOutcome}
 use Rattle.blocks.specs.declared.arm.BlockArm.{BlockArm}
 use Rattle.blocks.specs.Arms.{by_block_arm}
-use Rattle.blocks.specs.Shapes.{BlockRounds}
-use Rattle.blocks.proofs.Laws.{round, said_no_item, gives}
-use Rattle.parser.proofs.Kit.{stays, on_to, ◌then_to◌}
+use Rattle.blocks.proofs.Laws.{round, no_item}
+use Rattle.parser.proofs.Kit.{stays, ◌farther◌, on_to, done_to, ◌then_to◌}
+use mathlib.Core.Bool.{false≢true}
 use Rattle.blocks.proofs.rounds.form_here.Goals as goal
 
 pub returns-then-depth-ge-MAX_CONTROL_FLOW_NESTING : goal.returns-then-depth-ge-MAX_CONTROL_FLOW_NESTING
-unfolding by_block_arm BlockRounds
+unfolding by_block_arm
 returns-then-depth-ge-MAX_CONTROL_FLOW_NESTING c =
-    let end = c.ended_file-e.ensures in
-    let rejected = c.reject_excessive_control_flow_nesting-d.ensures then_to gives end.1 in
+    let o = c.reject_excessive_control_flow_nesting-d.ensures.onward farther c.put-e.ensures.onward in
     record {
+      onward = o;
       of = λ owner t e. record {
-        mid = _;
-        ran = round owner t c.args.depth BlockArm.Control (sym e) refl (on_to _ (le-leb limit c.args.depth (omega arith)) rejected);
-        wrote = end.0;
-        here = said_no_item end.2;
+        onward = o;
+        form = λ h. absurd (false≢true h);
+        over = λ h. record {
+          mid = _;
+          ran = round owner t c.args.depth BlockArm.Control (sym e) refl (on_to _ (le-leb limit c.args.depth (omega arith)) (c.reject_excessive_control_flow_nesting-d.ensures then_to done_to BlockParseOutcome.ReachedEof));
+          wrote = c.put-e.ensures;
+          here = no_item;
+        };
       };
     }
 
 pub returns : goal.returns
-unfolding BlockRounds
 returns c =
     record {
+      onward = stays;
       of = λ owner t e. record {
-        on = λ v r k. k;
-        arm = e;
-        first = c.current-word.ensures;
-        below = omega (arith, c.if-depth-ge-MAX_CONTROL_FLOW_NESTING.false);
         onward = stays;
+        form = λ h. record {
+          on = λ v r k. k;
+          arm = e;
+          first = c.current-word.ensures;
+          below = omega (arith, c.if-depth-ge-MAX_CONTROL_FLOW_NESTING.false);
+        };
+        over = λ h. absurd (false≢true (sym h));
       };
     }

@@ -5,12 +5,12 @@ use Rattle.grammar.specs.Look.{at_top_level_form_starter_in_block}
 use Rattle.blocks.specs.declared.arm.BlockArm.{BlockArm}
 use Rattle.blocks.specs.declared.arm.Closing.{Closing}
 use Rattle.blocks.specs.Arms.{by_block_arm}
-use Rattle.blocks.specs.Shapes.{BlockRounds}
-use Rattle.blocks.proofs.Laws.{meant, takes, round, absorbs, no_item, rounds_from}
+use Rattle.blocks.proofs.Laws.{meant, takes, round, absorbs, no_item, from_here}
 use Rattle.parser.proofs.Ahead.{remembers_none, remembers_later}
 use Rattle.parser.proofs.Kit.{stays, same_file, same_remaining, ◌farther◌, ◌then_to◌, begins, goes_on}
 use Rattle.parser.proofs.Laws.{past_here}
 use Rattle.grammar.specs.Block.{MAX_CONTROL_FLOW_NESTING as limit}
+use mathlib.Core.Bool.{false≢true}
 use Rattle.blocks.proofs.rounds.rounds.Goals as goal
 
 pub loop-t-init : goal.loop-t-init
@@ -41,21 +41,24 @@ loop-t-preserved c =
     )
 
 pub returns-in-Closes : goal.returns-in-Closes
-unfolding by_block_arm BlockRounds
+unfolding by_block_arm
 returns-in-Closes c =
     let told = c.in-Closes.is in
-    let end = c.close-e.ensures in
     record {
-      mid = _;
-      ran = c.loop-t.invariant.0.on _ _ (round c.args.place.owner c.args.place.terminators c.args.place.depth (BlockArm.Closes _) c.block_arm_here-seen.ensures.0 told end.ran);
-      wrote = end.wrote;
-      here = record {
-        starts = λ i. ap at_top_level_form_starter_in_block (same_remaining end.onward end.pos)
-            ∙ meant c.args.place.terminators _ (BlockArm.Closes Closing.Item) c.block_arm_here-seen.ensures.0 (told ∙ ap BlockArm.Closes (end.at_item i));
+      onward = c.loop-t.invariant.1 farther c.close-e.ensures.onward;
+      form = λ h. absurd (false≢true h);
+      over = λ h. record {
+        mid = _;
+        ran = c.loop-t.invariant.0.on _ _ (round c.args.place.owner c.args.place.terminators c.args.place.depth (BlockArm.Closes _) c.block_arm_here-seen.ensures.0 told c.close-e.ensures.ran);
+        wrote = c.close-e.ensures.wrote;
+        here = record {
+          starts = λ i. ap at_top_level_form_starter_in_block (same_remaining c.close-e.ensures.onward c.close-e.ensures.pos)
+              ∙ meant c.args.place.terminators _ (BlockArm.Closes Closing.Item) c.block_arm_here-seen.ensures.0 (told ∙ ap BlockArm.Closes (c.close-e.ensures.at_item i));
+        };
       };
     }
 
 pub returns-in-Control : goal.returns-in-Control
 returns-in-Control c =
     let here = c.form_here.ensures.of c.args.place.owner c.args.place.terminators (sym c.block_arm_here-seen.ensures.0 ∙ c.in-Control.is) in
-    rounds_from c.args.place.owner c.args.place.terminators c.args.place.depth _ c.form_here.result.stop c.loop-t.invariant.0.on c.loop-t.invariant.1 here
+    from_here c.loop-t.invariant.0 c.loop-t.invariant.1 here

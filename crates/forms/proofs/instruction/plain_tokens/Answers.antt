@@ -38,7 +38,7 @@ bump_plain-c-requires c =
 pub loop-parser-smaller : goal.loop-parser-smaller
 loop-parser-smaller c =
     let h = eof_within c.loop-parser.parser.kinds.now c.loop-parser.c.pos c.eof.ensures c.loop-parser-test.true in
-    omega (arith, h, c.bump_plain-c.ensures.moved h)
+    omega (arith, h, c.bump_plain-c.ensures.bumped.moved h)
 
 pub loop-parser-preserved : goal.loop-parser-preserved
 loop-parser-preserved c =
@@ -48,8 +48,8 @@ loop-parser-preserved c =
     let e = plain_round c.loop-parser.previous _ c.current-k.result z c.current-k.ensures b in (
       record {
         leads = λ w' l k. i.0.leads w' l
-            (scan_go instruction_round (behind c.loop-parser.previous) (behind (Some c.current-k.result)) z e c.bump_plain-c.ensures.ran k);
-        onward = i.0.onward farther c.bump_plain-c.ensures.ran.onward;
+            (scan_go instruction_round (behind c.loop-parser.previous) (behind (Some c.current-k.result)) z e c.bump_plain-c.ensures.bumped.ran k);
+        onward = i.0.onward farther c.bump_plain-c.ensures.bumped.ran.onward;
       },
       c.open_behind-mask.ensures,
     )

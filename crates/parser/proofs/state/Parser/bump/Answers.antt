@@ -11,7 +11,7 @@ returns-then-k-eq-ERROR c = record {
 }
 
 pub returns-then-p-self : goal.returns-then-p-self
-returns-then-p-self c = c.bump_plain.ensures
+returns-then-p-self c = c.bump_plain.ensures.bumped
 
 pub returns : goal.returns
 returns c = record { ran = take_end c.if-p-self.false; moved = λ h. omega arith }

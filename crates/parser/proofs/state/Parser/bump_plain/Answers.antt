@@ -4,4 +4,6 @@ use Rattle.parser.proofs.Laws.{bump_plain}
 use Rattle.parser.proofs.state.Parser.bump_plain.Goals as goal
 
 pub returns : goal.returns
-returns c = record { ran = bump_plain _ c.requires c.put-b.ensures; moved = λ h. refl }
+returns c =
+    let put = c.put-b.ensures in
+    record { bumped = record { ran = bump_plain _ c.requires put; moved = λ h. refl }; messages = put.messages; starts = put.starts }

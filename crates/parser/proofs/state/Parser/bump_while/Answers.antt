@@ -28,7 +28,7 @@ loop-self-smaller c =
     let l = c.args.last in
     let e = at_by (trivia_to l) _ refl c.is_trivia_to.ensures c.current.ensures in
     let h = at_within c.loop-self.self.kinds.now c.loop-self.c.pos (trivia_to l) e c.loop-self-test.true in
-    omega (arith, h, c.bump_plain-c.ensures.moved h)
+    omega (arith, h, c.bump_plain-c.ensures.bumped.moved h)
 
 pub loop-self-preserved : goal.loop-self-preserved
 unfolding bump_while while_round trivia_to
@@ -38,7 +38,7 @@ loop-self-preserved c =
     let b = c.bump_plain-c in
     let e = sym (at_by (trivia_to l) _ refl c.is_trivia_to.ensures c.current.ensures) ∙ c.loop-self-test.true in
     goes_on i (λ w' r k.
-    scan_go (while_round (trivia_to l)) true true (at_some (trivia_to l) _ e) (ap (λ u. cond u (go true) stop) e) b.ensures.ran k)
+    scan_go (while_round (trivia_to l)) true true (at_some (trivia_to l) _ e) (ap (λ u. cond u (go true) stop) e) b.ensures.bumped.ran k)
 
 pub returns : goal.returns
 unfolding bump_while while_round trivia_to

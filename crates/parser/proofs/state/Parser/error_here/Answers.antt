@@ -9,4 +9,5 @@ returns c =
     record {
       ran = says _ _ c.from.ensures (say_here _ _ refl refl _ refl refl c.set_in_room.ensures c.set_in_room-2.ensures c.low_half.ensures refl refl c.one_more.ensures);
       pos = refl;
+      events = refl;
     }

@@ -1,4 +1,4 @@
--- `frames::output::put_numbers`: one number more. Assumes nothing.
+-- `frames::output::write_numbers`: one number more. Assumes nothing.
 use Rattle.std.proofs.Common.{sym, ap, subst, ◌∙◌, ◌++◌, ◌∷◌, [], take}
 use Rattle.std.specs.List.{AllZip}
 use Rattle.std.proofs.lemmas.List.{take_more, flat_map_more}
@@ -6,7 +6,7 @@ use Rattle.std.proofs.lemmas.Slice.Zip.{all_zipped_more}
 use Rattle.std.specs.Io.KnownBytes.{Appends}
 use Rattle.frames.specs.Text.{spaced}
 use Rattle.frames.proofs.Text.{appends_both}
-use Rattle.frames.proofs.output.put_numbers.Goals as goal
+use Rattle.frames.proofs.output.write_numbers.Goals as goal
 
 pub loop-number-preserved : goal.loop-number-preserved
 loop-number-preserved g c =
