@@ -19,7 +19,8 @@ else
 fi
 nm -g --defined-only "$archive" | awk 'NF == 3 { print $3 }' | sort -u >"$out/defined"
 nm -u "$archive" | awk 'NF == 2 { print $2 }' | sort -u | comm -23 - "$out/defined" >"$out/needed"
-[ "$(cat "$out/defined" "$out/needed")" = $'masm_parse_text\nmemset' ] || stop "masm_cst.h tells wrong what the archive needs"
+[ "$(cat "$out/defined")" = masm_parse_text ] || stop "the archive defines another name than the call"
+[ -z "$(grep -vx memset "$out/needed")" ] || stop "masm_cst.h tells wrong what the archive needs"
 
 echo "== names"
 build print_names tests/c/print_names.c -- -O2
