@@ -4,6 +4,8 @@
 use Rattle.std.specs.Prelude.{ℕ, suc, ◌+◌, ◌*◌, Bool, cond, List, [], ◌∷◌, eqb, ltb, drop}
 use Rattle.lexer.specs.Syntax.{Ident}
 use Rattle.lexer.specs.Lexer.{same}
+use Rattle.grammar.specs.declared.words.Word.{Word}
+use Rattle.grammar.specs.declared.words.Word.TheVariants as word
 
 abbrev pub Sym : Type 0
 Sym = ℕ
@@ -22,6 +24,27 @@ MARK = 256
 -- The Ident that is the word w.
 abbrev pub key : ℕ → Sym
 key w = Ident + MARK * w
+
+-- The number of a word; `use` and `extern` never reach the grammar.
+abbrev pub word_number : Word → ℕ
+word_number word.AdvMap = 1
+word_number word.Begin = 2
+word_number word.Const = 3
+word_number word.Do = 4
+word_number word.Else = 5
+word_number word.End = 6
+word_number word.Enum = 7
+word_number word.If = 8
+word_number word.Mod = 9
+word_number word.Namespace = 10
+word_number word.Package = 11
+word_number word.Proc = 12
+word_number word.Pub = 13
+word_number word.Repeat = 14
+word_number word.Type = 15
+word_number word.While = 16
+word_number word.Use = 17
+word_number word.Extern = 18
 
 abbrev pub ADV_MAP : Sym
 ADV_MAP = key 1

@@ -11,33 +11,12 @@ use Rattle.lexer.specs.Syntax.{Ident}
 use Rattle.lexer.specs.Lexer.{Token, same, tokenize}
 use Rattle.lexer.specs.Tokens.{TokensOver, TokensFit}
 use Rattle.lexer.specs.Laws.{same_equal}
-use Rattle.grammar.specs.Words.{MARK, key, words, number_in, word_of, sym_of}
-use Rattle.marks.specs.declared.word.Word.{Word}
-use Rattle.marks.specs.declared.word.Word.TheVariants as word
+use Rattle.grammar.specs.Words.{MARK, key, words, number_in, word_of, word_number, sym_of}
+use Rattle.grammar.specs.declared.words.Word.{Word}
 use Rattle.marks.specs.declared.Read.{Read}
 use Rattle.marks.specs.Marks.{use_text, extern_text, is_refused, first_refused}
 
--- the number of a word, and of what was found
-abbrev pub word_number : Word → ℕ
-word_number word.AdvMap = 1
-word_number word.Begin = 2
-word_number word.Const = 3
-word_number word.Do = 4
-word_number word.Else = 5
-word_number word.End = 6
-word_number word.Enum = 7
-word_number word.If = 8
-word_number word.Mod = 9
-word_number word.Namespace = 10
-word_number word.Package = 11
-word_number word.Proc = 12
-word_number word.Pub = 13
-word_number word.Repeat = 14
-word_number word.Type = 15
-word_number word.While = 16
-word_number word.Use = 17
-word_number word.Extern = 18
-
+-- the number of what was found
 abbrev pub found_number : Option Word → ℕ
 found_number None = 0
 found_number (Some w) = word_number w

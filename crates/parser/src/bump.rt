@@ -1,10 +1,10 @@
 // The small steps: a run of trivia, a token that must be there, a name, a token in an Error node.
 ghost use Rattle.std.specs.Prelude.{◌≡◌, true, false, ◌<◌, drop};
-ghost use Rattle.lexer.specs.Syntax.{Whitespace};
-ghost use Rattle.grammar.specs.Words.{MARK, is};
+ghost use Rattle.lexer.specs.Syntax.{kind_number, Whitespace};
+ghost use Rattle.grammar.specs.Words.{MARK, is, key, word_number};
 ghost use Rattle.grammar.specs.Look.{at, regular_trivia, non_comment_trivia};
 ghost use Rattle.grammar.specs.Run.{when◌then◌else◌, take_token};
-ghost use Rattle.grammar.specs.Bump.{nop, bump_while, expect_kind, expect_name, error_token};
+ghost use Rattle.grammar.specs.Bump.{nop, bump_while, expect_kind, expect_keyword, expect_name, error_token};
 ghost use Rattle.parser.specs.Sets.{trivia_to};
 ghost use Rattle.parser.specs.Rep.{entry, exit, Ran, RanTo};
 
@@ -13,15 +13,14 @@ use crate::kinds::{
     NON_COMMENT_TRIVIA, REGULAR_TRIVIA, SPACE, is_name_like, is_regular_trivia, is_trivia_to,
 };
 use crate::state::Parser;
-use grammar::event::CLOSE;
 use grammar::message::Message;
-use lexer::syntax::ERROR;
+use grammar::words::Word;
+use lexer::syntax::SyntaxKind;
 
 impl Parser<'_> {
     // while the token is trivia up to `last` { bump }. Each such kind is its own event, and `current` past the last token, 0, is none.
-    fn bump_while(&mut self, c0: Cursor, last: u16) -> Cursor
-        requires { last < MARK }
-        ensures { Ran (bump_while (trivia_to last)) (entry self c0) (exit self result) }
+    fn bump_while(&mut self, c0: Cursor, last: SyntaxKind) -> Cursor
+        ensures { Ran (bump_while (trivia_to (kind_number last))) (entry self c0) (exit self result) }
     {
         let mut c = c0;
         while is_trivia_to(last, self.current(c.pos)) {
@@ -49,11 +48,11 @@ impl Parser<'_> {
         self.bump_while(c0, SPACE)
     }
 
-    // Whether the token here is of kind k, and k is not trivia.
+    // Whether the token here is the one of number k, and k is not trivia.
     fn stands_here(&self, p: usize, k: u16) -> bool
         ensures { result ≡ true → (at (is k) (drop p self.now.kinds.now) ≡ true) × (regular_trivia k ≡ false) }
     {
-        self.at_kind(p, k) && !is_regular_trivia(k)
+        self.at_symbol(p, k) && !is_regular_trivia(k)
     }
 
     // expect_kind where trivia may stand before the token.
@@ -61,7 +60,7 @@ impl Parser<'_> {
         ensures { RanTo (expect_kind k m) (entry self c0) (exit self result.c) result.ok }
     {
         let c = self.bump_regular_trivia(c0);
-        if self.at_kind(c.pos, k) {
+        if self.at_symbol(c.pos, k) {
             let d = self.bump(c);
             return Flow { c: d, ok: true };
         }
@@ -69,8 +68,8 @@ impl Parser<'_> {
         Flow { c: d, ok: false }
     }
 
-    // expect_kind and expect_keyword. Mostly the token is here.
-    pub fn expect_kind(&mut self, c0: Cursor, k: u16, m: Message) -> Flow
+    // A token that must be there, by its number. Mostly it is here.
+    fn expect_symbol(&mut self, c0: Cursor, k: u16, m: Message) -> Flow
         ensures { RanTo (expect_kind k m) (entry self c0) (exit self result.c) result.ok }
     {
         if self.stands_here(c0.pos, k) {
@@ -78,6 +77,18 @@ impl Parser<'_> {
             return Flow { c: d, ok: true };
         }
         self.expect_behind(c0, k, m)
+    }
+
+    pub fn expect_kind(&mut self, c0: Cursor, kind: SyntaxKind, m: Message) -> Flow
+        ensures { RanTo (expect_kind (kind_number kind) m) (entry self c0) (exit self result.c) result.ok }
+    {
+        self.expect_symbol(c0, u16::from(kind), m)
+    }
+
+    pub fn expect_keyword(&mut self, c0: Cursor, keyword: Word, m: Message) -> Flow
+        ensures { RanTo (expect_keyword (key (word_number keyword)) m) (entry self c0) (exit self result.c) result.ok }
+    {
+        self.expect_symbol(c0, keyword.symbol(), m)
     }
 
     // A name, or a diagnostic.
@@ -94,17 +105,17 @@ impl Parser<'_> {
     pub fn error_token(&mut self, c0: Cursor, m: Message) -> Cursor
         ensures { Ran (error_token m) (entry self c0) (exit self result) }
     {
-        let a = self.put(c0, ERROR);
+        let a = self.start_node(c0, SyntaxKind::Error);
         let b = self.error_here(a, m);
         let d = self.bump(b);
-        self.put(d, CLOSE)
+        self.finish_node(d)
     }
 
-    // if at_kind(k) { bump }
-    pub fn bump_at(&mut self, c0: Cursor, k: u16) -> Cursor
-        ensures { Ran (when at (is k) then take_token else nop) (entry self c0) (exit self result) }
+    // if at_kind(kind) { bump }
+    pub fn bump_at(&mut self, c0: Cursor, kind: SyntaxKind) -> Cursor
+        ensures { Ran (when at (is (kind_number kind)) then take_token else nop) (entry self c0) (exit self result) }
     {
-        if self.at_kind(c0.pos, k) {
+        if self.at_kind(c0.pos, kind) {
             return self.bump(c0);
         }
         c0

@@ -1,14 +1,15 @@
 // The cursor goes by value; events and diagnostics are written while there is room, and counted on.
 ghost use Rattle.std.specs.Prelude.{◌≡◌, ◌+◌, ◌<◌, ◌^◌};
+ghost use Rattle.lexer.specs.Syntax.{kind_number};
 ghost use Rattle.grammar.specs.Message.{number as number_of};
 ghost use Rattle.grammar.specs.Out.{kind};
 ghost use Rattle.parser.specs.Rep.{entry, exit, Wrote, ErrorHere, PlainToken, Bump, BumpPlain};
 
 use crate::state::Parser;
-use grammar::event::ERROR_TOKEN;
+use grammar::event::{CLOSE, ERROR_TOKEN};
 use grammar::message::Message;
 use grammar::words::MARK;
-use lexer::syntax::{ERROR, IDENT, WHITESPACE};
+use lexer::syntax::{ERROR, IDENT, SyntaxKind, WHITESPACE};
 use room::set_in_room;
 
 // By value, as docs/DECISIONS.md has it: each step hands back the next. So the loops over tokens go by it, and no iterator does.
@@ -44,8 +45,8 @@ fn low_half(n: usize) -> u32
 }
 
 impl Parser<'_> {
-    // start_node, finish_node and the event of a token
-    pub fn put(&mut self, c: Cursor, v: u16) -> Cursor
+    // One event more.
+    fn put(&mut self, c: Cursor, v: u16) -> Cursor
         ensures { Wrote v (entry self c) (exit self result) }
     {
         set_in_room(self.events, c.events, v);
@@ -54,6 +55,18 @@ impl Parser<'_> {
             events: one_more(c.events),
             diags: c.diags,
         }
+    }
+
+    pub fn start_node(&mut self, c: Cursor, kind: SyntaxKind) -> Cursor
+        ensures { Wrote (kind_number kind) (entry self c) (exit self result) }
+    {
+        self.put(c, u16::from(kind))
+    }
+
+    pub fn finish_node(&mut self, c: Cursor) -> Cursor
+        ensures { Wrote 0 (entry self c) (exit self result) }
+    {
+        self.put(c, CLOSE)
     }
 
     // The message, and the index of the token here; past the last token, their number. error_at_eof is the same at the end.

@@ -1,5 +1,6 @@
 // Classes of tokens, by their kinds and words.
 ghost use Rattle.std.specs.Prelude.{◌≡◌};
+ghost use Rattle.lexer.specs.Syntax.{kind_number};
 ghost use Rattle.grammar.specs.Look.{regular_trivia, is_trivia, non_comment_trivia, name_like, is_reserved_block_keyword};
 ghost use Rattle.grammar.specs.Look.{expects_continuation_operand as expects_operand, punctuation_continues_instruction as continues};
 ghost use Rattle.grammar.specs.Look.{starts_instruction};
@@ -8,16 +9,16 @@ ghost use Rattle.parser.specs.Ahead.{starter};
 
 use crate::sets::{NAME, OPERAND, PUNCTUATION, RESERVED, STARTER_KINDS, STARTERS};
 use grammar::words::MARK;
-use lexer::syntax::{COMMENT, DOC_COMMENT, IDENT, NEWLINE, WHITESPACE};
+use lexer::syntax::{IDENT, SyntaxKind, WHITESPACE};
 
 // The last kind of each set of trivia; the first is Whitespace.
-pub const REGULAR_TRIVIA: u16 = COMMENT;
+pub const REGULAR_TRIVIA: SyntaxKind = SyntaxKind::Comment;
 
-pub const TRIVIA: u16 = DOC_COMMENT;
+pub const TRIVIA: SyntaxKind = SyntaxKind::DocComment;
 
-pub const NON_COMMENT_TRIVIA: u16 = NEWLINE;
+pub const NON_COMMENT_TRIVIA: SyntaxKind = SyntaxKind::Newline;
 
-pub const SPACE: u16 = WHITESPACE;
+pub const SPACE: SyntaxKind = SyntaxKind::Whitespace;
 
 // Whether the bit is set.
 pub fn in_set(mask: u64, k: u16) -> bool
@@ -30,10 +31,10 @@ pub fn in_set(mask: u64, k: u16) -> bool
 }
 
 // Whether k is trivia, up to the kind `last`.
-pub fn is_trivia_to(last: u16, k: u16) -> bool
-    ensures { result ≡ trivia_to last k }
+pub fn is_trivia_to(last: SyntaxKind, k: u16) -> bool
+    ensures { result ≡ trivia_to (kind_number last) k }
 {
-    WHITESPACE <= k && k <= last
+    WHITESPACE <= k && k <= u16::from(last)
 }
 
 // Whitespace, Newline, Comment

@@ -1,7 +1,7 @@
 // Lookahead. A place in the file is a token's index; what the definitions call the list that is left starts there.
 ghost use Rattle.std.specs.Prelude.{◌≡◌, true, drop};
-ghost use Rattle.lexer.specs.Syntax.{Whitespace, Newline, DocComment, RParen};
-ghost use Rattle.grammar.specs.Words.{is};
+ghost use Rattle.lexer.specs.Syntax.{kind_number, Whitespace, Newline, DocComment, RParen};
+ghost use Rattle.grammar.specs.Words.{is, key, word_number};
 ghost use Rattle.grammar.specs.Look.{regular_trivia, is_trivia, non_comment_trivia, at, current as current_of, eof as eof_of};
 ghost use Rattle.grammar.specs.Look.{skip as skip_of, past, anyone};
 ghost use Rattle.grammar.specs.Look.{next_token_after_visibility as after_visibility, is_top_level_starter as starter_of};
@@ -17,8 +17,9 @@ use crate::kinds::{
 use crate::sets::DECLARED;
 use crate::state::Parser;
 use grammar::block::Terminators;
-use grammar::words::{ELSE, END, PUB, WHILE};
-use lexer::syntax::{DOT, L_PAREN, R_PAREN};
+use grammar::words::{PUB, Word};
+use lexer::syntax::SyntaxKind;
+use lexer::syntax::SyntaxKind::{Dot, LParen, RParen};
 
 // How far a lookahead over trivia went, and whether an item starts there: it holds of each place before `next`.
 // What is known of it speaks of a file and a place, so it stands in the contracts and in no ghost field.
@@ -45,16 +46,28 @@ impl Parser<'_> {
         0
     }
 
-    // A plain kind, or an Ident that is a word.
-    pub fn at_kind(&self, p: usize, k: u16) -> bool
+    // A plain kind, or an Ident that is a word, by its number.
+    pub(crate) fn at_symbol(&self, p: usize, k: u16) -> bool
         ensures { result ≡ at (is k) (drop p self.now.kinds.now) }
     {
         p < self.kinds.len() && k == self.kinds[p]
     }
 
+    pub fn at_kind(&self, p: usize, kind: SyntaxKind) -> bool
+        ensures { result ≡ at (is (kind_number kind)) (drop p self.now.kinds.now) }
+    {
+        self.at_symbol(p, u16::from(kind))
+    }
+
+    pub fn at_keyword(&self, p: usize, keyword: Word) -> bool
+        ensures { result ≡ at (is (key (word_number keyword))) (drop p self.now.kinds.now) }
+    {
+        self.at_symbol(p, keyword.symbol())
+    }
+
     // The first token from p on that is not trivia up to `last`.
-    pub fn skip(&self, last: u16, p: usize) -> usize
-        ensures { Found self.now.kinds.now p result (skip_of (trivia_to last) (drop p self.now.kinds.now)) }
+    pub fn skip(&self, last: SyntaxKind, p: usize) -> usize
+        ensures { Found self.now.kinds.now p result (skip_of (trivia_to (kind_number last)) (drop p self.now.kinds.now)) }
     {
         // A while: a `for`, with the greater of p and the length behind it, takes a twentieth more where trivia is looked through.
         let mut i = p;
@@ -100,7 +113,7 @@ impl Parser<'_> {
             return p;
         }
         let closer = self.next_relevant_top_level_token(p + 1);
-        if !self.at_kind(closer, R_PAREN) {
+        if !self.at_kind(closer, RParen) {
             return self.kinds.len();
         }
         self.next_relevant_top_level_token(closer + 1)
@@ -111,7 +124,7 @@ impl Parser<'_> {
         ensures { Found self.now.kinds.now p result (after_visibility (drop p self.now.kinds.now)) }
     {
         let next = self.next_relevant_top_level_token(p);
-        if !self.at_kind(next, L_PAREN) {
+        if !self.at_kind(next, LParen) {
             return next;
         }
         let inside = self.next_relevant_top_level_token(next + 1);
@@ -142,15 +155,15 @@ impl Parser<'_> {
     pub fn at_bare_while(&self, p: usize) -> bool
         ensures { result ≡ bare_while (drop p self.now.kinds.now) }
     {
-        self.at_kind(p, WHILE) && !self.at_kind(p + 1, DOT)
+        self.at_keyword(p, Word::While) && !self.at_kind(p + 1, Dot)
     }
 
     pub fn at_terminator(&self, p: usize, terminators: Terminators) -> bool
         ensures { result ≡ at_terminator terminators (drop p self.now.kinds.now) }
     {
         match terminators {
-            Terminators::End => self.at_kind(p, END),
-            Terminators::ElseEnd => self.at_kind(p, ELSE) || self.at_kind(p, END),
+            Terminators::End => self.at_keyword(p, Word::End),
+            Terminators::ElseEnd => self.at_keyword(p, Word::Else) || self.at_keyword(p, Word::End),
             Terminators::While => self.at_bare_while(p),
         }
     }
@@ -160,9 +173,9 @@ impl Parser<'_> {
         ensures { result ≡ stray_else terminators (drop p self.now.kinds.now) }
     {
         match terminators {
-            Terminators::End => self.at_kind(p, ELSE),
+            Terminators::End => self.at_keyword(p, Word::Else),
             Terminators::ElseEnd => false,
-            Terminators::While => self.at_kind(p, ELSE),
+            Terminators::While => self.at_keyword(p, Word::Else),
         }
     }
 

@@ -10,17 +10,17 @@ use Rattle.parser.proofs.state.Parser.at_bare_while.Goals as goal
 pub overflow_add-p : goal.overflow_add-p
 overflow_add-p c =
     let a = c.args in
-    let h = next_within a.self.now.kinds.now a.p (is WHILE) c.at_kind.ensures c.if-at_kind.true in
+    let h = next_within a.self.now.kinds.now a.p (is WHILE) c.at_keyword.ensures c.if-at_keyword.true in
     search rules
 
-pub returns-then-at_kind : goal.returns-then-at_kind
+pub returns-then-at_keyword : goal.returns-then-at_keyword
 unfolding at_bare_while
-returns-then-at_kind c =
+returns-then-at_keyword c =
     let a = c.args in
-    let here = c.at_kind.ensures in
-    let yes = c.if-at_kind.true in
-    rw (← here, yes, past_on a.self.now.kinds.now a.p (is WHILE) refl here yes) (ap not c.at_kind-then-at_kind.ensures)
+    let here = c.at_keyword.ensures in
+    let yes = c.if-at_keyword.true in
+    rw (← here, yes, past_on a.self.now.kinds.now a.p (is WHILE) refl here yes) (ap not c.at_kind.ensures)
 
-pub returns-else-at_kind : goal.returns-else-at_kind
+pub returns-else-at_keyword : goal.returns-else-at_keyword
 unfolding at_bare_while
-returns-else-at_kind c = rw (← c.at_kind.ensures, c.if-at_kind.false)
+returns-else-at_keyword c = rw (← c.at_keyword.ensures, c.if-at_keyword.false)

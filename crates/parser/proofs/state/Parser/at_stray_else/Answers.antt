@@ -8,7 +8,7 @@ pub returns-in-End : goal.returns-in-End
 unfolding at_stray_else
 returns-in-End c =
     let a = c.args in
-    c.at_kind.ensures ∙ sym (ap (λ t. at_stray_else t (drop a.p a.self.now.kinds.now)) c.in-End.is)
+    c.at_keyword.ensures ∙ sym (ap (λ t. at_stray_else t (drop a.p a.self.now.kinds.now)) c.in-End.is)
 
 pub returns-in-ElseEnd : goal.returns-in-ElseEnd
 unfolding at_stray_else
@@ -20,4 +20,4 @@ pub returns-in-While : goal.returns-in-While
 unfolding at_stray_else
 returns-in-While c =
     let a = c.args in
-    c.at_kind-in-While.ensures ∙ sym (ap (λ t. at_stray_else t (drop a.p a.self.now.kinds.now)) c.in-While.is)
+    c.at_keyword-in-While.ensures ∙ sym (ap (λ t. at_stray_else t (drop a.p a.self.now.kinds.now)) c.in-While.is)

@@ -16,18 +16,18 @@ pub returns-in-End : goal.returns-in-End
 unfolding at_terminator
 returns-in-End c =
     let a = c.args in
-    c.at_kind.ensures ∙ sym (ap (λ t. at_terminator t (drop a.p a.self.now.kinds.now)) c.in-End.is)
+    c.at_keyword.ensures ∙ sym (ap (λ t. at_terminator t (drop a.p a.self.now.kinds.now)) c.in-End.is)
 
 -- `else`
-pub returns-then-at_kind : goal.returns-then-at_kind
+pub returns-then-at_keyword : goal.returns-then-at_keyword
 unfolding at_terminator
-returns-then-at_kind c = rw (c.in-ElseEnd.is, either, ← c.at_kind-in-ElseEnd.ensures, c.if-at_kind.true)
+returns-then-at_keyword c = rw (c.in-ElseEnd.is, either, ← c.at_keyword-in-ElseEnd.ensures, c.if-at_keyword.true)
 
 -- `end`
-pub returns-else-at_kind : goal.returns-else-at_kind
+pub returns-else-at_keyword : goal.returns-else-at_keyword
 unfolding at_terminator
-returns-else-at_kind c =
-    rw (c.in-ElseEnd.is, either, ← c.at_kind-in-ElseEnd.ensures, c.if-at_kind.false) c.at_kind-else-at_kind.ensures
+returns-else-at_keyword c =
+    rw (c.in-ElseEnd.is, either, ← c.at_keyword-in-ElseEnd.ensures, c.if-at_keyword.false) c.at_keyword-else-at_keyword.ensures
 
 pub returns-in-While : goal.returns-in-While
 unfolding at_terminator

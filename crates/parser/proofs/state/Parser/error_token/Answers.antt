@@ -6,4 +6,4 @@ use Rattle.parser.proofs.state.Parser.error_token.Goals as goal
 pub returns : goal.returns
 unfolding error_token
 returns c =
-    node _ (c.put-a.ensures) (c.error_here-b.ensures.ran then c.bump-d.ensures.ran) (c.put.ensures)
+    node _ (c.start_node-a.ensures) (c.error_here-b.ensures.ran then c.bump-d.ensures.ran) (c.finish_node.ensures)

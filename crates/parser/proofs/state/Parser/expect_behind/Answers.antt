@@ -4,12 +4,12 @@ use Rattle.grammar.specs.Bump.{expect_kind}
 use Rattle.parser.proofs.Kit.{yes_to, no_to, done_to, ◌then_to◌}
 use Rattle.parser.proofs.state.Parser.expect_behind.Goals as goal
 
-pub returns-then-at_kind : goal.returns-then-at_kind
+pub returns-then-at_symbol : goal.returns-then-at_symbol
 unfolding expect_kind
-returns-then-at_kind c =
-    c.bump_regular_trivia-c.ensures then_to yes_to _ _ c.at_kind.ensures c.if-at_kind.true (c.bump-d.ensures.ran then_to done_to true)
+returns-then-at_symbol c =
+    c.bump_regular_trivia-c.ensures then_to yes_to _ _ c.at_symbol.ensures c.if-at_symbol.true (c.bump-d.ensures.ran then_to done_to true)
 
 pub returns : goal.returns
 unfolding expect_kind
 returns c =
-    c.bump_regular_trivia-c.ensures then_to no_to _ _ c.at_kind.ensures c.if-at_kind.false (c.error_here-d.ensures.ran then_to done_to false)
+    c.bump_regular_trivia-c.ensures then_to no_to _ _ c.at_symbol.ensures c.if-at_symbol.false (c.error_here-d.ensures.ran then_to done_to false)

@@ -1,6 +1,6 @@
--- `parser::bump::expect_kind`: the token is here, or trivia is passed first. Assumes nothing.
+-- `parser::bump::expect_symbol`: the token is here, or trivia is passed first. Assumes nothing.
 use Rattle.parser.proofs.Expect.{expected}
-use Rattle.parser.proofs.state.Parser.expect_kind.Goals as goal
+use Rattle.parser.proofs.state.Parser.expect_symbol.Goals as goal
 
 pub returns-then-stands_here : goal.returns-then-stands_here
 returns-then-stands_here c =
