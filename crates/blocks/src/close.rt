@@ -42,9 +42,9 @@ fn recover(
 ) -> Cursor
     ensures { Recover owner boundary (entry parser c0) (exit parser result) }
 {
-    let a = parser.put(c0, ERROR);
+    let a = parser.start_node(c0, SyntaxKind::Error);
     let b = parser.error_here(a, Message::Recovery(owner, boundary));
-    parser.put(b, CLOSE)
+    parser.finish_node(b)
 }
 
 // A round that ends the loop, and the block's closing event.
@@ -54,7 +54,7 @@ pub fn close(parser: &mut Parser, c0: Cursor, owner: BlockOwner, k: Closing) -> 
     match k {
         Closing::Eof => {
             let a = parser.error_here(c0, Message::MissingEnd(owner));
-            let b = parser.put(a, CLOSE);
+            let b = parser.finish_node(a);
             BlockEnd {
                 c: b,
                 outcome: BlockParseOutcome::ReachedEof,
@@ -62,7 +62,7 @@ pub fn close(parser: &mut Parser, c0: Cursor, owner: BlockOwner, k: Closing) -> 
             }
         }
         Closing::Terminator => {
-            let b = parser.put(c0, CLOSE);
+            let b = parser.finish_node(c0);
             BlockEnd {
                 c: b,
                 outcome: BlockParseOutcome::FoundTerminator,
@@ -71,7 +71,7 @@ pub fn close(parser: &mut Parser, c0: Cursor, owner: BlockOwner, k: Closing) -> 
         }
         Closing::StrayElse => {
             let a = recover(parser, c0, owner, BlockRecoveryBoundary::Else);
-            let b = parser.put(a, CLOSE);
+            let b = parser.finish_node(a);
             BlockEnd {
                 c: b,
                 outcome: BlockParseOutcome::RecoveredImplicitEnd,
@@ -80,7 +80,7 @@ pub fn close(parser: &mut Parser, c0: Cursor, owner: BlockOwner, k: Closing) -> 
         }
         Closing::Item => {
             let a = recover(parser, c0, owner, BlockRecoveryBoundary::TopLevelItem);
-            let b = parser.put(a, CLOSE);
+            let b = parser.finish_node(a);
             BlockEnd {
                 c: b,
                 outcome: BlockParseOutcome::RecoveredImplicitEnd,
@@ -94,7 +94,7 @@ pub fn close(parser: &mut Parser, c0: Cursor, owner: BlockOwner, k: Closing) -> 
 pub fn ended_file(parser: &mut Parser, c0: Cursor) -> BlockEnd
     ensures { (Wrote 0 (entry parser c0) (exit parser result.c)) × (result.outcome ≡ ReachedEof) × (result.item ≡ false) }
 {
-    let c = parser.put(c0, CLOSE);
+    let c = parser.finish_node(c0);
     BlockEnd {
         c: c,
         outcome: BlockParseOutcome::ReachedEof,
@@ -112,7 +112,7 @@ pub fn finish(parser: &mut Parser, b: BlockEnd, owner: BlockOwner) -> Form
     let outcome = b.outcome;
     match outcome {
         BlockParseOutcome::ReachedEof => {
-            let e = parser.put(c, CLOSE);
+            let e = parser.finish_node(c);
             Form {
                 c: e,
                 eof: true,
@@ -122,7 +122,7 @@ pub fn finish(parser: &mut Parser, b: BlockEnd, owner: BlockOwner) -> Form
         BlockParseOutcome::FoundTerminator => {
             let d = expect(parser, c, END, Message::MissingEnd(owner));
             let dc = d.c;
-            let e = parser.put(dc, CLOSE);
+            let e = parser.finish_node(dc);
             Form {
                 c: e,
                 eof: false,
@@ -130,7 +130,7 @@ pub fn finish(parser: &mut Parser, b: BlockEnd, owner: BlockOwner) -> Form
             }
         }
         BlockParseOutcome::RecoveredImplicitEnd => {
-            let e = parser.put(c, CLOSE);
+            let e = parser.finish_node(c);
             Form {
                 c: e,
                 eof: false,
@@ -156,7 +156,7 @@ fn reached_eof(outcome: BlockParseOutcome) -> bool
 pub fn goes_to_else(parser: &Parser, p: usize, outcome: BlockParseOutcome) -> bool
     ensures { result ≡ (not (reached_eof outcome) && at (is else_word) (drop p parser.now.kinds.now)) }
 {
-    !reached_eof(outcome) && parser.at_kind(p, ELSE)
+    !reached_eof(outcome) && parser.at_keyword(p, Word::Else)
 }
 
 // Whether the `while` follows the body of a `do`. The outcome alone tells; with the token looked at too, as for an `else`, the cycle's
@@ -164,5 +164,5 @@ pub fn goes_to_else(parser: &Parser, p: usize, outcome: BlockParseOutcome) -> bo
 pub fn goes_to_while(parser: &Parser, p: usize, outcome: BlockParseOutcome) -> bool
     ensures { result ≡ (found_terminator outcome && at (is while_word) (drop p parser.now.kinds.now)) }
 {
-    found_terminator(outcome) && parser.at_kind(p, WHILE)
+    found_terminator(outcome) && parser.at_keyword(p, Word::While)
 }

@@ -22,7 +22,7 @@ fn header(parser: &mut Parser, c0: Cursor, node: u16, keyword: u16) -> Cursor
     requires { (at (is keyword) (drop c0.pos parser.old.kinds.now) ≡ true) × (regular_trivia keyword ≡ false) }
     ensures { FormHeader node (header_of keyword) (entry parser c0) (exit parser result) }
 {
-    let a = parser.put(c0, node);
+    let a = parser.start_node(c0, node);
     let b = expect(parser, a, keyword, Message::Unreached);
     let bc = b.c;
     let s = parse_structured_header_suffixes(parser, bc);
@@ -45,7 +45,7 @@ pub fn do_header(parser: &mut Parser, c0: Cursor) -> Cursor
     requires { at (is do_word) (drop c0.pos parser.old.kinds.now) ≡ true }
     ensures { FormHeader DoWhileOp (keyword_line do_word) (entry parser c0) (exit parser result) }
 {
-    let a = parser.put(c0, DO_WHILE_OP);
+    let a = parser.start_node(c0, SyntaxKind::DoWhileOp);
     keyword_line(parser, a, DO)
 }
 

@@ -12,10 +12,10 @@ use parser::state::Parser;
 pub fn reject_excessive_control_flow_nesting(parser: &mut Parser, c0: Cursor) -> Cursor
     ensures { Ran reject (entry parser c0) (exit parser result) }
 {
-    let a = parser.put(c0, ERROR);
+    let a = parser.start_node(c0, SyntaxKind::Error);
     let mut c = parser.error_here(a, Message::Block(BlockMessage::NestingTooDeep));
     while !parser.eof(c.pos) {
         c = parser.bump(c);
     }
-    parser.put(c, CLOSE)
+    parser.finish_node(c)
 }

@@ -42,7 +42,7 @@ fn form_here(parser: &mut Parser, c0: Cursor, depth: usize) -> Stopped
 {
     if MAX_CONTROL_FLOW_NESTING <= depth {
         let d = reject_excessive_control_flow_nesting(parser, c0);
-        let e = parser.put(d, CLOSE);
+        let e = parser.finish_node(d);
         return Stopped {
             c: e,
             control: false,
@@ -113,7 +113,7 @@ pub fn first_rounds(parser: &mut Parser, c0: Cursor, place: BlockPlace) -> Stopp
     ensures { FirstRounds place.owner place.terminators place.depth
         (entry parser c0) (exit parser result.c) result.outcome result.item result.control result.word }
 {
-    let c = parser.put(c0, BLOCK);
+    let c = parser.start_node(c0, SyntaxKind::Block);
     rounds(parser, c, place, false)
 }
 

@@ -28,8 +28,8 @@ fn suffix_operand(parser: &mut Parser, c0: Cursor) -> Flow
         let g = parse_balanced_group(
             parser,
             c0,
-            L_BRACKET,
-            R_BRACKET,
+            SyntaxKind::LBracket,
+            SyntaxKind::RBracket,
             Message::Block(BlockMessage::ExpectedSuffixEnd),
         );
         return Flow { c: g, ok: true };
@@ -47,7 +47,7 @@ fn suffix_round(parser: &mut Parser, c0: Cursor) -> Flow
     ensures { RanTo suffix_round (entry parser c0) (exit parser result.c) result.ok }
 {
     let a = parser.bump_inline_whitespace(c0);
-    if !parser.at_kind(a.pos, DOT) {
+    if !parser.at_kind(a.pos, SyntaxKind::Dot) {
         return Flow { c: a, ok: false };
     }
     let b = parser.bump(a);

@@ -13,7 +13,7 @@ use parser::state::Parser;
 pub fn parse_advice_map(parser: &mut Parser, c0: Cursor) -> Cursor
     ensures { Ran parse_advice_map (entry parser c0) (exit parser result) }
 {
-    let a = parser.put(c0, ADVICE_MAP);
+    let a = parser.start_node(c0, SyntaxKind::AdviceMap);
     let b = keyword_and_name(
         parser,
         a,
@@ -32,5 +32,5 @@ pub fn parse_advice_map(parser: &mut Parser, c0: Cursor) -> Cursor
         e,
         Message::Item(ItemMessage::ExpectedAdviceMapEqual),
     );
-    parser.put(f, CLOSE)
+    parser.finish_node(f)
 }

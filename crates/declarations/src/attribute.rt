@@ -13,7 +13,7 @@ use parser::state::Parser;
 pub fn parse_attribute(parser: &mut Parser, c0: Cursor) -> Cursor
     ensures { Ran parse_attribute (entry parser c0) (exit parser result) }
 {
-    let a = parser.put(c0, ATTRIBUTE);
+    let a = parser.start_node(c0, SyntaxKind::Attribute);
     let b = keyword_and_name(
         parser,
         a,
@@ -27,7 +27,7 @@ pub fn parse_attribute(parser: &mut Parser, c0: Cursor) -> Cursor
         d,
         Message::Procedure(ProcedureMessage::ExpectedAttributeEnd),
     );
-    parser.put(e, CLOSE)
+    parser.finish_node(e)
 }
 
 // Whether an attribute was there.
@@ -35,7 +35,7 @@ fn attribute_round(parser: &mut Parser, c0: Cursor) -> Flow
     ensures { RanTo attribute_round (entry parser c0) (exit parser result.c) result.ok }
 {
     let a = parser.bump_regular_trivia(c0);
-    if parser.at_kind(a.pos, AT) {
+    if parser.at_kind(a.pos, SyntaxKind::At) {
         let b = parse_attribute(parser, a);
         return Flow { c: b, ok: true };
     }

@@ -14,7 +14,7 @@ use parser::state::Parser;
 pub fn parse_constant(parser: &mut Parser, c0: Cursor) -> Cursor
     ensures { Ran parse_constant (entry parser c0) (exit parser result) }
 {
-    let a = parser.put(c0, CONSTANT);
+    let a = parser.start_node(c0, SyntaxKind::Constant);
     let b = optional_visibility(parser, a);
     let d = keyword_and_name(
         parser,
@@ -24,5 +24,5 @@ pub fn parse_constant(parser: &mut Parser, c0: Cursor) -> Cursor
         Message::Item(ItemMessage::ExpectedConstantName),
     );
     let e = value_line(parser, d, Message::Item(ItemMessage::ExpectedConstantEqual));
-    parser.put(e, CLOSE)
+    parser.finish_node(e)
 }

@@ -14,10 +14,10 @@ use parser::state::Parser;
 pub fn parse_namespace(parser: &mut Parser, c0: Cursor) -> Cursor
     ensures { Ran parse_namespace (entry parser c0) (exit parser result) }
 {
-    let a = parser.put(c0, NAMESPACE);
-    let b = parser.expect_kind(a, NAMESPACE_WORD, Message::Unreached);
+    let a = parser.start_node(c0, SyntaxKind::Namespace);
+    let b = parser.expect_keyword(a Word::Namespace, Message::Unreached);
     let d = parser.bump_regular_trivia(b.c);
     let e = parse_path_with_message(parser, d, Message::Item(ItemMessage::ExpectedNamespacePath));
     let f = parse_line_tail(parser, e);
-    parser.put(f, CLOSE)
+    parser.finish_node(f)
 }

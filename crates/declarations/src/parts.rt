@@ -28,8 +28,8 @@ pub fn keyword_and_name(
 pub fn optional_parens(parser: &mut Parser, c0: Cursor, missing: Message) -> Cursor
     ensures { Ran (optional_parens missing) (entry parser c0) (exit parser result) }
 {
-    if parser.at_kind(c0.pos, L_PAREN) {
-        return parse_balanced_group(parser, c0, L_PAREN, R_PAREN, missing);
+    if parser.at_kind(c0.pos, SyntaxKind::LParen) {
+        return parse_balanced_group(parser, c0, SyntaxKind::LParen, SyntaxKind::RParen, missing);
     }
     c0
 }
@@ -38,7 +38,7 @@ pub fn optional_parens(parser: &mut Parser, c0: Cursor, missing: Message) -> Cur
 pub fn value_line(parser: &mut Parser, c0: Cursor, missing: Message) -> Cursor
     ensures { Ran (value_line missing) (entry parser c0) (exit parser result) }
 {
-    let a = parser.expect_kind(c0, EQUAL, missing);
+    let a = parser.expect_kind(c0 SyntaxKind::Equal, missing);
     let b = parse_expr_until_line_end(parser, a.c);
     parse_line_tail(parser, b)
 }

@@ -17,12 +17,12 @@ fn parse_results(parser: &mut Parser, c0: Cursor) -> Cursor
     let a = parser.bump_non_comment_trivia(c0);
     let b = parser.bump(a);
     let d = parser.bump_non_comment_trivia(b);
-    if parser.at_kind(d.pos, L_PAREN) {
+    if parser.at_kind(d.pos, SyntaxKind::LParen) {
         return parse_balanced_group(
             parser,
             d,
-            L_PAREN,
-            R_PAREN,
+            SyntaxKind::LParen,
+            SyntaxKind::RParen,
             Message::Procedure(ProcedureMessage::ExpectedResultsEnd),
         );
     }
@@ -32,18 +32,18 @@ fn parse_results(parser: &mut Parser, c0: Cursor) -> Cursor
 pub fn parse_signature(parser: &mut Parser, c0: Cursor) -> Cursor
     ensures { Ran parse_signature (entry parser c0) (exit parser result) }
 {
-    let a = parser.put(c0, SIGNATURE);
+    let a = parser.start_node(c0, SyntaxKind::Signature);
     let b = parse_balanced_group(
         parser,
         a,
-        L_PAREN,
-        R_PAREN,
+        SyntaxKind::LParen,
+        SyntaxKind::RParen,
         Message::Procedure(ProcedureMessage::ExpectedParametersEnd),
     );
     let next = parser.peek_after_non_comment_trivia(b.pos);
-    if parser.at_kind(next, R_ARROW) {
+    if parser.at_kind(next, SyntaxKind::RArrow) {
         let d = parse_results(parser, b);
-        return parser.put(d, CLOSE);
+        return parser.finish_node(d);
     }
-    parser.put(b, CLOSE)
+    parser.finish_node(b)
 }

@@ -15,7 +15,7 @@ use parser::state::Parser;
 pub fn parse_submodule(parser: &mut Parser, c0: Cursor) -> Cursor
     ensures { Ran parse_submodule (entry parser c0) (exit parser result) }
 {
-    let a = parser.put(c0, SUBMODULE);
+    let a = parser.start_node(c0, SyntaxKind::Submodule);
     let b = optional_visibility(parser, a);
     let d = keyword_and_name(
         parser,
@@ -25,5 +25,5 @@ pub fn parse_submodule(parser: &mut Parser, c0: Cursor) -> Cursor
         Message::Item(ItemMessage::ExpectedSubmoduleName),
     );
     let e = parse_line_tail(parser, d);
-    parser.put(e, CLOSE)
+    parser.finish_node(e)
 }

@@ -33,7 +33,7 @@ fn at_type_end(parser: &Parser, p: usize, nesting: Nesting, known: Remembered) -
     if !nesting.is_root() {
         return BodyEnd { ends: false, known };
     }
-    if !parser.at_kind(p, NEWLINE) {
+    if !parser.at_kind(p, SyntaxKind::Newline) {
         return BodyEnd { ends: false, known };
     }
     let b = parser.line_break_starts_new_top_level_item(p, known);
@@ -68,9 +68,9 @@ fn type_tokens(parser: &mut Parser, c0: Cursor) -> Cursor
 pub fn parse_type_body(parser: &mut Parser, c0: Cursor) -> Cursor
     ensures { Ran parse_type_body (entry parser c0) (exit parser result) }
 {
-    let a = parser.put(c0, TYPE_BODY);
+    let a = parser.start_node(c0, SyntaxKind::TypeBody);
     let b = type_tokens(parser, a);
-    parser.put(b, CLOSE)
+    parser.finish_node(b)
 }
 
 // parse_type_decl, behind `type` or `enum`
@@ -100,9 +100,9 @@ fn type_keyword(parser: &mut Parser, c0: Cursor) -> Cursor
 pub fn parse_type_decl(parser: &mut Parser, c0: Cursor) -> Cursor
     ensures { Ran parse_type_decl (entry parser c0) (exit parser result) }
 {
-    let a = parser.put(c0, TYPE_DECL);
+    let a = parser.start_node(c0, SyntaxKind::TypeDecl);
     let b = optional_visibility(parser, a);
     let d = parser.bump_regular_trivia(b);
     let e = type_keyword(parser, d);
-    parser.put(e, CLOSE)
+    parser.finish_node(e)
 }

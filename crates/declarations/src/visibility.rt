@@ -15,14 +15,14 @@ fn package_in_parens(parser: &mut Parser, c0: Cursor) -> Cursor
 {
     let a = parser.bump_regular_trivia(c0);
     let b = parser.bump(a);
-    let d = parser.expect_kind(
-        b,
-        PACKAGE,
+    let d = parser.expect_keyword(
+        b
+        Word::Package,
         Message::Procedure(ProcedureMessage::ExpectedPackage),
     );
     let e = parser.expect_kind(
-        d.c,
-        R_PAREN,
+        d.c
+        SyntaxKind::RParen,
         Message::Procedure(ProcedureMessage::ExpectedPackageEnd),
     );
     e.c
@@ -31,21 +31,21 @@ fn package_in_parens(parser: &mut Parser, c0: Cursor) -> Cursor
 pub fn parse_visibility(parser: &mut Parser, c0: Cursor) -> Cursor
     ensures { Ran parse_visibility (entry parser c0) (exit parser result) }
 {
-    let a = parser.put(c0, VISIBILITY);
-    let b = parser.expect_kind(a, PUB, Message::Unreached);
+    let a = parser.start_node(c0, SyntaxKind::Visibility);
+    let b = parser.expect_keyword(a Word::Pub, Message::Unreached);
     let next = parser.next_relevant_top_level_token(b.c.pos);
-    if parser.at_kind(next, L_PAREN) {
+    if parser.at_kind(next, SyntaxKind::LParen) {
         let d = package_in_parens(parser, b.c);
-        return parser.put(d, CLOSE);
+        return parser.finish_node(d);
     }
-    parser.put(b.c, CLOSE)
+    parser.finish_node(b.c)
 }
 
 // if at_keyword("pub") { parse_visibility }
 pub fn optional_visibility(parser: &mut Parser, c0: Cursor) -> Cursor
     ensures { Ran optional_visibility (entry parser c0) (exit parser result) }
 {
-    if parser.at_kind(c0.pos, PUB) {
+    if parser.at_keyword(c0.pos, Word::Pub) {
         return parse_visibility(parser, c0);
     }
     c0

@@ -12,9 +12,8 @@ ghost use Rattle.parser.specs.Rep.{entry, exit, Ran};
 ghost use Rattle.forms.specs.Instruction.{starts_next, instruction_ends, behind, open_behind, PlainTokens};
 
 use grammar::block::Terminators;
-use grammar::event::CLOSE;
 use grammar::nesting::Nesting;
-use lexer::syntax::{INSTRUCTION, WHITESPACE};
+use lexer::syntax::{SyntaxKind, WHITESPACE};
 use parser::cursor::Cursor;
 use parser::kinds::{
     expects_continuation_operand, in_set, in_words, is_trivia, punctuation_continues_instruction,
@@ -197,7 +196,7 @@ fn instruction_tokens(parser: &mut Parser, c0: Cursor) -> Cursor
 pub fn parse_instruction(parser: &mut Parser, c0: Cursor) -> Cursor
     ensures { Ran parse_instruction (entry parser c0) (exit parser result) }
 {
-    let a = parser.put(c0, INSTRUCTION);
+    let a = parser.start_node(c0, SyntaxKind::Instruction);
     let b = instruction_tokens(parser, a);
-    parser.put(b, CLOSE)
+    parser.finish_node(b)
 }

@@ -7,10 +7,9 @@ ghost use Rattle.grammar.specs.Line.{parse_signature_result_until_line_end};
 ghost use Rattle.parser.specs.Rep.{entry, exit, Ran};
 ghost use Rattle.forms.specs.Line.{line_ends, expr_ends, result_end};
 
-use grammar::event::CLOSE;
 use grammar::message::{Message, ProcedureMessage};
 use grammar::nesting::Nesting;
-use lexer::syntax::{COMMENT, EXPR, WHITESPACE};
+use lexer::syntax::SyntaxKind;
 use parser::cursor::Cursor;
 use parser::kinds::{in_set, is_trivia};
 use parser::sets::LINE_END;
@@ -21,10 +20,10 @@ pub fn parse_line_tail(parser: &mut Parser, c0: Cursor) -> Cursor
     ensures { Ran parse_line_tail (entry parser c0) (exit parser result) }
 {
     let mut c = c0;
-    while parser.at_kind(c.pos, WHITESPACE) {
+    while parser.at_kind(c.pos, SyntaxKind::Whitespace) {
         c = parser.bump(c);
     }
-    if parser.at_kind(c.pos, COMMENT) {
+    if parser.at_kind(c.pos, SyntaxKind::Comment) {
         return parser.bump(c);
     }
     c
@@ -62,7 +61,7 @@ fn at_expr_end(parser: &Parser, p: usize, nesting: Nesting, saw: bool) -> bool
     if !saw {
         return false;
     }
-    if !parser.at_kind(p, WHITESPACE) {
+    if !parser.at_kind(p, SyntaxKind::Whitespace) {
         return false;
     }
     let next = parser.next_relevant_top_level_token(p + 1);
@@ -92,9 +91,9 @@ pub fn parse_expr_until_line_end(parser: &mut Parser, c0: Cursor) -> Cursor
     ensures { Ran parse_expr_until_line_end (entry parser c0) (exit parser result) }
 {
     let a = parser.bump_regular_trivia(c0);
-    let b = parser.put(a, EXPR);
+    let b = parser.start_node(a, SyntaxKind::Expr);
     let d = expr_tokens(parser, b);
-    parser.put(d, CLOSE)
+    parser.finish_node(d)
 }
 
 // A result type must have a token.

@@ -1,13 +1,13 @@
 // Paths, and groups between delimiters.
 ghost use Rattle.std.specs.Prelude.{◌≡◌, ◌<◌, ◌^◌};
+ghost use Rattle.lexer.specs.Syntax.{kind_number};
 ghost use Rattle.grammar.specs.Run.{loop};
 ghost use Rattle.grammar.specs.Path.{path_segment, path_round, parse_path_with_message, parse_balanced_group};
 ghost use Rattle.parser.specs.Rep.{entry, exit, Ran, RanTo};
 ghost use Rattle.forms.specs.Path.{path_names, group_step, group_rest};
 
-use grammar::event::CLOSE;
 use grammar::message::{ItemMessage, Message};
-use lexer::syntax::{COLON_COLON, PATH};
+use lexer::syntax::SyntaxKind;
 use parser::cursor::{Cursor, Flow};
 use parser::kinds::is_name_like;
 use parser::state::Parser;
@@ -33,7 +33,7 @@ fn path_segments(parser: &mut Parser, c0: Cursor) -> Cursor
     let mut c = c0;
     loop {
         let next = parser.peek_after_non_comment_trivia(c.pos);
-        if !parser.at_kind(next, COLON_COLON) {
+        if !parser.at_kind(next, SyntaxKind::ColonColon) {
             return c;
         }
         let s = path_segment(parser, c);
@@ -58,30 +58,36 @@ fn path_names(parser: &mut Parser, c0: Cursor, m: Message) -> Cursor
 pub fn parse_path_with_message(parser: &mut Parser, c0: Cursor, m: Message) -> Cursor
     ensures { Ran (parse_path_with_message m) (entry parser c0) (exit parser result) }
 {
-    let a = parser.put(c0, PATH);
-    let b = parser.bump_at(a, COLON_COLON);
+    let a = parser.start_node(c0, SyntaxKind::Path);
+    let b = parser.bump_at(a, SyntaxKind::ColonColon);
     let d = parser.bump_non_comment_trivia(b);
     let e = path_names(parser, d, m);
-    parser.put(e, CLOSE)
+    parser.finish_node(e)
 }
 
 // How many delimiters of this kind are open behind the token k.
-fn group_depth(opener: u16, closer: u16, depth: usize, k: u16) -> usize
+fn group_depth(opener: SyntaxKind, closer: SyntaxKind, depth: usize, k: u16) -> usize
     requires { (0 < depth) × (depth < 2 ^ 63) }
-    ensures { result ≡ group_step opener closer depth k }
+    ensures { result ≡ group_step (kind_number opener) (kind_number closer) depth k }
 {
-    if opener == k {
+    if u16::from(opener) == k {
         return depth + 1;
     }
-    if closer == k {
+    if u16::from(closer) == k {
         return depth - 1;
     }
     depth
 }
 
 // The group behind its first opener.
-fn group_rest(parser: &mut Parser, c0: Cursor, opener: u16, closer: u16, missing: Message) -> Cursor
-    ensures { Ran (group_rest opener closer missing) (entry parser c0) (exit parser result) }
+fn group_rest(
+    parser: &mut Parser,
+    c0: Cursor,
+    opener: SyntaxKind,
+    closer: SyntaxKind,
+    missing: Message,
+) -> Cursor
+    ensures { Ran (group_rest (kind_number opener) (kind_number closer) missing) (entry parser c0) (exit parser result) }
 {
     let mut c = c0;
     let mut depth: usize = 1;
@@ -101,11 +107,11 @@ fn group_rest(parser: &mut Parser, c0: Cursor, opener: u16, closer: u16, missing
 pub fn parse_balanced_group(
     parser: &mut Parser,
     c0: Cursor,
-    opener: u16,
-    closer: u16,
+    opener: SyntaxKind,
+    closer: SyntaxKind,
     missing: Message,
 ) -> Cursor
-    ensures { Ran (parse_balanced_group opener closer missing) (entry parser c0) (exit parser result) }
+    ensures { Ran (parse_balanced_group (kind_number opener) (kind_number closer) missing) (entry parser c0) (exit parser result) }
 {
     let a = parser.bump_regular_trivia(c0);
     let b = parser.expect_kind(a, opener, missing);

@@ -42,7 +42,7 @@ pub fn parse(kinds: &[u16], events: &mut [u16], messages: &mut [u16], starts: &m
         events: 0,
         diags: 0,
     };
-    let a = parser.put(start, SOURCE_FILE);
+    let a = parser.start_node(start, SyntaxKind::SourceFile);
     let b = source_items(&mut parser, a);
-    parser.put(b, CLOSE)
+    parser.finish_node(b)
 }

@@ -20,9 +20,9 @@ use parser::state::Parser;
 pub fn parse_doc_form(parser: &mut Parser, c0: Cursor) -> Cursor
     ensures { Ran parse_doc_form (entry parser c0) (exit parser result) }
 {
-    let a = parser.put(c0, DOC);
+    let a = parser.start_node(c0, SyntaxKind::Doc);
     let b = parser.bump(a);
-    parser.put(b, CLOSE)
+    parser.finish_node(b)
 }
 
 // What the arm does.

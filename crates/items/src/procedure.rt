@@ -23,7 +23,7 @@ fn closing(parser: &mut Parser, c0: Cursor, owner: BlockOwner, outcome: BlockPar
     ensures { Ran (closing_of owner outcome) (entry parser c0) (exit parser result) }
 {
     if found_terminator(outcome) {
-        let d = parser.expect_kind(c0, END, Message::MissingEnd(owner));
+        let d = parser.expect_keyword(c0 Word::End, Message::MissingEnd(owner));
         return d.c;
     }
     c0
@@ -32,7 +32,7 @@ fn closing(parser: &mut Parser, c0: Cursor, owner: BlockOwner, outcome: BlockPar
 fn optional_signature(parser: &mut Parser, c0: Cursor) -> Cursor
     ensures { Ran optional_signature (entry parser c0) (exit parser result) }
 {
-    if parser.at_kind(c0.pos, L_PAREN) {
+    if parser.at_kind(c0.pos, SyntaxKind::LParen) {
         return parse_signature(parser, c0);
     }
     c0
@@ -69,29 +69,29 @@ fn procedure_lead(parser: &mut Parser, c0: Cursor) -> Flow
     let b = parser.bump_regular_trivia(a);
     let d = optional_visibility(parser, b);
     let e = parser.bump_regular_trivia(d);
-    parser.expect_kind(e, PROC, Message::Procedure(ProcedureMessage::ExpectedProc))
+    parser.expect_keyword(e Word::Proc, Message::Procedure(ProcedureMessage::ExpectedProc))
 }
 
 pub fn parse_procedure(parser: &mut Parser, c0: Cursor) -> Cursor
     ensures { Ran (parse_procedure (parse_block limit)) (entry parser c0) (exit parser result) }
 {
-    let a = parser.put(c0, PROCEDURE);
+    let a = parser.start_node(c0, SyntaxKind::Procedure);
     let b = procedure_lead(parser, a);
     if !b.ok {
-        return parser.put(b.c, CLOSE);
+        return parser.finish_node(b.c);
     }
     let d = procedure_body(parser, b.c);
-    parser.put(d, CLOSE)
+    parser.finish_node(d)
 }
 
 // A keyword, the rest of the line and the block.
 pub fn parse_begin_block(parser: &mut Parser, c0: Cursor) -> Cursor
     ensures { Ran (parse_begin_block (parse_block limit)) (entry parser c0) (exit parser result) }
 {
-    let a = parser.put(c0, BEGIN_BLOCK);
-    let b = parser.expect_kind(a, BEGIN, Message::Unreached);
+    let a = parser.start_node(c0, SyntaxKind::BeginBlock);
+    let b = parser.expect_keyword(a Word::Begin, Message::Unreached);
     let d = parse_line_tail(parser, b.c);
     let e = parse_block(parser, d, BlockOwner::Begin, Terminators::End, 0);
     let g = closing(parser, e.c, BlockOwner::Begin, e.outcome);
-    parser.put(g, CLOSE)
+    parser.finish_node(g)
 }

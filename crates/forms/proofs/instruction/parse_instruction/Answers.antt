@@ -6,4 +6,4 @@ use Rattle.forms.proofs.instruction.parse_instruction.Goals as goal
 pub returns : goal.returns
 unfolding parse_instruction
 returns c =
-    node _ c.put-a.ensures c.instruction_tokens-b.ensures c.put.ensures
+    node _ c.start_node-a.ensures c.instruction_tokens-b.ensures c.finish_node.ensures

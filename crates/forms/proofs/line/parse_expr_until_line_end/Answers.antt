@@ -6,4 +6,4 @@ use Rattle.forms.proofs.line.parse_expr_until_line_end.Goals as goal
 pub returns : goal.returns
 unfolding parse_expr_until_line_end
 returns c =
-    c.bump_regular_trivia-a.ensures then node _ c.put-b.ensures c.expr_tokens-d.ensures c.put.ensures
+    c.bump_regular_trivia-a.ensures then node _ c.start_node-b.ensures c.expr_tokens-d.ensures c.finish_node.ensures

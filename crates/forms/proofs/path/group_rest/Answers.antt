@@ -6,6 +6,7 @@ use Prim.Native.Nat.{ℕ, suc, pred, ◌+◌, ◌≤◌}
 use native.Mathlib.Nat.{pred-le}
 use native.Mathlib.Omega.{arith}
 use borrow.Author.Tests.{eq-eqb, ne_eqb}
+use Rattle.lexer.specs.Syntax.{kind_number}
 use Rattle.forms.specs.Path.{group_step, group_rest}
 use Rattle.grammar.specs.Bump.{error_here}
 use Rattle.grammar.specs.Look.{eof, current}
@@ -46,41 +47,41 @@ module _ (opener closer : Sym) (missing : Message) {w₀ w : World} {depth : ℕ
   unfolding group_rest
   lacks n s = bind _ h (off _ (ne_eqb 0 depth n) s)
 
-pub loop-missing-init : goal.loop-missing-init
-loop-missing-init c = (begins, omega arith)
+pub loop-opener-init : goal.loop-opener-init
+loop-opener-init c = (begins, omega arith)
 
 pub returns-then-depth-eq0 : goal.returns-then-depth-eq0
 returns-then-depth-eq0 c =
-    closes c.args.opener c.args.closer c.args.missing (c.loop-missing.invariant.0.on _ _ (scan_stop _ _ (round_ends _ _ _ _ c.if-depth-eq0.true))) c.if-depth-eq0.true
+    closes (kind_number c.args.opener) (kind_number c.args.closer) c.args.missing (c.loop-opener.invariant.0.on _ _ (scan_stop _ _ (round_ends _ _ _ _ c.if-depth-eq0.true))) c.if-depth-eq0.true
 
 pub group_depth-depth-requires : goal.group_depth-depth-requires
 group_depth-depth-requires c =
-    let h = eof_within c.loop-missing.parser.kinds.now c.loop-missing.c.pos c.eof.ensures c.loop-missing-test.true in
-    omega (arith, c.if-depth-eq0.false, c.loop-missing.invariant.1, h)
+    let h = eof_within c.loop-opener.parser.kinds.now c.loop-opener.c.pos c.eof.ensures c.loop-opener-test.true in
+    omega (arith, c.if-depth-eq0.false, c.loop-opener.invariant.1, h)
 
-pub loop-missing-smaller : goal.loop-missing-smaller
-loop-missing-smaller c =
-    let h = eof_within c.loop-missing.parser.kinds.now c.loop-missing.c.pos c.eof.ensures c.loop-missing-test.true in
+pub loop-opener-smaller : goal.loop-opener-smaller
+loop-opener-smaller c =
+    let h = eof_within c.loop-opener.parser.kinds.now c.loop-opener.c.pos c.eof.ensures c.loop-opener-test.true in
     omega (arith, h, c.bump-c.ensures.moved h)
 
-pub loop-missing-preserved : goal.loop-missing-preserved
-loop-missing-preserved c =
-    let i = c.loop-missing.invariant.0 in
-    let m = c.bump-c.ensures.moved (eof_within c.loop-missing.parser.kinds.now _ c.eof.ensures c.loop-missing-test.true) in
-    let z = sym c.eof.ensures ∙ c.loop-missing-test.true in
-    let e = round_goes c.args.opener c.args.closer _ _ _ _ z c.if-depth-eq0.false c.current.ensures c.group_depth-depth.ensures in
-    let u = step_up c.args.opener c.args.closer c.loop-missing.depth c.current.result in (
+pub loop-opener-preserved : goal.loop-opener-preserved
+loop-opener-preserved c =
+    let i = c.loop-opener.invariant.0 in
+    let m = c.bump-c.ensures.moved (eof_within c.loop-opener.parser.kinds.now _ c.eof.ensures c.loop-opener-test.true) in
+    let z = sym c.eof.ensures ∙ c.loop-opener-test.true in
+    let e = round_goes (kind_number c.args.opener) (kind_number c.args.closer) _ _ _ _ z c.if-depth-eq0.false c.current.ensures c.group_depth-depth.ensures in
+    let u = step_up (kind_number c.args.opener) (kind_number c.args.closer) c.loop-opener.depth c.current.result in (
       goes_on i (λ w' r k.
-          scan_go (group_round c.args.opener c.args.closer) _ _ z e c.bump-c.ensures.ran k),
-      omega (arith, m, u, c.group_depth-depth.ensures, c.loop-missing.invariant.1),
+          scan_go (group_round (kind_number c.args.opener) (kind_number c.args.closer)) _ _ z e c.bump-c.ensures.ran k),
+      omega (arith, m, u, c.group_depth-depth.ensures, c.loop-opener.invariant.1),
     )
 
 pub returns-then-depth-eq0-2 : goal.returns-then-depth-eq0-2
 returns-then-depth-eq0-2 c =
-    let z = sym c.eof.ensures ∙ c.loop-missing-test.false in
-    closes c.args.opener c.args.closer c.args.missing (c.loop-missing.invariant.0.on _ _ (scan_end _ _ z)) c.if-depth-eq0-2.true
+    let z = sym c.eof.ensures ∙ c.loop-opener-test.false in
+    closes (kind_number c.args.opener) (kind_number c.args.closer) c.args.missing (c.loop-opener.invariant.0.on _ _ (scan_end _ _ z)) c.if-depth-eq0-2.true
 
 pub returns : goal.returns
 returns c =
-    let z = sym c.eof.ensures ∙ c.loop-missing-test.false in
-    lacks c.args.opener c.args.closer c.args.missing (c.loop-missing.invariant.0.on _ _ (scan_end _ _ z)) c.if-depth-eq0-2.false c.error_here.ensures.ran
+    let z = sym c.eof.ensures ∙ c.loop-opener-test.false in
+    lacks (kind_number c.args.opener) (kind_number c.args.closer) c.args.missing (c.loop-opener.invariant.0.on _ _ (scan_end _ _ z)) c.if-depth-eq0-2.false c.error_here.ensures.ran

@@ -1,16 +1,17 @@
 -- `forms::path::group_rest`: `scan` with a local, the number of open delimiters, which is no more than the tokens taken and 1. Assumes nothing.
 use Prim.Native.Nat.{◌+◌, ◌-◌, ◌≤◌}
 use lib.ListN.{length}
+use Rattle.lexer.specs.Syntax.{kind_number}
 use Rattle.grammar.specs.Path.{group_round}
 use Rattle.grammar.specs.Run.{scan}
 use Rattle.parser.specs.Rep.{world}
 use Rattle.parser.proofs.Kit.{Leads}
 use Rattle.forms.proofs.path.group_rest.Given as goal
 
-abbrev pub invariant-loop-missing : goal.invariant-loop-missing
-invariant-loop-missing l =
-    Leads (scan (group_round l.opener l.closer) 1) (world l.initial.parser l.initial.c) (scan (group_round l.opener l.closer) l.depth) (world l.parser l.c)
+abbrev pub invariant-loop-opener : goal.invariant-loop-opener
+invariant-loop-opener l =
+    Leads (scan (group_round (kind_number l.opener) (kind_number l.closer)) 1) (world l.initial.parser l.initial.c) (scan (group_round (kind_number l.opener) (kind_number l.closer)) l.depth) (world l.parser l.c)
     × (l.depth ≤ l.c.pos + 1)
 
-abbrev pub decreases-loop-missing : goal.decreases-loop-missing
-decreases-loop-missing l = length l.parser.kinds.now - l.c.pos
+abbrev pub decreases-loop-opener : goal.decreases-loop-opener
+decreases-loop-opener l = length l.parser.kinds.now - l.c.pos

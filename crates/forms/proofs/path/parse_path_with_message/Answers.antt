@@ -7,5 +7,5 @@ use Rattle.forms.proofs.path.parse_path_with_message.Goals as goal
 pub returns : goal.returns
 unfolding parse_path_with_message path_names
 returns c =
-    node _ c.put-a.ensures (c.bump_at-b.ensures then c.bump_non_comment_trivia-d.ensures then c.path_names-e.ensures)
-    c.put.ensures
+    node _ c.start_node-a.ensures (c.bump_at-b.ensures then c.bump_non_comment_trivia-d.ensures then c.path_names-e.ensures)
+    c.finish_node.ensures
