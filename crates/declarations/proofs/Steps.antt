@@ -13,7 +13,7 @@ use Rattle.parser.proofs.Kit.{like, like_to, done_to, bind_to}
 use Rattle.parser.proofs.Laws.{past_here}
 
 -- ---- steps and then what comes behind them, as the definition puts them: one step and then the others
-two : {A B C : Type 0} (f : P A) (g : P B) (k : B → P C) (r : List Sym) → ((f >> g) >>= k) r ≡ (f >> (g >>= k)) r
+pub two : {A B C : Type 0} (f : P A) (g : P B) (k : B → P C) (r : List Sym) → ((f >> g) >>= k) r ≡ (f >> (g >>= k)) r
 unfolding ◌>>=◌
 two f g k r =
     let x = f r in

@@ -7,15 +7,19 @@ use Rattle.grammar.specs.Run.{P, ◌>>◌, when◌then◌else◌}
 use Rattle.grammar.specs.declared.nesting.Nesting.{Nesting}
 use Rattle.grammar.specs.declared.message.Message.{Message}
 use Rattle.grammar.specs.declared.message.ItemMessage.TheVariants.{ExpectedTypeOrEnum}
-use Rattle.grammar.specs.Bump.{bump, error_here, nop, bump_regular_trivia, expect_kind, expect_name}
+use Rattle.grammar.specs.Bump.{bump, error_here, nop, bump_regular_trivia, expect_kind, expect_keyword, expect_name}
 use Rattle.grammar.specs.Nesting.{is_root}
 use Rattle.grammar.specs.Path.{parse_balanced_group}
 use Rattle.grammar.specs.Line.{parse_expr_until_line_end, parse_line_tail}
 use Rattle.grammar.specs.Item.{type_name_and_body}
 
--- a token that must be there, and a name behind it
+-- a name, behind trivia
+abbrev pub name_behind : Message → P Bool
+name_behind name = bump_regular_trivia >> expect_name name
+
+-- a keyword that must be there, and a name behind it
 abbrev pub keyword_and_name : Sym → Message → Message → P Bool
-keyword_and_name k m name = expect_kind k m >> bump_regular_trivia >> expect_name name
+keyword_and_name k m name = expect_keyword k m >> name_behind name
 
 -- a group in parentheses, where one starts here
 abbrev pub optional_parens : Message → P Bool

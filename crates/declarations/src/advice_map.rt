@@ -3,10 +3,9 @@ ghost use Rattle.grammar.specs.Item.{parse_advice_map};
 ghost use Rattle.parser.specs.Rep.{entry, exit, Ran};
 
 use crate::parts::{keyword_and_name, optional_parens, value_line};
-use grammar::event::CLOSE;
 use grammar::message::{ItemMessage, Message};
-use grammar::words::ADV_MAP;
-use lexer::syntax::ADVICE_MAP;
+use grammar::words::Word;
+use lexer::syntax::SyntaxKind;
 use parser::cursor::Cursor;
 use parser::state::Parser;
 
@@ -17,7 +16,7 @@ pub fn parse_advice_map(parser: &mut Parser, c0: Cursor) -> Cursor
     let b = keyword_and_name(
         parser,
         a,
-        ADV_MAP,
+        Word::AdvMap,
         Message::Unreached,
         Message::Item(ItemMessage::ExpectedAdviceMapName),
     );

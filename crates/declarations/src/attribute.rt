@@ -3,10 +3,9 @@ ghost use Rattle.grammar.specs.Run.{loop};
 ghost use Rattle.grammar.specs.Item.{parse_attribute, attribute_round};
 ghost use Rattle.parser.specs.Rep.{entry, exit, Ran, RanTo};
 
-use crate::parts::{keyword_and_name, optional_parens};
-use grammar::event::CLOSE;
+use crate::parts::{name_behind, optional_parens};
 use grammar::message::{Message, ProcedureMessage};
-use lexer::syntax::{AT, ATTRIBUTE};
+use lexer::syntax::SyntaxKind;
 use parser::cursor::{Cursor, Flow};
 use parser::state::Parser;
 
@@ -14,20 +13,19 @@ pub fn parse_attribute(parser: &mut Parser, c0: Cursor) -> Cursor
     ensures { Ran parse_attribute (entry parser c0) (exit parser result) }
 {
     let a = parser.start_node(c0, SyntaxKind::Attribute);
-    let b = keyword_and_name(
+    let b = parser.expect_kind(a, SyntaxKind::At, Message::Unreached);
+    let d = name_behind(
         parser,
-        a,
-        AT,
-        Message::Unreached,
+        b.c,
         Message::Procedure(ProcedureMessage::ExpectedAttributeName),
     );
-    let d = parser.bump_inline_whitespace(b);
-    let e = optional_parens(
+    let e = parser.bump_inline_whitespace(d);
+    let f = optional_parens(
         parser,
-        d,
+        e,
         Message::Procedure(ProcedureMessage::ExpectedAttributeEnd),
     );
-    parser.finish_node(e)
+    parser.finish_node(f)
 }
 
 // Whether an attribute was there.

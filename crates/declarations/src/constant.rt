@@ -4,10 +4,9 @@ ghost use Rattle.parser.specs.Rep.{entry, exit, Ran};
 
 use crate::parts::{keyword_and_name, value_line};
 use crate::visibility::optional_visibility;
-use grammar::event::CLOSE;
 use grammar::message::{ItemMessage, Message};
-use grammar::words::CONST;
-use lexer::syntax::CONSTANT;
+use grammar::words::Word;
+use lexer::syntax::SyntaxKind;
 use parser::cursor::Cursor;
 use parser::state::Parser;
 
@@ -19,7 +18,7 @@ pub fn parse_constant(parser: &mut Parser, c0: Cursor) -> Cursor
     let d = keyword_and_name(
         parser,
         b,
-        CONST,
+        Word::Const,
         Message::Item(ItemMessage::ExpectedConst),
         Message::Item(ItemMessage::ExpectedConstantName),
     );

@@ -4,9 +4,8 @@ ghost use Rattle.parser.specs.Rep.{entry, exit, Ran};
 
 use forms::line::parse_signature_result_until_line_end;
 use forms::path::parse_balanced_group;
-use grammar::event::CLOSE;
 use grammar::message::{Message, ProcedureMessage};
-use lexer::syntax::{L_PAREN, R_ARROW, R_PAREN, SIGNATURE};
+use lexer::syntax::SyntaxKind;
 use parser::cursor::Cursor;
 use parser::state::Parser;
 

@@ -5,10 +5,9 @@ ghost use Rattle.parser.specs.Rep.{entry, exit, Ran};
 use crate::parts::keyword_and_name;
 use crate::visibility::optional_visibility;
 use forms::line::parse_line_tail;
-use grammar::event::CLOSE;
 use grammar::message::{ItemMessage, Message};
-use grammar::words::MOD;
-use lexer::syntax::SUBMODULE;
+use grammar::words::Word;
+use lexer::syntax::SyntaxKind;
 use parser::cursor::Cursor;
 use parser::state::Parser;
 
@@ -20,7 +19,7 @@ pub fn parse_submodule(parser: &mut Parser, c0: Cursor) -> Cursor
     let d = keyword_and_name(
         parser,
         b,
-        MOD,
+        Word::Mod,
         Message::Item(ItemMessage::ExpectedMod),
         Message::Item(ItemMessage::ExpectedSubmoduleName),
     );

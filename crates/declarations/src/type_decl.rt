@@ -9,10 +9,9 @@ ghost use Rattle.parser.specs.Ahead.{BreakKnown};
 ghost use Rattle.declarations.specs.Parts.{type_keyword, type_ends};
 
 use crate::visibility::optional_visibility;
-use grammar::event::CLOSE;
 use grammar::message::{ItemMessage, Message};
 use grammar::nesting::Nesting;
-use lexer::syntax::{NEWLINE, TYPE_BODY, TYPE_DECL};
+use lexer::syntax::SyntaxKind;
 use parser::cursor::Cursor;
 use parser::kinds::{in_set, in_words};
 use parser::look::Remembered;

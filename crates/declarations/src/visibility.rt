@@ -2,10 +2,9 @@
 ghost use Rattle.grammar.specs.Item.{package_in_parens, parse_visibility, optional_visibility};
 ghost use Rattle.parser.specs.Rep.{entry, exit, Ran};
 
-use grammar::event::CLOSE;
 use grammar::message::{Message, ProcedureMessage};
-use grammar::words::{PACKAGE, PUB};
-use lexer::syntax::{L_PAREN, R_PAREN, VISIBILITY};
+use grammar::words::Word;
+use lexer::syntax::SyntaxKind;
 use parser::cursor::Cursor;
 use parser::state::Parser;
 
@@ -16,12 +15,12 @@ fn package_in_parens(parser: &mut Parser, c0: Cursor) -> Cursor
     let a = parser.bump_regular_trivia(c0);
     let b = parser.bump(a);
     let d = parser.expect_keyword(
-        b
+        b,
         Word::Package,
         Message::Procedure(ProcedureMessage::ExpectedPackage),
     );
     let e = parser.expect_kind(
-        d.c
+        d.c,
         SyntaxKind::RParen,
         Message::Procedure(ProcedureMessage::ExpectedPackageEnd),
     );
@@ -32,7 +31,7 @@ pub fn parse_visibility(parser: &mut Parser, c0: Cursor) -> Cursor
     ensures { Ran parse_visibility (entry parser c0) (exit parser result) }
 {
     let a = parser.start_node(c0, SyntaxKind::Visibility);
-    let b = parser.expect_keyword(a Word::Pub, Message::Unreached);
+    let b = parser.expect_keyword(a, Word::Pub, Message::Unreached);
     let next = parser.next_relevant_top_level_token(b.c.pos);
     if parser.at_kind(next, SyntaxKind::LParen) {
         let d = package_in_parens(parser, b.c);

@@ -23,7 +23,7 @@ fn closing(parser: &mut Parser, c0: Cursor, owner: BlockOwner, outcome: BlockPar
     ensures { Ran (closing_of owner outcome) (entry parser c0) (exit parser result) }
 {
     if found_terminator(outcome) {
-        let d = parser.expect_keyword(c0 Word::End, Message::MissingEnd(owner));
+        let d = parser.expect_keyword(c0, Word::End, Message::MissingEnd(owner));
         return d.c;
     }
     c0
@@ -69,7 +69,7 @@ fn procedure_lead(parser: &mut Parser, c0: Cursor) -> Flow
     let b = parser.bump_regular_trivia(a);
     let d = optional_visibility(parser, b);
     let e = parser.bump_regular_trivia(d);
-    parser.expect_keyword(e Word::Proc, Message::Procedure(ProcedureMessage::ExpectedProc))
+    parser.expect_keyword(e, Word::Proc, Message::Procedure(ProcedureMessage::ExpectedProc))
 }
 
 pub fn parse_procedure(parser: &mut Parser, c0: Cursor) -> Cursor
@@ -89,7 +89,7 @@ pub fn parse_begin_block(parser: &mut Parser, c0: Cursor) -> Cursor
     ensures { Ran (parse_begin_block (parse_block limit)) (entry parser c0) (exit parser result) }
 {
     let a = parser.start_node(c0, SyntaxKind::BeginBlock);
-    let b = parser.expect_keyword(a Word::Begin, Message::Unreached);
+    let b = parser.expect_keyword(a, Word::Begin, Message::Unreached);
     let d = parse_line_tail(parser, b.c);
     let e = parse_block(parser, d, BlockOwner::Begin, Terminators::End, 0);
     let g = closing(parser, e.c, BlockOwner::Begin, e.outcome);

@@ -7,4 +7,4 @@ use Rattle.declarations.proofs.advice_map.parse_advice_map.Goals as goal
 pub returns : goal.returns
 unfolding parse_advice_map
 returns c =
-    node _ c.put-a.ensures (steps (three _ _ _ _) (c.keyword_and_name-b.ensures then c.bump_inline_whitespace-d.ensures then c.optional_parens-e.ensures then c.value_line-f.ensures)) c.put.ensures
+    node _ c.start_node-a.ensures (steps (three _ _ _ _) (c.keyword_and_name-b.ensures then c.bump_inline_whitespace-d.ensures then c.optional_parens-e.ensures then c.value_line-f.ensures)) c.finish_node.ensures

@@ -7,4 +7,4 @@ use Rattle.declarations.proofs.constant.parse_constant.Goals as goal
 pub returns : goal.returns
 unfolding parse_constant
 returns c =
-    node _ c.put-a.ensures (c.optional_visibility-b.ensures then steps (three _ _ _ _) (c.keyword_and_name-d.ensures then c.value_line-e.ensures)) c.put.ensures
+    node _ c.start_node-a.ensures (c.optional_visibility-b.ensures then steps (three _ _ _ _) (c.keyword_and_name-d.ensures then c.value_line-e.ensures)) c.finish_node.ensures

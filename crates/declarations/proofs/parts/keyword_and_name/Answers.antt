@@ -4,4 +4,4 @@ use Rattle.declarations.proofs.parts.keyword_and_name.Goals as goal
 
 pub returns : goal.returns
 returns c =
-    c.expect_kind-a.ensures.ran then c.bump_regular_trivia-b.ensures then c.expect_name.ensures
+    c.expect_keyword-a.ensures.ran then c.name_behind.ensures

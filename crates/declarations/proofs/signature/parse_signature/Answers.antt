@@ -12,10 +12,10 @@ pub returns-then-at_kind : goal.returns-then-at_kind
 unfolding parse_signature
 returns-then-at_kind c =
     let a = c.at_kind.ensures ∙ ap (at (is RArrow)) c.peek_after_non_comment_trivia-next.ensures.is in
-    node _ c.put-a.ensures (c.parse_balanced_group-b.ensures then yes _ _ a c.if-at_kind.true c.parse_results-d.ensures) c.put.ensures
+    node _ c.start_node-a.ensures (c.parse_balanced_group-b.ensures then yes _ _ a c.if-at_kind.true c.parse_results-d.ensures) c.finish_node.ensures
 
 pub returns : goal.returns
 unfolding parse_signature
 returns c =
     let a = c.at_kind.ensures ∙ ap (at (is RArrow)) c.peek_after_non_comment_trivia-next.ensures.is in
-    node _ c.put-a.ensures (c.parse_balanced_group-b.ensures then no _ _ a c.if-at_kind.false (done true)) c.put-2.ensures
+    node _ c.start_node-a.ensures (c.parse_balanced_group-b.ensures then no _ _ a c.if-at_kind.false (done true)) c.finish_node-2.ensures

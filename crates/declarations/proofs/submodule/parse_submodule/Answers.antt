@@ -7,4 +7,4 @@ use Rattle.declarations.proofs.submodule.parse_submodule.Goals as goal
 pub returns : goal.returns
 unfolding parse_submodule
 returns c =
-    node _ c.put-a.ensures (c.optional_visibility-b.ensures then steps (three _ _ _ _) (c.keyword_and_name-d.ensures then c.parse_line_tail-e.ensures)) c.put.ensures
+    node _ c.start_node-a.ensures (c.optional_visibility-b.ensures then steps (three _ _ _ _) (c.keyword_and_name-d.ensures then c.parse_line_tail-e.ensures)) c.finish_node.ensures

@@ -6,4 +6,4 @@ use Rattle.declarations.proofs.type_decl.parse_type_body.Goals as goal
 pub returns : goal.returns
 unfolding parse_type_body
 returns c =
-    node _ c.put-a.ensures c.type_tokens-b.ensures c.put.ensures
+    node _ c.start_node-a.ensures c.type_tokens-b.ensures c.finish_node.ensures

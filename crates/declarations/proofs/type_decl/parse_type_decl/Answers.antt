@@ -6,4 +6,4 @@ use Rattle.declarations.proofs.type_decl.parse_type_decl.Goals as goal
 pub returns : goal.returns
 unfolding parse_type_decl
 returns c =
-    node _ c.put-a.ensures (c.optional_visibility-b.ensures then c.bump_regular_trivia-d.ensures then c.type_keyword-e.ensures) c.put.ensures
+    node _ c.start_node-a.ensures (c.optional_visibility-b.ensures then c.bump_regular_trivia-d.ensures then c.type_keyword-e.ensures) c.finish_node.ensures

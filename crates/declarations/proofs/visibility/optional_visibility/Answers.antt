@@ -4,12 +4,12 @@ use Rattle.grammar.specs.Item.{optional_visibility}
 use Rattle.parser.proofs.Kit.{yes, no, done}
 use Rattle.declarations.proofs.visibility.optional_visibility.Goals as goal
 
-pub returns-then-at_kind : goal.returns-then-at_kind
+pub returns-then-at_keyword : goal.returns-then-at_keyword
 unfolding optional_visibility
-returns-then-at_kind c =
-    yes _ _ c.at_kind.ensures c.if-at_kind.true c.parse_visibility.ensures
+returns-then-at_keyword c =
+    yes _ _ c.at_keyword.ensures c.if-at_keyword.true c.parse_visibility.ensures
 
 pub returns : goal.returns
 unfolding optional_visibility
 returns c =
-    no _ _ c.at_kind.ensures c.if-at_kind.false (done true)
+    no _ _ c.at_keyword.ensures c.if-at_keyword.false (done true)

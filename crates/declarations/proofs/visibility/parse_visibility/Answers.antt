@@ -12,10 +12,10 @@ pub returns-then-at_kind : goal.returns-then-at_kind
 unfolding parse_visibility
 returns-then-at_kind c =
     let a = c.at_kind.ensures ∙ ap (at (is LParen)) c.next_relevant_top_level_token-next.ensures.is in
-    node _ c.put-a.ensures (c.expect_kind-b.ensures.ran then yes _ _ a c.if-at_kind.true c.package_in_parens-d.ensures) c.put.ensures
+    node _ c.start_node-a.ensures (c.expect_keyword-b.ensures.ran then yes _ _ a c.if-at_kind.true c.package_in_parens-d.ensures) c.finish_node.ensures
 
 pub returns : goal.returns
 unfolding parse_visibility
 returns c =
     let a = c.at_kind.ensures ∙ ap (at (is LParen)) c.next_relevant_top_level_token-next.ensures.is in
-    node _ c.put-a.ensures (c.expect_kind-b.ensures.ran then no _ _ a c.if-at_kind.false (done true)) c.put-2.ensures
+    node _ c.start_node-a.ensures (c.expect_keyword-b.ensures.ran then no _ _ a c.if-at_kind.false (done true)) c.finish_node-2.ensures
