@@ -2,14 +2,21 @@
 use mathlib.Core.Bool.{true, false, false≢true}
 use mathlib.Core.List.{List, [], ◌∷◌}
 use mathlib.Core.Path.{◌≡◌, refl, sym, ap, ◌∙◌}
-use Rattle.grammar.specs.Words.{Sym, is}
-use Rattle.grammar.specs.Look.{at, regular_trivia}
+use native.Mathlib.Omega.{arith}
+use Rattle.grammar.specs.declared.words.Word.{Word}
+use Rattle.grammar.specs.Words.{Sym, is, key, word_number}
+use Rattle.grammar.specs.Look.{one_of, at, regular_trivia}
 use Rattle.grammar.specs.Run.{take_token}
 use Rattle.grammar.specs.Bump.{expect_kind}
 use Rattle.grammar.specs.Laws.Here.{expect_here}
 use Rattle.grammar.specs.declared.message.Message.{Message}
 use Rattle.parser.specs.Rep.{World, remaining, Ran, RanTo}
 use Rattle.parser.proofs.Kit.{like}
+
+-- no word is trivia
+pub no_trivia : (w : Word) → regular_trivia (key (word_number w)) ≡ false
+unfolding one_of
+no_trivia w = grind arith
 
 -- at its kind, expect_kind takes the token
 expect_take : (k : Sym) (m : Message) → regular_trivia k ≡ false → (r : List Sym) → at (is k) r ≡ true → expect_kind k m r ≡ take_token r

@@ -48,14 +48,15 @@ impl Parser<'_> {
         self.bump_while(c0, SPACE)
     }
 
-    // Whether the token here is the one of number k, and k is not trivia.
-    fn stands_here(&self, p: usize, k: u16) -> bool
-        ensures { result ≡ true → (at (is k) (drop p self.now.kinds.now) ≡ true) × (regular_trivia k ≡ false) }
+    // Whether a token of this kind is here, and the kind is not trivia.
+    fn stands_here(&self, p: usize, kind: SyntaxKind) -> bool
+        ensures { result ≡ true → (at (is (kind_number kind)) (drop p self.now.kinds.now) ≡ true)
+            × (regular_trivia (kind_number kind) ≡ false) }
     {
-        self.at_symbol(p, k) && !is_regular_trivia(k)
+        self.at_kind(p, kind) && !is_regular_trivia(u16::from(kind))
     }
 
-    // expect_kind where trivia may stand before the token.
+    // expect_kind and expect_keyword, where trivia may stand before the token of number k.
     fn expect_behind(&mut self, c0: Cursor, k: u16, m: Message) -> Flow
         ensures { RanTo (expect_kind k m) (entry self c0) (exit self result.c) result.ok }
     {
@@ -68,27 +69,27 @@ impl Parser<'_> {
         Flow { c: d, ok: false }
     }
 
-    // A token that must be there, by its number. Mostly it is here.
-    fn expect_symbol(&mut self, c0: Cursor, k: u16, m: Message) -> Flow
-        ensures { RanTo (expect_kind k m) (entry self c0) (exit self result.c) result.ok }
-    {
-        if self.stands_here(c0.pos, k) {
-            let d = self.bump(c0);
-            return Flow { c: d, ok: true };
-        }
-        self.expect_behind(c0, k, m)
-    }
-
+    // Mostly the token is here.
     pub fn expect_kind(&mut self, c0: Cursor, kind: SyntaxKind, m: Message) -> Flow
         ensures { RanTo (expect_kind (kind_number kind) m) (entry self c0) (exit self result.c) result.ok }
     {
-        self.expect_symbol(c0, u16::from(kind), m)
+        if self.stands_here(c0.pos, kind) {
+            let d = self.bump(c0);
+            return Flow { c: d, ok: true };
+        }
+        self.expect_behind(c0, u16::from(kind), m)
     }
 
+    // Inlined: mostly the word is here, and the frame of the cycle of blocks then has no room for a call's arguments.
+    #[inline(always)]
     pub fn expect_keyword(&mut self, c0: Cursor, keyword: Word, m: Message) -> Flow
         ensures { RanTo (expect_keyword (key (word_number keyword)) m) (entry self c0) (exit self result.c) result.ok }
     {
-        self.expect_symbol(c0, keyword.symbol(), m)
+        if self.at_keyword(c0.pos, keyword) {
+            let d = self.bump(c0);
+            return Flow { c: d, ok: true };
+        }
+        self.expect_behind(c0, keyword.symbol(), m)
     }
 
     // A name, or a diagnostic.

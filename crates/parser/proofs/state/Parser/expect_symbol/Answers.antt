@@ -1,8 +1,0 @@
--- `parser::bump::expect_symbol`: the token is here, or trivia is passed first. Assumes nothing.
-use Rattle.parser.proofs.Expect.{expected}
-use Rattle.parser.proofs.state.Parser.expect_symbol.Goals as goal
-
-pub returns-then-stands_here : goal.returns-then-stands_here
-returns-then-stands_here c =
-    let here = c.stands_here.ensures c.if-stands_here.true in
-    expected c.args.k c.args.m here.1 here.0 c.bump-d.ensures.ran
