@@ -13,7 +13,7 @@ use crate::close::{BlockEnd, Form, ended_file, finish, goes_to_else, goes_to_whi
 use crate::header::{do_header, if_header, keyword_line, repeat_header, while_header};
 use crate::rounds::{BlockPlace, first_rounds, next_rounds};
 use grammar::block::{BlockOwner, Terminators};
-use grammar::words::{DO, ELSE, IF, WHILE};
+use grammar::words::{DO, IF, WHILE, Word};
 use parser::cursor::Cursor;
 use parser::state::Parser;
 
@@ -135,7 +135,7 @@ fn parse_if(parser: &mut Parser, c0: Cursor, depth: usize) -> Form
     if !goes_to_else(parser, c.pos, outcome) {
         return finish(parser, b, BlockOwner::If);
     }
-    let line = keyword_line(parser, c, ELSE);
+    let line = keyword_line(parser, c, Word::Else);
     b = inner_block(parser, line, BlockOwner::If, Terminators::End, depth);
     finish(parser, b, BlockOwner::If)
 }
@@ -170,7 +170,7 @@ fn parse_do_while(parser: &mut Parser, c0: Cursor, depth: usize) -> Form
     if !goes_to_while(parser, c.pos, outcome) {
         return finish(parser, b, BlockOwner::DoWhile);
     }
-    let line = keyword_line(parser, c, WHILE);
+    let line = keyword_line(parser, c, Word::While);
     b = inner_block(parser, line, BlockOwner::DoWhile, Terminators::End, depth);
     finish(parser, b, BlockOwner::DoWhile)
 }

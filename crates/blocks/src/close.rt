@@ -8,12 +8,10 @@ ghost use Rattle.parser.specs.Rep.{entry, exit, Wrote};
 ghost use Rattle.blocks.specs.Shapes.{Recover, Close, Finish, ItemAt};
 
 use crate::arm::Closing;
-use crate::expect::expect;
 use grammar::block::{BlockOwner, BlockParseOutcome, BlockRecoveryBoundary};
-use grammar::event::CLOSE;
 use grammar::message::Message;
-use grammar::words::{ELSE, END, WHILE};
-use lexer::syntax::ERROR;
+use grammar::words::Word;
+use lexer::syntax::SyntaxKind;
 use parser::cursor::Cursor;
 use parser::state::Parser;
 
@@ -120,7 +118,7 @@ pub fn finish(parser: &mut Parser, b: BlockEnd, owner: BlockOwner) -> Form
             }
         }
         BlockParseOutcome::FoundTerminator => {
-            let d = expect(parser, c, END, Message::MissingEnd(owner));
+            let d = parser.expect_keyword(c, Word::End, Message::MissingEnd(owner));
             let dc = d.c;
             let e = parser.finish_node(dc);
             Form {

@@ -1,29 +1,28 @@
 // What stands before a block: a keyword, for some forms its suffixes, and the rest of the line.
-ghost use Rattle.std.specs.Prelude.{◌≡◌, true, false, drop};
-ghost use Rattle.lexer.specs.Syntax.{IfOp, WhileOp, DoWhileOp, RepeatOp};
-ghost use Rattle.grammar.specs.Words.{is, DO as do_word, IF as if_word, REPEAT as repeat_word, WHILE as while_word};
-ghost use Rattle.grammar.specs.Look.{at, regular_trivia};
+ghost use Rattle.std.specs.Prelude.{◌≡◌, true, drop};
+ghost use Rattle.lexer.specs.Syntax.{kind_number, IfOp, WhileOp, DoWhileOp, RepeatOp};
+ghost use Rattle.grammar.specs.Words.{is, key, word_number, DO as do_word, IF as if_word, REPEAT as repeat_word, WHILE as while_word};
+ghost use Rattle.grammar.specs.Look.{at};
 ghost use Rattle.parser.specs.Rep.{entry, exit};
 ghost use Rattle.blocks.specs.Shapes.{header as header_of, keyword_line, FormHeader, KeywordLine};
 
-use crate::expect::expect;
 use crate::suffix::parse_structured_header_suffixes;
 use forms::line::parse_line_tail;
 use grammar::message::Message;
-use grammar::words::{DO, IF, REPEAT, WHILE};
-use lexer::syntax::{DO_WHILE_OP, IF_OP, REPEAT_OP, WHILE_OP};
+use grammar::words::Word;
+use lexer::syntax::SyntaxKind;
 use parser::cursor::Cursor;
 use parser::state::Parser;
 
 // The node's opening event, its keyword, suffixes and the rest of the line: `if`, `while` and `repeat`.
 // This and keyword_line are inlined, since the arguments of their calls would make the frame of the cycle larger.
 #[inline(always)]
-fn header(parser: &mut Parser, c0: Cursor, node: u16, keyword: u16) -> Cursor
-    requires { (at (is keyword) (drop c0.pos parser.old.kinds.now) ≡ true) × (regular_trivia keyword ≡ false) }
-    ensures { FormHeader node (header_of keyword) (entry parser c0) (exit parser result) }
+fn header(parser: &mut Parser, c0: Cursor, node: SyntaxKind, keyword: Word) -> Cursor
+    requires { at (is (key (word_number keyword))) (drop c0.pos parser.old.kinds.now) ≡ true }
+    ensures { FormHeader (kind_number node) (header_of (key (word_number keyword))) (entry parser c0) (exit parser result) }
 {
     let a = parser.start_node(c0, node);
-    let b = expect(parser, a, keyword, Message::Unreached);
+    let b = parser.expect_keyword(a, keyword, Message::Unreached);
     let bc = b.c;
     let s = parse_structured_header_suffixes(parser, bc);
     parse_line_tail(parser, s)
@@ -31,11 +30,11 @@ fn header(parser: &mut Parser, c0: Cursor, node: u16, keyword: u16) -> Cursor
 
 // A keyword and the rest of the line: `do`, `else`, and the `while` behind the body of a `do`.
 #[inline(always)]
-pub fn keyword_line(parser: &mut Parser, c0: Cursor, keyword: u16) -> Cursor
-    requires { (at (is keyword) (drop c0.pos parser.old.kinds.now) ≡ true) × (regular_trivia keyword ≡ false) }
-    ensures { KeywordLine keyword (entry parser c0) (exit parser result) }
+pub fn keyword_line(parser: &mut Parser, c0: Cursor, keyword: Word) -> Cursor
+    requires { at (is (key (word_number keyword))) (drop c0.pos parser.old.kinds.now) ≡ true }
+    ensures { KeywordLine (key (word_number keyword)) (entry parser c0) (exit parser result) }
 {
-    let b = expect(parser, c0, keyword, Message::Unreached);
+    let b = parser.expect_keyword(c0, keyword, Message::Unreached);
     let bc = b.c;
     parse_line_tail(parser, bc)
 }
@@ -46,7 +45,7 @@ pub fn do_header(parser: &mut Parser, c0: Cursor) -> Cursor
     ensures { FormHeader DoWhileOp (keyword_line do_word) (entry parser c0) (exit parser result) }
 {
     let a = parser.start_node(c0, SyntaxKind::DoWhileOp);
-    keyword_line(parser, a, DO)
+    keyword_line(parser, a, Word::Do)
 }
 
 // The next three differ in constants alone: calls of `header` in their places would make a level of the cycle deeper.
@@ -55,7 +54,7 @@ pub fn if_header(parser: &mut Parser, c0: Cursor) -> Cursor
     requires { at (is if_word) (drop c0.pos parser.old.kinds.now) ≡ true }
     ensures { FormHeader IfOp (header_of if_word) (entry parser c0) (exit parser result) }
 {
-    header(parser, c0, IF_OP, IF)
+    header(parser, c0, SyntaxKind::IfOp, Word::If)
 }
 
 // The opening event of a `while`, and its first line.
@@ -63,7 +62,7 @@ pub fn while_header(parser: &mut Parser, c0: Cursor) -> Cursor
     requires { at (is while_word) (drop c0.pos parser.old.kinds.now) ≡ true }
     ensures { FormHeader WhileOp (header_of while_word) (entry parser c0) (exit parser result) }
 {
-    header(parser, c0, WHILE_OP, WHILE)
+    header(parser, c0, SyntaxKind::WhileOp, Word::While)
 }
 
 // The opening event of a `repeat`, and its first line.
@@ -71,5 +70,5 @@ pub fn repeat_header(parser: &mut Parser, c0: Cursor) -> Cursor
     requires { at (is repeat_word) (drop c0.pos parser.old.kinds.now) ≡ true }
     ensures { FormHeader RepeatOp (header_of repeat_word) (entry parser c0) (exit parser result) }
 {
-    header(parser, c0, REPEAT_OP, REPEAT)
+    header(parser, c0, SyntaxKind::RepeatOp, Word::Repeat)
 }

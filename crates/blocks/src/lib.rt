@@ -4,7 +4,6 @@
 pub mod arm;
 pub mod block;
 pub mod close;
-pub mod expect;
 pub mod header;
 pub mod reject;
 pub mod rounds;

@@ -2,9 +2,8 @@
 ghost use Rattle.grammar.specs.Block.{reject_excessive_control_flow_nesting as reject};
 ghost use Rattle.parser.specs.Rep.{entry, exit, Ran};
 
-use grammar::event::CLOSE;
 use grammar::message::{BlockMessage, Message};
-use lexer::syntax::ERROR;
+use lexer::syntax::SyntaxKind;
 use parser::cursor::Cursor;
 use parser::state::Parser;
 

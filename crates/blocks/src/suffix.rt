@@ -7,7 +7,7 @@ ghost use Rattle.parser.specs.Rep.{entry, exit, Ran, RanTo};
 
 use forms::path::parse_balanced_group;
 use grammar::message::{BlockMessage, Message};
-use lexer::syntax::{DOT, L_BRACKET, R_BRACKET};
+use lexer::syntax::{L_BRACKET, SyntaxKind};
 use parser::cursor::{Cursor, Flow};
 use parser::kinds::{in_set, is_name_like};
 use parser::sets::LITERALS;

@@ -166,10 +166,9 @@ parse_do_while-returns-then-not-goes_to_while t c =
     formed _ (do_condition (parse_block limit) depth) c.do_header-h.ensures first end (no_condition depth _ first c.goes_to_while.ensures fails end.ran)
 
 pub parse_do_while-keyword_line-line-requires : goal.parse_do_while-keyword_line-line-requires
-unfolding one_of
 parse_do_while-keyword_line-line-requires t c =
     let holds = c.if-not-goes_to_while.false in
-    ((and_parts (found_terminator c.inner_block-b.result.outcome) _ (sym c.goes_to_while.ensures ∙ holds)).1, refl)
+    (and_parts (found_terminator c.inner_block-b.result.outcome) _ (sym c.goes_to_while.ensures ∙ holds)).1
 
 pub parse_do_while-inner_block-b-requires-2 : goal.parse_do_while-inner_block-b-requires-2
 parse_do_while-inner_block-b-requires-2 t c =
@@ -208,10 +207,9 @@ parse_if-returns-then-not-goes_to_else t c =
     formed _ (else_part (parse_block limit) depth) c.if_header-h.ensures first end (no_else depth _ c.goes_to_else.ensures fails end.ran)
 
 pub parse_if-keyword_line-line-requires : goal.parse_if-keyword_line-line-requires
-unfolding one_of
 parse_if-keyword_line-line-requires t c =
     let holds = c.if-not-goes_to_else.false in
-    ((and_parts (not (reached_eof c.inner_block-b.result.outcome)) _ (sym c.goes_to_else.ensures ∙ holds)).1, refl)
+    (and_parts (not (reached_eof c.inner_block-b.result.outcome)) _ (sym c.goes_to_else.ensures ∙ holds)).1
 
 pub parse_if-inner_block-b-requires-2 : goal.parse_if-inner_block-b-requires-2
 parse_if-inner_block-b-requires-2 t c =

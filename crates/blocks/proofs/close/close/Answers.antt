@@ -13,8 +13,8 @@ unfolding block_ending recover
 returns-in-Eof c =
     closed c.in-Eof.is
     (c.error_here-a.ensures.ran then_to done_to BlockParseOutcome.ReachedEof)
-    c.put-b.ensures
-    (c.put-b.ensures.pos ∙ c.error_here-a.ensures.pos)
+    c.finish_node-b.ensures
+    (c.finish_node-b.ensures.pos ∙ c.error_here-a.ensures.pos)
     (λ h. absurd (false≢true h))
 
 pub returns-in-Terminator : goal.returns-in-Terminator
@@ -22,8 +22,8 @@ unfolding block_ending recover
 returns-in-Terminator c =
     closed c.in-Terminator.is
     (done_to BlockParseOutcome.FoundTerminator)
-    c.put-b-in-Terminator.ensures
-    c.put-b-in-Terminator.ensures.pos
+    c.finish_node-b-in-Terminator.ensures
+    c.finish_node-b-in-Terminator.ensures.pos
     (λ h. absurd (false≢true h))
 
 pub returns-in-StrayElse : goal.returns-in-StrayElse
@@ -31,8 +31,8 @@ unfolding block_ending recover
 returns-in-StrayElse c =
     closed c.in-StrayElse.is
     (c.recover-a.ensures.ran then_to done_to BlockParseOutcome.RecoveredImplicitEnd)
-    c.put-b-in-StrayElse.ensures
-    (c.put-b-in-StrayElse.ensures.pos ∙ c.recover-a.ensures.pos)
+    c.finish_node-b-in-StrayElse.ensures
+    (c.finish_node-b-in-StrayElse.ensures.pos ∙ c.recover-a.ensures.pos)
     (λ h. absurd (false≢true h))
 
 pub returns-in-Item : goal.returns-in-Item
@@ -40,6 +40,6 @@ unfolding block_ending recover
 returns-in-Item c =
     closed c.in-Item.is
     (c.recover-a-in-Item.ensures.ran then_to done_to BlockParseOutcome.RecoveredImplicitEnd)
-    c.put-b-in-Item.ensures
-    (c.put-b-in-Item.ensures.pos ∙ c.recover-a-in-Item.ensures.pos)
+    c.finish_node-b-in-Item.ensures
+    (c.finish_node-b-in-Item.ensures.pos ∙ c.recover-a-in-Item.ensures.pos)
     (λ h. refl)

@@ -7,28 +7,24 @@ use Rattle.blocks.proofs.Laws.{finished, no_item}
 use Rattle.parser.proofs.Kit.{done, done_to, ◌then_to◌}
 use Rattle.blocks.proofs.close.finish.Goals as goal
 
-pub expect-d-requires : goal.expect-d-requires
-unfolding one_of
-expect-d-requires c = refl
-
 pub returns-in-ReachedEof : goal.returns-in-ReachedEof
 unfolding ended closing
 returns-in-ReachedEof c =
-    finished c.in-ReachedEof.is (done_to true) c.put-e.ensures no_item
+    finished c.in-ReachedEof.is (done_to true) c.finish_node-e.ensures no_item
 
 pub returns-in-FoundTerminator : goal.returns-in-FoundTerminator
 unfolding ended closing
 returns-in-FoundTerminator c =
     finished c.in-FoundTerminator.is
-    (c.expect-d.ensures.ran then_to done_to false)
-    c.put-e-in-FoundTerminator.ensures
+    (c.expect_keyword-d.ensures.ran then_to done_to false)
+    c.finish_node-e-in-FoundTerminator.ensures
     no_item
 
 pub returns-in-RecoveredImplicitEnd : goal.returns-in-RecoveredImplicitEnd
 unfolding ended closing
 returns-in-RecoveredImplicitEnd c =
-    let same = ap at_top_level_form_starter_in_block c.put-e-in-RecoveredImplicitEnd.ensures.rest in
+    let same = ap at_top_level_form_starter_in_block c.finish_node-e-in-RecoveredImplicitEnd.ensures.rest in
     finished c.in-RecoveredImplicitEnd.is
     (done true then_to done_to false)
-    c.put-e-in-RecoveredImplicitEnd.ensures
+    c.finish_node-e-in-RecoveredImplicitEnd.ensures
     (record { starts = λ h. same ∙ c.requires.starts h })

@@ -6,6 +6,6 @@ use Rattle.blocks.proofs.close.recover.Goals as goal
 pub returns : goal.returns
 returns c =
     record {
-      ran = node _ c.put-a.ensures c.error_here-b.ensures.ran c.put.ensures;
-      pos = c.put.ensures.pos ∙ c.error_here-b.ensures.pos ∙ c.put-a.ensures.pos;
+      ran = node _ c.start_node-a.ensures c.error_here-b.ensures.ran c.finish_node.ensures;
+      pos = c.finish_node.ensures.pos ∙ c.error_here-b.ensures.pos ∙ c.start_node-a.ensures.pos;
     }

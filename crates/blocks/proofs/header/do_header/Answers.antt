@@ -7,13 +7,12 @@ use Rattle.parser.proofs.Kit.{◌then_to◌}
 use Rattle.blocks.proofs.header.do_header.Goals as goal
 
 pub keyword_line-requires : goal.keyword_line-requires
-unfolding one_of
 keyword_line-requires c =
-    (ap (at (is DO)) c.put-a.ensures.rest ∙ c.requires, refl)
+    ap (at (is DO)) c.start_node-a.ensures.rest ∙ c.requires
 
 pub returns : goal.returns
 returns c =
-    opened c.put-a.ensures
+    opened c.start_node-a.ensures
     (λ next u r h. c.keyword_line.ensures.key then_to c.keyword_line.ensures.line then_to h)
     c.keyword_line.ensures.onward
     c.keyword_line.ensures.past

@@ -3,11 +3,6 @@ use mathlib.Core.Path.{refl}
 use Rattle.grammar.specs.Look.{one_of}
 use Rattle.blocks.proofs.header.if_header.Goals as goal
 
-pub header-requires : goal.header-requires
-unfolding one_of
-header-requires c =
-    (c.requires, refl)
-
 pub returns : goal.returns
 returns c =
     c.header.ensures

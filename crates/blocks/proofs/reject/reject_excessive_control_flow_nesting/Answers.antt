@@ -24,4 +24,4 @@ pub returns : goal.returns
 unfolding reject_excessive_control_flow_nesting
 returns c =
     let rest = c.loop-parser.invariant.on _ _ (scan_end all_round true (sym c.eof.ensures ∙ c.loop-parser-test.false)) in
-    node _ c.put-a.ensures (c.error_here-c.ensures.ran then rest.ran) c.put.ensures
+    node _ c.start_node-a.ensures (c.error_here-c.ensures.ran then rest.ran) c.finish_node.ensures

@@ -11,7 +11,7 @@ pub returns : goal.returns
 returns c =
     record {
       mid = _;
-      wrote = c.put-c.ensures;
-      onward = c.put-c.ensures.onward farther c.rounds.ensures.onward;
+      wrote = c.start_node-c.ensures;
+      onward = c.start_node-c.ensures.onward farther c.rounds.ensures.onward;
       rounds = c.rounds.ensures;
     }

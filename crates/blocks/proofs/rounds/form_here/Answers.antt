@@ -14,7 +14,7 @@ use Rattle.blocks.proofs.rounds.form_here.Goals as goal
 pub returns-then-depth-ge-MAX_CONTROL_FLOW_NESTING : goal.returns-then-depth-ge-MAX_CONTROL_FLOW_NESTING
 unfolding by_block_arm
 returns-then-depth-ge-MAX_CONTROL_FLOW_NESTING c =
-    let o = c.reject_excessive_control_flow_nesting-d.ensures.onward farther c.put-e.ensures.onward in
+    let o = c.reject_excessive_control_flow_nesting-d.ensures.onward farther c.finish_node-e.ensures.onward in
     record {
       onward = o;
       of = λ owner t e. record {
@@ -23,7 +23,7 @@ returns-then-depth-ge-MAX_CONTROL_FLOW_NESTING c =
         over = λ h. record {
           mid = _;
           ran = round owner t c.args.depth BlockArm.Control (sym e) refl (on_to _ (le-leb limit c.args.depth (omega arith)) (c.reject_excessive_control_flow_nesting-d.ensures then_to done_to BlockParseOutcome.ReachedEof));
-          wrote = c.put-e.ensures;
+          wrote = c.finish_node-e.ensures;
           here = no_item;
         };
       };
