@@ -7,8 +7,7 @@ ghost use Rattle.parser.specs.Rep.{entry, exit, Ran};
 ghost use Rattle.items.specs.Entry.{start, parser_slices, Parse};
 
 use crate::item::parse_source_item;
-use grammar::event::CLOSE;
-use lexer::syntax::SOURCE_FILE;
+use lexer::syntax::SyntaxKind;
 use parser::cursor::Cursor;
 use parser::state::Parser;
 

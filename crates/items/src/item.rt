@@ -11,9 +11,8 @@ use declarations::constant::parse_constant;
 use declarations::namespace::parse_namespace;
 use declarations::submodule::parse_submodule;
 use declarations::type_decl::parse_type_decl;
-use grammar::event::CLOSE;
 use grammar::message::{ItemMessage, Message};
-use lexer::syntax::DOC;
+use lexer::syntax::SyntaxKind;
 use parser::cursor::Cursor;
 use parser::state::Parser;
 

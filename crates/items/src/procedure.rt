@@ -11,10 +11,9 @@ use declarations::signature::parse_signature;
 use declarations::visibility::optional_visibility;
 use forms::line::parse_line_tail;
 use grammar::block::{BlockOwner, BlockParseOutcome, Terminators};
-use grammar::event::CLOSE;
 use grammar::message::{Message, ProcedureMessage};
-use grammar::words::{BEGIN, END, PROC};
-use lexer::syntax::{BEGIN_BLOCK, L_PAREN, PROCEDURE};
+use grammar::words::Word;
+use lexer::syntax::SyntaxKind;
 use parser::cursor::{Cursor, Flow};
 use parser::state::Parser;
 
@@ -69,7 +68,11 @@ fn procedure_lead(parser: &mut Parser, c0: Cursor) -> Flow
     let b = parser.bump_regular_trivia(a);
     let d = optional_visibility(parser, b);
     let e = parser.bump_regular_trivia(d);
-    parser.expect_keyword(e, Word::Proc, Message::Procedure(ProcedureMessage::ExpectedProc))
+    parser.expect_keyword(
+        e,
+        Word::Proc,
+        Message::Procedure(ProcedureMessage::ExpectedProc),
+    )
 }
 
 pub fn parse_procedure(parser: &mut Parser, c0: Cursor) -> Cursor

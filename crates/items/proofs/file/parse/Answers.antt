@@ -5,4 +5,4 @@ use Rattle.parser.proofs.Kit.{node}
 use Rattle.items.proofs.file.parse.Goals as goal
 
 pub returns : goal.returns
-returns c = whole _ c.requires (search rules) (search rules) (search rules) (node _ c.put-a.ensures c.source_items-b.ensures c.put.ensures)
+returns c = whole _ c.requires (search rules) (search rules) (search rules) (node _ c.start_node-a.ensures c.source_items-b.ensures c.finish_node.ensures)

@@ -4,4 +4,4 @@ use Rattle.items.proofs.item.parse_doc_form.Goals as goal
 
 pub returns : goal.returns
 returns c =
-    node _ c.put-a.ensures c.bump-b.ensures.ran c.put.ensures
+    node _ c.start_node-a.ensures c.bump-b.ensures.ran c.finish_node.ensures

@@ -8,7 +8,7 @@ use Rattle.items.proofs.procedure.closing.Goals as goal
 pub returns-then-found_terminator : goal.returns-then-found_terminator
 unfolding closing
 returns-then-found_terminator c =
-    on _ (sym c.found_terminator.ensures ∙ c.if-found_terminator.true) c.expect_kind-d.ensures.ran
+    on _ (sym c.found_terminator.ensures ∙ c.if-found_terminator.true) c.expect_keyword-d.ensures.ran
 
 pub returns : goal.returns
 unfolding closing

@@ -8,4 +8,4 @@ use Rattle.items.proofs.procedure.parse_begin_block.Goals as goal
 pub returns : goal.returns
 unfolding parse_begin_block
 returns c =
-    node _ c.put-a.ensures (c.expect_kind-b.ensures.ran then c.parse_line_tail-d.ensures then bind (closing BlockOwner.Begin) c.parse_block-e.ensures.ran c.closing-g.ensures) c.put.ensures
+    node _ c.start_node-a.ensures (c.expect_keyword-b.ensures.ran then c.parse_line_tail-d.ensures then bind (closing BlockOwner.Begin) c.parse_block-e.ensures.ran c.closing-g.ensures) c.finish_node.ensures

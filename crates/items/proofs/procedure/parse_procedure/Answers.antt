@@ -16,9 +16,9 @@ behind declared = pick (not declared) nop (procedure_body (parse_block limit))
 pub returns-then-not-b : goal.returns-then-not-b
 unfolding parse_procedure
 returns-then-not-b c =
-    node _ c.put-a.ensures (steps (five _ _ _ _ _ _) (bind behind c.procedure_lead-b.ensures (on _ c.if-not-b.true (done true)))) c.put.ensures
+    node _ c.start_node-a.ensures (steps (five _ _ _ _ _ _) (bind behind c.procedure_lead-b.ensures (on _ c.if-not-b.true (done true)))) c.finish_node.ensures
 
 pub returns : goal.returns
 unfolding parse_procedure
 returns c =
-    node _ c.put-a.ensures (steps (five _ _ _ _ _ _) (bind behind c.procedure_lead-b.ensures (off _ c.if-not-b.false c.procedure_body-d.ensures))) c.put-2.ensures
+    node _ c.start_node-a.ensures (steps (five _ _ _ _ _ _) (bind behind c.procedure_lead-b.ensures (off _ c.if-not-b.false c.procedure_body-d.ensures))) c.finish_node-2.ensures

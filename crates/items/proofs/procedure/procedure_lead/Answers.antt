@@ -4,4 +4,4 @@ use Rattle.items.proofs.procedure.procedure_lead.Goals as goal
 
 pub returns : goal.returns
 returns c =
-    c.attributes-a.ensures then_to c.bump_regular_trivia-b.ensures then_to c.optional_visibility-d.ensures then_to c.bump_regular_trivia-e.ensures then_to c.expect_kind.ensures
+    c.attributes-a.ensures then_to c.bump_regular_trivia-b.ensures then_to c.optional_visibility-d.ensures then_to c.bump_regular_trivia-e.ensures then_to c.expect_keyword.ensures
