@@ -3,14 +3,14 @@ use Prim.Native.Nat.{ℕ, ◌<◌}
 use mathlib.Core.Path.{◌≡◌, sym, ap, subst}
 use mathlib.Core.Bool.{Bool, true, false, cond}
 use Rattle.std.specs.Prelude.{Option, None, Some}
-use Rattle.marks.specs.declared.word.Word.{Word}
+use Rattle.grammar.specs.declared.words.Word.{Word}
 use mathlib.Core.List.{List, [], ◌∷◌}
 use native.Mathlib.Omega.{arith}
 use borrow.Author.Tests.{ne_eqb}
 use lib.ListN.{length, get_or}
 use Rattle.lexer.specs.Lexer.{same}
-use Rattle.grammar.specs.Words.{words, number_in}
-use Rattle.marks.specs.Code.{text_number, word_number, found_number}
+use Rattle.grammar.specs.Words.{words, number_in, word_number}
+use Rattle.marks.specs.Code.{text_number, found_number}
 
 -- a comparison in the code, as the definition makes it
 pub compared : {r : Bool} (w t : List ℕ) (m n : ℕ) → r ≡ same w t → cond r m n ≡ cond (same w t) m n

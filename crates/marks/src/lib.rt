@@ -7,8 +7,7 @@ ghost use Rattle.lexer.specs.Tokens.{MAX_SOURCE};
 ghost use Rattle.grammar.specs.Words.{kind_of};
 ghost use Rattle.marks.specs.Code.{text_number, found_number, marked, or_else, refused_at, MarkTokens, MarkSource};
 
-use crate::word::Word;
-use grammar::words::{MARK, WHILE};
+use grammar::words::{MARK, WHILE, Word};
 use lexer::Lexer;
 use lexer::syntax::{IDENT, SyntaxKind};
 
@@ -52,7 +51,7 @@ fn mark(kind: SyntaxKind, text: &[u8]) -> u16
 {
     match kind {
         SyntaxKind::Ident => match find_word(text) {
-            Some(word) => IDENT + MARK * u16::from(word),
+            Some(word) => word.symbol(),
             None => IDENT,
         },
         _ => u16::from(kind),

@@ -1,39 +1,10 @@
 // The word that an identifier's text is: one of the grammar's sixteen, in the order of their numbers, or `use` or `extern`.
 ghost use Rattle.std.specs.Prelude.{◌≡◌, cond, ◌<◌, length, get_or};
 ghost use Rattle.lexer.specs.Lexer.{same as same_of};
-ghost use Rattle.marks.specs.Code.{text_number, word_number, found_number};
+ghost use Rattle.marks.specs.Code.{text_number, found_number};
 
+use grammar::words::Word;
 use lexer::same;
-
-#[derive(Debug, Clone, Copy, PartialEq, Eq, PartialOrd, Ord, Hash)]
-pub enum Word {
-    AdvMap = 1,
-    Begin,
-    Const,
-    Do,
-    Else,
-    End,
-    Enum,
-    If,
-    Mod,
-    Namespace,
-    Package,
-    Proc,
-    Pub,
-    Repeat,
-    Type,
-    While,
-    Use,
-    Extern,
-}
-
-impl From<Word> for u16 {
-    ghost from_gives = { λ word n. n ≡ word_number word };
-
-    fn from(word: Word) -> u16 {
-        word as u16
-    }
-}
 
 // The word, where the text is its letters.
 fn only(letters: &[u8], word: Word, text: &[u8]) -> Option<Word>

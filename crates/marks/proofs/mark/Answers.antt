@@ -25,10 +25,10 @@ module _ (k : SyntaxKind) (text : List ℕ) where
   ident e f = rw (e, f)
 
 pub returns-in-Some : goal.returns-in-Some
-returns-in-Some c = ident _ _ c.in-Ident.is (c.from.ensures ∙ c.in-Some.ensures)
+returns-in-Some c = c.symbol.ensures ∙ ident _ _ c.in-Ident.is c.in-Some.ensures
 
 pub returns-in-None : goal.returns-in-None
 returns-in-None c = ident _ _ c.in-Ident.is c.in-None.ensures
 
 pub returns-in_default : goal.returns-in_default
-returns-in_default c = c.from-in_default.ensures ∙ other _ _ c.in_default.not-Ident
+returns-in_default c = c.from.ensures ∙ other _ _ c.in_default.not-Ident
