@@ -1,5 +1,5 @@
 -- What an arm says of the token here, and how the parts of a form are put together. Assumes nothing.
-use mathlib.Core.Bool.{Bool, true, false, cond, not, ◌&&◌, ◌||◌, false≢true}
+use mathlib.Core.Bool.{Bool, true, false, cond, not, ◌&&◌, ◌||◌, and-false, and-true, false≢true}
 use mathlib.Core.List.{List, [], ◌∷◌}
 use mathlib.Core.Path.{◌≡◌, refl, sym, ap, subst, ◌∙◌}
 use Prim.Native.Nat.{ℕ, suc, ◌+◌, ◌<◌}
@@ -28,9 +28,11 @@ use Rattle.parser.proofs.Laws.{at_current, at_some}
 use Rattle.blocks.specs.declared.arm.Taken.{Taken}
 use Rattle.blocks.specs.declared.arm.Closing.{Closing}
 use Rattle.blocks.specs.declared.arm.BlockArm.{BlockArm}
+use Rattle.blocks.specs.declared.close.Form.{Form}
+use Rattle.blocks.specs.declared.place.BlockPlace.{BlockPlace}
 use Rattle.blocks.specs.declared.rounds.Stopped.{Stopped}
 use Rattle.blocks.specs.Arms.{block_arm, inner_arm, by_block_arm, block_by, silent, taking, block_ending}
-use Rattle.blocks.specs.Shapes.{else_line, else_part, KeywordLine, FormHeader, ItemAt, Close, Finish, BlockRounds, ParseForm}
+use Rattle.blocks.specs.Shapes.{else_line, else_part, KeywordLine, FormHeader, ItemAt, Finish, rest_at, BlockRounds, ParseForm}
 
 -- ---- tests of the token here
 -- a test of its number
@@ -161,6 +163,37 @@ module _ (limit : ℕ) (owner : BlockOwner) (t : Terminators) (depth : ℕ) wher
   pub absorbs : {w v w' : World} {r : BlockParseOutcome} → Ran (bump_while regular_trivia) w v → RanTo (block_in limit owner t depth) v w' r → RanTo (block_in limit owner t depth) w w' r
   absorbs h k = like_to (bump_while regular_trivia >> block_in limit owner t depth) (trivia_first _) (h then_to k)
 
+-- nothing is said of an item
+pub no_item : {F : File} {p : ℕ} → ItemAt F p false
+no_item = record { starts = λ h. absurd (false≢true h) }
+
+pub said_no_item : {F : File} {p : ℕ} {i : Bool} → i ≡ false → ItemAt F p i
+said_no_item e = record { starts = λ h. absurd (false≢true (sym e ∙ h)) }
+
+done_as : {w w' : World} → Ran nop w w' → RanTo (pure true) w w' true
+unfolding pure
+done_as h = record { ran = h; val = refl }
+
+-- where nothing is taken, an item starts as before
+still : {w w' : World} {i : Bool} → ItemAt (file w) w.c.pos i → Ran nop w w' → ItemAt (file w') w'.c.pos i
+unfolding pure
+still a h = record { starts = λ e. ap at_top_level_form_starter_in_block (sym h.rest) ∙ a.starts e }
+
+-- a form's end goes by its last block's outcome
+ends_by : {w w' : World} (owner : BlockOwner) (o : BlockParseOutcome) → Ran (closing owner o) w w' → RanTo (ended owner o) w w' (reached_eof o)
+unfolding ended closing
+ends_by owner BlockParseOutcome.ReachedEof h = like_to (pure true) refl (done_as h)
+ends_by owner BlockParseOutcome.FoundTerminator h = h then_to done_to false
+ends_by owner BlockParseOutcome.RecoveredImplicitEnd h = h then_to done_to false
+
+-- an item that starts behind a block starts behind its form, where the form takes no `end`
+item_behind : {w w' : World} (owner : BlockOwner) (i : Bool) (o : BlockParseOutcome) → ItemAt (file w) w.c.pos i → Ran (closing owner o) w w'
+    → ItemAt (file w') w'.c.pos (i && not (found_terminator o))
+unfolding closing
+item_behind owner i BlockParseOutcome.ReachedEof a h = rw and-true (still a h)
+item_behind owner i BlockParseOutcome.FoundTerminator a h = said_no_item (and-false i)
+item_behind owner i BlockParseOutcome.RecoveredImplicitEnd a h = rw and-true (still a h)
+
 -- ---- simulation
 module _ {w w' : World} where
   pub silently : {A : Type 0} {f : P A} → Ran f w w' → Ran (silent f) w w'
@@ -171,14 +204,14 @@ module _ {w w' : World} where
   took e h = subst (λ k. Ran (taking k) w w') (sym e) h
 
   -- a form of a block below the limit
-  pub deeper : {r : Bool} (d : ℕ) → RanTo (parse_control_flow (parse_block limit) (d + 1)) w w' r → RanTo (parse_control_flow (λ o t e. in_node Block (block_in limit o t e)) (suc d)) w w' r
+  pub deeper : {r : Bool} (d : ℕ) {e : ℕ} → e ≡ d + 1 → RanTo (parse_control_flow (parse_block limit) e) w w' r → RanTo (parse_control_flow (λ o t e. in_node Block (block_in limit o t e)) (suc d)) w w' r
   unfolding parse_block
-  deeper {r} d h = let z : d + 1 ≡ suc d = omega arith in subst (λ (n : ℕ). RanTo (parse_control_flow (parse_block limit) n) w w' r) z h
+  deeper {r} d {e} q h = let z : e ≡ suc d = omega (arith, q) in subst (λ (n : ℕ). RanTo (parse_control_flow (parse_block limit) n) w w' r) z h
 
   -- a round of parse_block's loop, by its arm
-  pub round : (owner : BlockOwner) (terminators : Terminators) (depth : ℕ) {o : BlockParseOutcome} {a : BlockArm} (b : BlockArm) → a ≡ block_arm terminators (remaining w) → a ≡ b
-      → RanTo (by_block_arm b (block_in limit) limit owner terminators depth) w w' o → RanTo (block_in limit owner terminators depth) w w' o
-  round owner terminators depth b e f h = like_to (by_block_arm b (block_in limit) limit owner terminators depth) (block_by limit owner terminators depth _ b (sym f ∙ e)) h
+  pub round : (p : BlockPlace) {o : BlockParseOutcome} {a : BlockArm} (b : BlockArm) → a ≡ block_arm p.terminators (remaining w) → a ≡ b
+      → RanTo (by_block_arm b (block_in limit) limit p.owner p.terminators p.depth.forms) w w' o → RanTo (rest_at p) w w' o
+  round p b e f h = like_to (by_block_arm b (block_in limit) limit p.owner p.terminators p.depth.forms) (block_by limit p.owner p.terminators p.depth.forms _ b (sym f ∙ e)) h
 
   -- ---- the parts of a form
   pub opened : {v : ℕ} {lead : P Bool → P Bool} {u : World} → Wrote v w u → ((next : P Bool) (z : World) (r : Bool) → RanTo next w' z r → RanTo (lead next) u z r)
@@ -191,42 +224,24 @@ module _ {w w' : World} where
     past = record { on = omega (arith, q, p.pos); within = omega (arith, q, p.pos) };
   }
 
-  pub finished : {owner : BlockOwner} {o o' : BlockParseOutcome} {u : World} {e i : Bool} → o ≡ o' → RanTo (ended owner o') w u e → Wrote 0 u w'
-      → ItemAt (file w') w'.c.pos i → Finish owner o w w' e i
-  finished {owner} {u} {e} q h p i = record {
+  pub finished : {owner : BlockOwner} (o : BlockParseOutcome) {u : World} {i : Bool} {f : Form} → ItemAt (file w) w.c.pos i → Ran (closing owner o) w u → Wrote 0 u w'
+      → f.eof ≡ reached_eof o → f.item ≡ (i && not (found_terminator o)) → Finish owner o w w' f
+  finished {owner} o {u} {i} a h p e j = record {
     mid = u;
-    ran = subst (λ o. RanTo (ended owner o) w u e) (sym q) h;
+    ran = answers (ends_by owner o h) (sym e);
     wrote = p;
-    onward = h.ran.onward farther p.onward;
-    here = i;
+    onward = h.onward farther p.onward;
+    here = record { starts = λ e. ap at_top_level_form_starter_in_block p.rest ∙ (item_behind owner i o a h).starts (sym j ∙ e) };
   }
 
   -- a form: its header, its first block, and what stands behind that up to the form's end
-  pub formed : (k : Kind) {lead : P Bool → P Bool} {block : P BlockParseOutcome} {o p : BlockParseOutcome} {owner : BlockOwner} {m v u : World} {e i : Bool} (rest : BlockParseOutcome → P Bool)
-      → FormHeader (num k) lead w m → RanTo block m v o → (end : Finish owner p u w' e i) → RanTo (rest o) v end.mid e → ParseForm (in_node k (lead (block >>= rest))) w w' e i
+  pub formed : (k : Kind) {lead : P Bool → P Bool} {block : P BlockParseOutcome} {o p : BlockParseOutcome} {owner : BlockOwner} {m v u : World} {f : Form} (rest : BlockParseOutcome → P Bool)
+      → FormHeader (num k) lead w m → RanTo block m v o → (end : Finish owner p u w' f) → RanTo (rest o) v end.mid f.eof → ParseForm (in_node k (lead (block >>= rest))) w w' f
   formed k rest head first end h = record {
     ran = node_to k head.wrote (head.on _ _ _ (bind_to rest first h)) end.wrote;
     past = record { on = omega (arith, head.past, first.ran.onward, h.ran.onward, end.wrote.pos); within = head.past.within };
     here = end.here;
   }
-
-pub closed : {k k' : Closing} {owner : BlockOwner} {w w' u : World} {o : BlockParseOutcome} {i : Bool} → k ≡ k' → RanTo (block_ending k' owner) w u o
-    → Wrote 0 u w' → w'.c.pos ≡ w.c.pos → (i ≡ true → k' ≡ Closing.Item) → Close k owner w w' o i
-closed {owner} {w} {u} {o} q h p n j = record {
-  mid = u;
-  ran = subst (λ k. RanTo (block_ending k owner) w u o) (sym q) h;
-  wrote = p;
-  onward = h.ran.onward farther p.onward;
-  pos = n;
-  at_item = λ z. q ∙ j z;
-}
-
--- nothing is said of an item
-pub no_item : {F : File} {p : ℕ} → ItemAt F p false
-no_item = record { starts = λ h. absurd (false≢true h) }
-
-pub said_no_item : {F : File} {p : ℕ} {i : Bool} → i ≡ false → ItemAt F p i
-said_no_item e = record { starts = λ h. absurd (false≢true (sym e ∙ h)) }
 
 -- an outcome that the code has made
 pub gives : {w : World} {a b : BlockParseOutcome} → b ≡ a → RanTo (pure a) w w b
@@ -284,11 +299,10 @@ pub repeat_here : (r : List Sym) → at control_flow r ≡ true → at (is IF) r
 repeat_here r a b c d = repeat_left r (rw (a, b, c, d))
 
 -- ---- the rounds of a block
-module _ {owner : BlockOwner} {terminators : Terminators} {depth : ℕ} {m w v w' : World} {word word' : Sym} {outcome₀ outcome : BlockParseOutcome} {item₀ control₀ item control : Bool} where
+module _ {p : BlockPlace} {m w v w' : World} {s₀ s : Stopped} where
   -- the rounds behind a form, which goes from w to v, are rounds from before it on
-  pub from_form : control₀ ≡ true → BlockRounds owner terminators depth m w outcome₀ item₀ control₀ word
-      → ((u : World) (r : BlockParseOutcome) → RanTo (block_in limit owner terminators depth) v u r → RanTo (block_in limit owner terminators depth) w u r)
-      → Onward w v → BlockRounds owner terminators depth v w' outcome item control word' → BlockRounds owner terminators depth m w' outcome item control word'
+  pub from_form : s₀.control ≡ true → BlockRounds p m w s₀ → ((u : World) (r : BlockParseOutcome) → RanTo (rest_at p) v u r → RanTo (rest_at p) w u r)
+      → Onward w v → BlockRounds p v w' s → BlockRounds p m w' s
   from_form e₀ r₀ f o r =
       let a = r₀.form e₀ in
       record {
@@ -298,9 +312,7 @@ module _ {owner : BlockOwner} {terminators : Terminators} {depth : ℕ} {m w v w
       }
 
 -- the same behind rounds that took tokens
-pub from_here : {owner : BlockOwner} {terminators : Terminators} {depth : ℕ} {m w w' : World} {word : Sym} {outcome : BlockParseOutcome} {item control : Bool}
-    → Leads (block_in limit owner terminators depth) m (block_in limit owner terminators depth) w → Onward m w
-    → BlockRounds owner terminators depth w w' outcome item control word → BlockRounds owner terminators depth m w' outcome item control word
+pub from_here : {p : BlockPlace} {m w w' : World} {s : Stopped} → Leads (rest_at p) m (rest_at p) w → Onward m w → BlockRounds p w w' s → BlockRounds p m w' s
 from_here l o r = record {
   onward = o farther r.onward;
   form = λ e. let b = r.form e in record { on = λ u x h. l.on u x (b.on u x h); arm = b.arm; first = b.first; below = b.below };
@@ -308,6 +320,5 @@ from_here l o r = record {
 }
 
 -- what block_from's loop holds: rounds up to where it began are rounds up to where it is
-pub record Going (owner : BlockOwner) (terminators : Terminators) (depth : ℕ) (w₀ : World) (s₀ : Stopped) (w : World) (s : Stopped) : Type 0 where
-  pub on : (m : World) → BlockRounds owner terminators depth m w₀ s₀.outcome s₀.item s₀.control s₀.word
-      → BlockRounds owner terminators depth m w s.outcome s.item s.control s.word
+pub record Going (p : BlockPlace) (w₀ : World) (s₀ : Stopped) (w : World) (s : Stopped) : Type 0 where
+  pub on : (m : World) → BlockRounds p m w₀ s₀ → BlockRounds p m w s

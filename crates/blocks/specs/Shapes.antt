@@ -14,6 +14,11 @@ use Rattle.grammar.specs.Block.{MAX_CONTROL_FLOW_NESTING as limit, Blocks, parse
 use Rattle.parser.specs.Rep.{World, file, remaining, Onward, Past, Wrote, Ran, RanTo}
 use Rattle.blocks.specs.declared.arm.Closing.{Closing}
 use Rattle.blocks.specs.declared.arm.BlockArm.{BlockArm}
+use Rattle.blocks.specs.declared.close.BlockEnd.{BlockEnd}
+use Rattle.blocks.specs.declared.close.Form.{Form}
+use Rattle.blocks.specs.declared.place.BlockPlace.{BlockPlace}
+use Rattle.blocks.specs.declared.place.Depth.{Depth}
+use Rattle.blocks.specs.declared.rounds.Stopped.{Stopped}
 use Rattle.blocks.specs.Arms.{block_arm, block_ending}
 
 -- What stands before a form's block, and then the rest of the form.
@@ -57,61 +62,76 @@ pub record Recover (owner : BlockOwner) (boundary : BlockRecoveryBoundary) (w w'
   pub ran : Ran (in_node Error (error_here (Message.Recovery owner boundary))) w w'
   pub pos : w'.c.pos ≡ w.c.pos
 
+-- what ends the loop is reported
+pub record BlockEnding (k : Closing) (owner : BlockOwner) (w w' : World) (outcome : BlockParseOutcome) : Type 0 where
+  pub ran : RanTo (block_ending k owner) w w' outcome
+  pub pos : w'.c.pos ≡ w.c.pos
+
 -- a block's end, and its closing event
-pub record Close (k : Closing) (owner : BlockOwner) (w w' : World) (outcome : BlockParseOutcome) (item : Bool) : Type 0 where
+pub record Close (k : Closing) (owner : BlockOwner) (w w' : World) (e : BlockEnd) : Type 0 where
   pub mid : World
-  pub ran : RanTo (block_ending k owner) w mid outcome
+  pub ran : RanTo (block_ending k owner) w mid e.outcome
   pub wrote : Wrote 0 mid w'
   pub onward : Onward w w'
   pub pos : w'.c.pos ≡ w.c.pos
-  pub at_item : item ≡ true → k ≡ Closing.Item
+  pub at_item : e.item ≡ true → k ≡ Closing.Item
 
 -- a form's end, and its closing event
-pub record Finish (owner : BlockOwner) (outcome : BlockParseOutcome) (w w' : World) (eof item : Bool) : Type 0 where
+pub record Finish (owner : BlockOwner) (outcome : BlockParseOutcome) (w w' : World) (f : Form) : Type 0 where
   pub mid : World
-  pub ran : RanTo (ended owner outcome) w mid eof
+  pub ran : RanTo (ended owner outcome) w mid f.eof
   pub wrote : Wrote 0 mid w'
   pub onward : Onward w w'
-  pub here : ItemAt (file w') w'.c.pos item
+  pub here : ItemAt (file w') w'.c.pos f.item
 
 -- ---- the rounds of a block
+abbrev pub place : BlockOwner → Terminators → Depth → BlockPlace
+place owner terminators depth = record { depth = depth; owner = owner; terminators = terminators }
+
+-- what is left of a block at this place, and the whole of it
+abbrev pub rest_at : BlockPlace → P BlockParseOutcome
+rest_at p = block_in limit p.owner p.terminators p.depth.forms
+
+abbrev pub block_at : BlockPlace → P BlockParseOutcome
+block_at p = parse_block limit p.owner p.terminators p.depth.forms
+
 -- They come to a form below the limit: what is left of the block from there is what was left of it before.
-pub record AtForm (owner : BlockOwner) (terminators : Terminators) (depth : ℕ) (w w' : World) (word : Sym) : Type 0 where
-  pub on : (v : World) (r : BlockParseOutcome) → RanTo (block_in limit owner terminators depth) w' v r → RanTo (block_in limit owner terminators depth) w v r
-  pub arm : block_arm terminators (remaining w') ≡ BlockArm.Control
+pub record AtForm (p : BlockPlace) (w w' : World) (word : Sym) : Type 0 where
+  pub on : (v : World) (r : BlockParseOutcome) → RanTo (rest_at p) w' v r → RanTo (rest_at p) w v r
+  pub arm : block_arm p.terminators (remaining w') ≡ BlockArm.Control
   pub first : word ≡ current (remaining w')
-  pub below : depth < limit
+  pub below : p.depth.forms < limit
 
 -- Or they end the block, and its closing event is written.
-pub record Over (owner : BlockOwner) (terminators : Terminators) (depth : ℕ) (w w' : World) (outcome : BlockParseOutcome) (item : Bool) : Type 0 where
+pub record Over (p : BlockPlace) (w w' : World) (outcome : BlockParseOutcome) (item : Bool) : Type 0 where
   pub mid : World
-  pub ran : RanTo (block_in limit owner terminators depth) w mid outcome
+  pub ran : RanTo (rest_at p) w mid outcome
   pub wrote : Wrote 0 mid w'
   pub here : ItemAt (file w') w'.c.pos item
 
-pub record BlockRounds (owner : BlockOwner) (terminators : Terminators) (depth : ℕ) (w w' : World) (outcome : BlockParseOutcome) (item control : Bool) (word : Sym) : Type 0 where
+pub record BlockRounds (p : BlockPlace) (w w' : World) (s : Stopped) : Type 0 where
   pub onward : Onward w w'
-  pub form : control ≡ true → AtForm owner terminators depth w w' word
-  pub over : control ≡ false → Over owner terminators depth w w' outcome item
+  pub form : s.control ≡ true → AtForm p w w' s.word
+  pub over : s.control ≡ false → Over p w w' s.outcome s.item
 
--- at a form, in whatever block
-pub record FormHere (depth : ℕ) (w w' : World) (outcome : BlockParseOutcome) (item control : Bool) (word : Sym) : Type 0 where
+-- at a form, in whatever block of this depth
+pub record FormHere (depth : ℕ) (w w' : World) (s : Stopped) : Type 0 where
   pub onward : Onward w w'
-  pub of : (owner : BlockOwner) (terminators : Terminators) → block_arm terminators (remaining w) ≡ BlockArm.Control → BlockRounds owner terminators depth w w' outcome item control word
+  pub of : (p : BlockPlace) → depth ≡ p.depth.forms → block_arm p.terminators (remaining w) ≡ BlockArm.Control → BlockRounds p w w' s
 
 -- the same behind the block's opening event
-pub record FirstRounds (owner : BlockOwner) (terminators : Terminators) (depth : ℕ) (w w' : World) (outcome : BlockParseOutcome) (item control : Bool) (word : Sym) : Type 0 where
+pub record FirstRounds (p : BlockPlace) (w w' : World) (s : Stopped) : Type 0 where
   pub mid : World
   pub wrote : Wrote (num Kind.Block) w mid
   pub onward : Onward w w'
-  pub rounds : BlockRounds owner terminators depth mid w' outcome item control word
+  pub rounds : BlockRounds p mid w' s
 
 -- ---- a block, and a form
-pub record ParseBlock (owner : BlockOwner) (terminators : Terminators) (depth : ℕ) (w w' : World) (outcome : BlockParseOutcome) (item : Bool) : Type 0 where
-  pub ran : RanTo (parse_block limit owner terminators depth) w w' outcome
-  pub here : ItemAt (file w') w'.c.pos item
+pub record ParseBlock (p : BlockPlace) (w w' : World) (e : BlockEnd) : Type 0 where
+  pub ran : RanTo (block_at p) w w' e.outcome
+  pub here : ItemAt (file w') w'.c.pos e.item
 
-pub record ParseForm (form : P Bool) (w w' : World) (eof item : Bool) : Type 0 where
-  pub ran : RanTo form w w' eof
+pub record ParseForm (form : P Bool) (w w' : World) (f : Form) : Type 0 where
+  pub ran : RanTo form w w' f.eof
   pub past : Past w w'
-  pub here : ItemAt (file w') w'.c.pos item
+  pub here : ItemAt (file w') w'.c.pos f.item

@@ -38,66 +38,39 @@ pub enum BlockArm {
     Control,
 }
 
-// The arm, and what is remembered of the lookahead behind doc comments.
-#[derive(Clone, Copy)]
-pub struct Seen {
-    pub arm: BlockArm,
-    pub known: Remembered,
-}
-
 fn is_control_flow(k: u16) -> bool
     ensures { result ≡ control_flow k }
 {
     in_words(CONTROL_FLOW, k)
 }
 
-// The tests behind those of `block_arm_here`. Where `item` holds, a block inside ended at an item that starts here.
-fn inner_arm(parser: &Parser, p: usize, known: Remembered, item: bool) -> Seen
-    requires { (DocKnown parser.now.kinds.now p known) × (ItemAt parser.now.kinds.now p item) }
-    ensures { (result.arm ≡ inner_arm (drop p parser.now.kinds.now)) × (DocKnown parser.now.kinds.now p result.known) }
+// The tests behind those of `block_arm_here`. Where `item` holds, a block inside ended at an item that starts here. `known` is what is
+// remembered of the lookahead behind doc comments.
+fn inner_arm(parser: &Parser, p: usize, known: &mut Remembered, item: bool) -> BlockArm
+    requires { (DocKnown parser.now.kinds.now p known.old) × (ItemAt parser.now.kinds.now p item) }
+    ensures { (result ≡ inner_arm (drop p parser.now.kinds.now)) × (DocKnown parser.now.kinds.now p known.new) }
 {
     if item {
-        return Seen {
-            arm: BlockArm::Closes(Closing::Item),
-            known,
-        };
+        return BlockArm::Closes(Closing::Item);
     }
     let k = parser.current(p);
     if k == DOC_COMMENT {
-        let doc = parser.starts_behind_doc(p, known);
-        if doc.starts {
-            return Seen {
-                arm: BlockArm::Closes(Closing::Item),
-                known: doc,
-            };
+        *known = parser.starts_behind_doc(p, *known);
+        if known.starts {
+            return BlockArm::Closes(Closing::Item);
         }
-        return Seen {
-            arm: BlockArm::Takes(Taken::Doc),
-            known: doc,
-        };
+        return BlockArm::Takes(Taken::Doc);
     }
     if parser.is_top_level_starter(p) {
-        return Seen {
-            arm: BlockArm::Closes(Closing::Item),
-            known,
-        };
+        return BlockArm::Closes(Closing::Item);
     }
     if is_control_flow(k) {
-        return Seen {
-            arm: BlockArm::Control,
-            known,
-        };
+        return BlockArm::Control;
     }
     if starts_instruction(k) {
-        return Seen {
-            arm: BlockArm::Takes(Taken::Instruction),
-            known,
-        };
+        return BlockArm::Takes(Taken::Instruction);
     }
-    Seen {
-        arm: BlockArm::Takes(Taken::Bad),
-        known,
-    }
+    BlockArm::Takes(Taken::Bad)
 }
 
 // The tests of a round. Trivia and identifiers that are no words are met most, and are neither the end of the file nor a
@@ -106,43 +79,27 @@ pub fn block_arm_here(
     parser: &Parser,
     p: usize,
     terminators: Terminators,
-    known: Remembered,
+    known: &mut Remembered,
     item: bool,
-) -> Seen
-    requires { (DocKnown parser.now.kinds.now p known) × (ItemAt parser.now.kinds.now p item) }
-    ensures { (result.arm ≡ block_arm terminators (drop p parser.now.kinds.now))
-        × (DocKnown parser.now.kinds.now p result.known) }
+) -> BlockArm
+    requires { (DocKnown parser.now.kinds.now p known.old) × (ItemAt parser.now.kinds.now p item) }
+    ensures { (result ≡ block_arm terminators (drop p parser.now.kinds.now)) × (DocKnown parser.now.kinds.now p known.new) }
 {
     let k = parser.current(p);
     if is_regular_trivia(k) {
-        return Seen {
-            arm: BlockArm::Takes(Taken::Trivia),
-            known,
-        };
+        return BlockArm::Takes(Taken::Trivia);
     }
     if k == IDENT {
-        return Seen {
-            arm: BlockArm::Takes(Taken::Instruction),
-            known,
-        };
+        return BlockArm::Takes(Taken::Instruction);
     }
     if parser.eof(p) {
-        return Seen {
-            arm: BlockArm::Closes(Closing::Eof),
-            known,
-        };
+        return BlockArm::Closes(Closing::Eof);
     }
     if parser.at_terminator(p, terminators) {
-        return Seen {
-            arm: BlockArm::Closes(Closing::Terminator),
-            known,
-        };
+        return BlockArm::Closes(Closing::Terminator);
     }
     if parser.at_stray_else(p, terminators) {
-        return Seen {
-            arm: BlockArm::Closes(Closing::StrayElse),
-            known,
-        };
+        return BlockArm::Closes(Closing::StrayElse);
     }
     inner_arm(parser, p, known, item)
 }

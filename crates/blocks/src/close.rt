@@ -2,10 +2,10 @@
 ghost use Rattle.std.specs.Prelude.{◌≡◌, false, not, ◌&&◌, drop};
 ghost use Rattle.grammar.specs.Words.{is, ELSE as else_word, WHILE as while_word};
 ghost use Rattle.grammar.specs.Look.{at};
-ghost use Rattle.grammar.specs.Block.{found_terminator, reached_eof};
+ghost use Rattle.grammar.specs.Block.{found_terminator, reached_eof, closing};
 ghost use Rattle.grammar.specs.declared.block.BlockParseOutcome.TheVariants.{ReachedEof};
-ghost use Rattle.parser.specs.Rep.{entry, exit, Wrote};
-ghost use Rattle.blocks.specs.Shapes.{Recover, Close, Finish, ItemAt};
+ghost use Rattle.parser.specs.Rep.{entry, exit, Wrote, Ran};
+ghost use Rattle.blocks.specs.Shapes.{Recover, BlockEnding, Close, Finish, ItemAt};
 
 use crate::arm::Closing;
 use grammar::block::{BlockOwner, BlockParseOutcome, BlockRecoveryBoundary};
@@ -45,46 +45,41 @@ fn recover(
     parser.finish_node(b)
 }
 
-// A round that ends the loop, and the block's closing event.
-pub fn close(parser: &mut Parser, c0: Cursor, owner: BlockOwner, k: Closing) -> BlockEnd
-    ensures { Close k owner (entry parser c0) (exit parser result.c) result.outcome result.item }
+// What ends the loop is reported, and says how the block has ended.
+fn block_ending(
+    parser: &mut Parser,
+    c0: Cursor,
+    owner: BlockOwner,
+    k: Closing,
+) -> (Cursor, BlockParseOutcome)
+    ensures { BlockEnding k owner (entry parser c0) (exit parser result.0) result.1 }
 {
     match k {
         Closing::Eof => {
-            let a = parser.error_here(c0, Message::MissingEnd(owner));
-            let b = parser.finish_node(a);
-            BlockEnd {
-                c: b,
-                outcome: BlockParseOutcome::ReachedEof,
-                item: false,
-            }
+            let c = parser.error_here(c0, Message::MissingEnd(owner));
+            (c, BlockParseOutcome::ReachedEof)
         }
-        Closing::Terminator => {
-            let b = parser.finish_node(c0);
-            BlockEnd {
-                c: b,
-                outcome: BlockParseOutcome::FoundTerminator,
-                item: false,
-            }
-        }
+        Closing::Terminator => (c0, BlockParseOutcome::FoundTerminator),
         Closing::StrayElse => {
-            let a = recover(parser, c0, owner, BlockRecoveryBoundary::Else);
-            let b = parser.finish_node(a);
-            BlockEnd {
-                c: b,
-                outcome: BlockParseOutcome::RecoveredImplicitEnd,
-                item: false,
-            }
+            let c = recover(parser, c0, owner, BlockRecoveryBoundary::Else);
+            (c, BlockParseOutcome::RecoveredImplicitEnd)
         }
         Closing::Item => {
-            let a = recover(parser, c0, owner, BlockRecoveryBoundary::TopLevelItem);
-            let b = parser.finish_node(a);
-            BlockEnd {
-                c: b,
-                outcome: BlockParseOutcome::RecoveredImplicitEnd,
-                item: true,
-            }
+            let c = recover(parser, c0, owner, BlockRecoveryBoundary::TopLevelItem);
+            (c, BlockParseOutcome::RecoveredImplicitEnd)
         }
+    }
+}
+
+// A round that ends the loop, and the block's closing event.
+pub fn close(parser: &mut Parser, c0: Cursor, owner: BlockOwner, k: Closing) -> BlockEnd
+    ensures { Close k owner (entry parser c0) (exit parser result.c) result }
+{
+    let (c, outcome) = block_ending(parser, c0, owner, k);
+    BlockEnd {
+        c: parser.finish_node(c),
+        outcome,
+        item: matches!(k, Closing::Item),
     }
 }
 
@@ -92,53 +87,44 @@ pub fn close(parser: &mut Parser, c0: Cursor, owner: BlockOwner, k: Closing) -> 
 pub fn ended_file(parser: &mut Parser, c0: Cursor) -> BlockEnd
     ensures { (Wrote 0 (entry parser c0) (exit parser result.c)) × (result.outcome ≡ ReachedEof) × (result.item ≡ false) }
 {
-    let c = parser.finish_node(c0);
     BlockEnd {
-        c: c,
+        c: parser.finish_node(c0),
         outcome: BlockParseOutcome::ReachedEof,
         item: false,
     }
 }
 
+// if outcome == FoundTerminator { expect_keyword("end", owner.missing_end_message()) }
+pub fn closing(
+    parser: &mut Parser,
+    c0: Cursor,
+    owner: BlockOwner,
+    outcome: BlockParseOutcome,
+) -> Cursor
+    ensures { Ran (closing owner outcome) (entry parser c0) (exit parser result) }
+{
+    if found_terminator(outcome) {
+        return parser
+            .expect_keyword(c0, Word::End, Message::MissingEnd(owner))
+            .c;
+    }
+    c0
+}
+
 // After a form's last block: its `end` where there is one, and the form's closing event.
 pub fn finish(parser: &mut Parser, b: BlockEnd, owner: BlockOwner) -> Form
     requires { ItemAt parser.old.kinds.now b.c.pos b.item }
-    ensures { Finish owner b.outcome
-        (entry parser b.c) (exit parser result.c) result.eof result.item }
+    ensures { Finish owner b.outcome (entry parser b.c) (exit parser result.c) result }
 {
-    let c = b.c;
-    let outcome = b.outcome;
-    match outcome {
-        BlockParseOutcome::ReachedEof => {
-            let e = parser.finish_node(c);
-            Form {
-                c: e,
-                eof: true,
-                item: false,
-            }
-        }
-        BlockParseOutcome::FoundTerminator => {
-            let d = parser.expect_keyword(c, Word::End, Message::MissingEnd(owner));
-            let dc = d.c;
-            let e = parser.finish_node(dc);
-            Form {
-                c: e,
-                eof: false,
-                item: false,
-            }
-        }
-        BlockParseOutcome::RecoveredImplicitEnd => {
-            let e = parser.finish_node(c);
-            Form {
-                c: e,
-                eof: false,
-                item: b.item,
-            }
-        }
+    let c = closing(parser, b.c, owner, b.outcome);
+    Form {
+        c: parser.finish_node(c),
+        eof: reached_eof(b.outcome),
+        item: b.item && !found_terminator(b.outcome),
     }
 }
 
-pub fn found_terminator(outcome: BlockParseOutcome) -> bool
+fn found_terminator(outcome: BlockParseOutcome) -> bool
     ensures { result ≡ found_terminator outcome }
 {
     matches!(outcome, BlockParseOutcome::FoundTerminator)

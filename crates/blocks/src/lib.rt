@@ -5,6 +5,7 @@ pub mod arm;
 pub mod block;
 pub mod close;
 pub mod header;
+pub mod place;
 pub mod reject;
 pub mod rounds;
 pub mod step;

@@ -4,24 +4,14 @@ ghost use Rattle.blocks.specs.Shapes.{ItemAt, FormHere, BlockRounds, FirstRounds
 
 use crate::arm::{BlockArm, block_arm_here};
 use crate::close::close;
+use crate::place::{BlockPlace, Depth, MAX_CONTROL_FLOW_NESTING};
 use crate::reject::reject_excessive_control_flow_nesting;
 use crate::step::take;
-use grammar::block::{BlockOwner, BlockParseOutcome, Terminators};
+use grammar::block::BlockParseOutcome;
 use lexer::syntax::SyntaxKind;
 use parser::cursor::Cursor;
 use parser::look::Remembered;
 use parser::state::Parser;
-
-// Control-flow nodes in one another.
-const MAX_CONTROL_FLOW_NESTING: usize = 256;
-
-// Which block it is, and how many forms it stands in. One small struct, since each frame of the cycle has one.
-#[derive(Clone, Copy)]
-pub struct BlockPlace {
-    pub depth: u16,
-    pub owner: BlockOwner,
-    pub terminators: Terminators,
-}
 
 // Where the rounds stop: at a form, whose keyword is `word`, or behind the block's closing event. A flag, and no enum of the two: with
 // that each level of the cycle takes 64 bytes more.
@@ -35,11 +25,10 @@ pub struct Stopped {
 }
 
 // At a form. Past the limit the rest of the file is rejected, and the block has ended.
-fn form_here(parser: &mut Parser, c0: Cursor, depth: usize) -> Stopped
-    ensures { FormHere depth
-        (entry parser c0) (exit parser result.c) result.outcome result.item result.control result.word }
+fn form_here(parser: &mut Parser, c0: Cursor, depth: Depth) -> Stopped
+    ensures { FormHere depth.forms (entry parser c0) (exit parser result.c) result }
 {
-    if MAX_CONTROL_FLOW_NESTING <= depth {
+    if MAX_CONTROL_FLOW_NESTING <= depth.forms {
         let d = reject_excessive_control_flow_nesting(parser, c0);
         let e = parser.finish_node(d);
         return Stopped {
@@ -50,11 +39,10 @@ fn form_here(parser: &mut Parser, c0: Cursor, depth: usize) -> Stopped
             item: false,
         };
     }
-    let word = parser.current(c0.pos);
     Stopped {
         c: c0,
         control: true,
-        word: word,
+        word: parser.current(c0.pos),
         outcome: BlockParseOutcome::ReachedEof,
         item: false,
     }
@@ -65,12 +53,8 @@ fn form_here(parser: &mut Parser, c0: Cursor, depth: usize) -> Stopped
 // of trivia before it, so nothing is remembered over a form.
 fn rounds(parser: &mut Parser, c0: Cursor, place: BlockPlace, item0: bool) -> Stopped
     requires { ItemAt parser.old.kinds.now c0.pos item0 }
-    ensures { BlockRounds place.owner place.terminators place.depth
-        (entry parser c0) (exit parser result.c) result.outcome result.item result.control result.word }
+    ensures { BlockRounds place (entry parser c0) (exit parser result.c) result }
 {
-    let owner = place.owner;
-    let terminators = place.terminators;
-    let depth = place.depth as usize;
     let mut c = c0;
     let mut item = item0;
     let mut known = Remembered {
@@ -78,39 +62,30 @@ fn rounds(parser: &mut Parser, c0: Cursor, place: BlockPlace, item0: bool) -> St
         starts: false,
     };
     loop {
-        let seen = block_arm_here(parser, c.pos, terminators, known, item);
-        let a = seen.arm;
-        known = seen.known;
-        match a {
+        match block_arm_here(parser, c.pos, place.terminators, &mut known, item) {
             BlockArm::Takes(t) => {
                 let d = take(parser, c, t);
                 c = parser.bump_regular_trivia(d);
                 item = false;
-                continue;
             }
             BlockArm::Closes(k) => {
-                let e = close(parser, c, owner, k);
-                let ec = e.c;
-                let outcome = e.outcome;
+                let e = close(parser, c, place.owner, k);
                 return Stopped {
-                    c: ec,
+                    c: e.c,
                     control: false,
                     word: 0,
-                    outcome: outcome,
+                    outcome: e.outcome,
                     item: e.item,
                 };
             }
-            BlockArm::Control => {
-                return form_here(parser, c, depth);
-            }
+            BlockArm::Control => return form_here(parser, c, place.depth),
         }
     }
 }
 
 // The block's opening event, and its rounds up to the first form.
 pub fn first_rounds(parser: &mut Parser, c0: Cursor, place: BlockPlace) -> Stopped
-    ensures { FirstRounds place.owner place.terminators place.depth
-        (entry parser c0) (exit parser result.c) result.outcome result.item result.control result.word }
+    ensures { FirstRounds place (entry parser c0) (exit parser result.c) result }
 {
     let c = parser.start_node(c0, SyntaxKind::Block);
     rounds(parser, c, place, false)
@@ -119,8 +94,7 @@ pub fn first_rounds(parser: &mut Parser, c0: Cursor, place: BlockPlace) -> Stopp
 // The rounds behind a form.
 pub fn next_rounds(parser: &mut Parser, c0: Cursor, place: BlockPlace, item0: bool) -> Stopped
     requires { ItemAt parser.old.kinds.now c0.pos item0 }
-    ensures { BlockRounds place.owner place.terminators place.depth
-        (entry parser c0) (exit parser result.c) result.outcome result.item result.control result.word }
+    ensures { BlockRounds place (entry parser c0) (exit parser result.c) result }
 {
     rounds(parser, c0, place, item0)
 }

@@ -23,57 +23,43 @@ pub enum ItemArm {
 }
 
 // The declaration that a keyword starts, alone or behind `pub`.
+#[tactic(auto, unfolding(crate::specs::Arms::declaration_arm))]
 fn declaration_arm(d: u16) -> ItemArm
     ensures { result ≡ declaration_arm d }
 {
-    if MOD == d {
-        return ItemArm::Submodule;
+    match d {
+        MOD => ItemArm::Submodule,
+        PROC => ItemArm::Procedure,
+        CONST => ItemArm::Constant,
+        TYPE | ENUM => ItemArm::Type,
+        _ => ItemArm::Bad,
     }
-    if PROC == d {
-        return ItemArm::Procedure;
-    }
-    if CONST == d {
-        return ItemArm::Constant;
-    }
-    if TYPE == d {
-        return ItemArm::Type;
-    }
-    if ENUM == d {
-        return ItemArm::Type;
-    }
-    ItemArm::Bad
 }
 
 // At a word that is not `pub`.
+#[tactic(auto, unfolding(crate::specs::Arms::word_arm))]
 fn word_arm(k: u16) -> ItemArm
     ensures { result ≡ word_arm k }
 {
-    if NAMESPACE_WORD == k {
-        return ItemArm::Namespace;
+    match k {
+        NAMESPACE_WORD => ItemArm::Namespace,
+        BEGIN => ItemArm::Begin,
+        ADV_MAP => ItemArm::AdviceMap,
+        _ => declaration_arm(k),
     }
-    if BEGIN == k {
-        return ItemArm::Begin;
-    }
-    if ADV_MAP == k {
-        return ItemArm::AdviceMap;
-    }
-    declaration_arm(k)
 }
 
 // At a token that is no word.
+#[tactic(auto, unfolding(crate::specs::Arms::plain_arm))]
 fn plain_arm(k: u16) -> ItemArm
     ensures { result ≡ plain_arm k }
 {
-    if DOC_COMMENT == k {
-        return ItemArm::Doc;
+    match k {
+        DOC_COMMENT => ItemArm::Doc,
+        _ if is_regular_trivia(k) => ItemArm::Trivia,
+        AT => ItemArm::Procedure,
+        _ => ItemArm::Bad,
     }
-    if is_regular_trivia(k) {
-        return ItemArm::Trivia;
-    }
-    if AT == k {
-        return ItemArm::Procedure;
-    }
-    ItemArm::Bad
 }
 
 // The tests of parse_source_item; few are left once it is known whether the token is a word.

@@ -1,32 +1,22 @@
 // Procedures and the `begin` block.
-ghost use Rattle.grammar.specs.Block.{MAX_CONTROL_FLOW_NESTING as limit, closing as closing_of, parse_block};
+ghost use Rattle.grammar.specs.Block.{MAX_CONTROL_FLOW_NESTING as limit, parse_block};
 ghost use Rattle.grammar.specs.Item.{procedure_body, parse_procedure, parse_begin_block};
 ghost use Rattle.parser.specs.Rep.{entry, exit, Ran, RanTo};
 ghost use Rattle.items.specs.Procedure.{optional_signature, procedure_header, procedure_lead};
 
 use blocks::block::parse_block;
-use blocks::close::found_terminator;
+use blocks::close::closing;
+use blocks::place::Depth;
 use declarations::attribute::attributes;
 use declarations::signature::parse_signature;
 use declarations::visibility::optional_visibility;
 use forms::line::parse_line_tail;
-use grammar::block::{BlockOwner, BlockParseOutcome, Terminators};
+use grammar::block::{BlockOwner, Terminators};
 use grammar::message::{Message, ProcedureMessage};
 use grammar::words::Word;
 use lexer::syntax::SyntaxKind;
 use parser::cursor::{Cursor, Flow};
 use parser::state::Parser;
-
-// if outcome == FoundTerminator { expect_keyword("end", owner.missing_end_message()) }
-fn closing(parser: &mut Parser, c0: Cursor, owner: BlockOwner, outcome: BlockParseOutcome) -> Cursor
-    ensures { Ran (closing_of owner outcome) (entry parser c0) (exit parser result) }
-{
-    if found_terminator(outcome) {
-        let d = parser.expect_keyword(c0, Word::End, Message::MissingEnd(owner));
-        return d.c;
-    }
-    c0
-}
 
 fn optional_signature(parser: &mut Parser, c0: Cursor) -> Cursor
     ensures { Ran optional_signature (entry parser c0) (exit parser result) }
@@ -56,7 +46,13 @@ fn procedure_body(parser: &mut Parser, c0: Cursor) -> Cursor
     ensures { Ran (procedure_body (parse_block limit)) (entry parser c0) (exit parser result) }
 {
     let a = procedure_header(parser, c0);
-    let b = parse_block(parser, a, BlockOwner::Procedure, Terminators::End, 0);
+    let b = parse_block(
+        parser,
+        a,
+        BlockOwner::Procedure,
+        Terminators::End,
+        Depth::TOP,
+    );
     closing(parser, b.c, BlockOwner::Procedure, b.outcome)
 }
 
@@ -94,7 +90,7 @@ pub fn parse_begin_block(parser: &mut Parser, c0: Cursor) -> Cursor
     let a = parser.start_node(c0, SyntaxKind::BeginBlock);
     let b = parser.expect_keyword(a, Word::Begin, Message::Unreached);
     let d = parse_line_tail(parser, b.c);
-    let e = parse_block(parser, d, BlockOwner::Begin, Terminators::End, 0);
+    let e = parse_block(parser, d, BlockOwner::Begin, Terminators::End, Depth::TOP);
     let g = closing(parser, e.c, BlockOwner::Begin, e.outcome);
     parser.finish_node(g)
 }

@@ -11,18 +11,18 @@ pub returns-then-item : goal.returns-then-item
 unfolding inner_arm
 returns-then-item c = (rw (c.requires.1.starts c.if-item.true), c.requires.0)
 
-pub starts_behind_doc-doc-requires : goal.starts_behind_doc-doc-requires
-starts_behind_doc-doc-requires c =
+pub starts_behind_doc-requires : goal.starts_behind_doc-requires
+starts_behind_doc-requires c =
     (at_here DocComment _ refl c.current-k.ensures c.if-k-eq-DOC_COMMENT.true, c.requires.0)
 
-pub returns-then-doc : goal.returns-then-doc
+pub returns-then-known : goal.returns-then-known
 unfolding inner_arm
-returns-then-doc c = (rw (sym c.starts_behind_doc-doc.ensures.0 ∙ c.if-doc.true), c.starts_behind_doc-doc.ensures.1)
+returns-then-known c = (rw (sym c.starts_behind_doc.ensures.0 ∙ c.if-known.true), c.starts_behind_doc.ensures.1)
 
 pub returns-then-k-eq-DOC_COMMENT : goal.returns-then-k-eq-DOC_COMMENT
 unfolding inner_arm
 returns-then-k-eq-DOC_COMMENT c =
-    (rw (sym c.starts_behind_doc-doc.ensures.0 ∙ c.if-doc.false, at_here DocComment _ refl c.current-k.ensures c.if-k-eq-DOC_COMMENT.true), c.starts_behind_doc-doc.ensures.1)
+    (rw (sym c.starts_behind_doc.ensures.0 ∙ c.if-known.false, at_here DocComment _ refl c.current-k.ensures c.if-k-eq-DOC_COMMENT.true), c.starts_behind_doc.ensures.1)
 
 pub returns-then-is_top_level_starter : goal.returns-then-is_top_level_starter
 unfolding inner_arm

@@ -7,25 +7,18 @@ use Rattle.blocks.specs.Arms.{by_block_arm}
 use Rattle.blocks.proofs.Laws.{meant, deeper, round, said_no_item, gives, from_form, repeat_here, formed, no_condition, condition, no_else, with_else}
 use Rattle.parser.proofs.Kit.{on_to, off_to, node_to, bind_to, yes_to, no_to}
 use Rattle.grammar.specs.Block.{MAX_CONTROL_FLOW_NESTING as limit, parse_block, parse_control_flow, do_condition, found_terminator, parse_do_while, parse_if, reached_eof, ended, parse_repeat, parse_while}
-use Rattle.grammar.specs.Words.{DO, IF, WHILE}
-use Rattle.parser.proofs.Ahead.{at_here, at_not}
+use Rattle.grammar.specs.Words.{is, DO, IF, WHILE}
+use Rattle.parser.proofs.Ahead.{at_here, at_not, at_other}
 use Rattle.grammar.specs.Look.{one_of}
 use Rattle.std.proofs.lemmas.Bool.{and_parts}
 use mathlib.Core.Bool.{not}
 use Rattle.blocks.specs.Shapes.{else_part}
 use Rattle.grammar.specs.declared.block.BlockOwner.{BlockOwner}
+use borrow.Author.Rules.{rules}
 use Rattle.blocks.proofs.block.+forms.Goals as goal
-
-pub block_from-overflow_cast-depth : goal.block_from-overflow_cast-depth
-block_from-overflow_cast-depth t c =
-    omega (arith, c.requires)
 
 pub block_from-loop-s-init : goal.block_from-loop-s-init
 block_from-loop-s-init t c = record { on = λ w r. r }
-
-pub block_from-overflow_add-depth : goal.block_from-overflow_add-depth
-block_from-overflow_add-depth t c =
-    omega (arith, c.requires)
 
 pub block_from-parse_control_flow-f-requires : goal.block_from-parse_control_flow-f-requires
 block_from-parse_control_flow-f-requires t c =
@@ -33,16 +26,16 @@ block_from-parse_control_flow-f-requires t c =
     let rounds = c.loop-s.invariant.on _ begun.rounds in
     let here = rounds.form c.loop-s-test.true in
     let control = meant c.args.start.place.terminators _ BlockArm.Control refl here.arm in
-    (omega (arith, c.requires, begun.wrote.pos, rounds.onward), (here.first, control, omega (arith, here.below)))
+    (omega (arith, begun.wrote.pos, rounds.onward), (here.first, control))
 
 pub block_from-returns-then-f : goal.block_from-returns-then-f
 unfolding parse_block by_block_arm
 block_from-returns-then-f t c =
     let begun = c.first_rounds-s.ensures in
     let here = (c.loop-s.invariant.on _ begun.rounds).form c.loop-s-test.true in
-    let form = deeper c.args.start.place.depth c.parse_control_flow-f.ensures.ran in
+    let form = deeper c.args.start.place.depth.forms c.deeper.ensures c.parse_control_flow-f.ensures.ran in
     let rest = bind_to _ form (on_to _ c.if-f.true (gives c.ended_file.ensures.1)) in
-    let inside = here.on _ _ (round c.args.start.place.owner c.args.start.place.terminators c.args.start.place.depth BlockArm.Control (sym here.arm) refl (off_to _ (lt-leb limit c.args.start.place.depth here.below) rest)) in
+    let inside = here.on _ _ (round c.args.start.place BlockArm.Control (sym here.arm) refl (off_to _ (lt-leb limit c.args.start.place.depth.forms here.below) rest)) in
     record { ran = node_to _ begun.wrote inside c.ended_file.ensures.0; here = said_no_item c.ended_file.ensures.2 }
 
 pub block_from-next_rounds-s-requires : goal.block_from-next_rounds-s-requires
@@ -56,13 +49,13 @@ block_from-loop-s-smaller t c =
 pub block_from-loop-s-preserved : goal.block_from-loop-s-preserved
 unfolding by_block_arm
 block_from-loop-s-preserved t c =
-    let form = deeper c.args.start.place.depth c.parse_control_flow-f.ensures.ran in
+    let form = deeper c.args.start.place.depth.forms c.deeper.ensures c.parse_control_flow-f.ensures.ran in
     let i = c.loop-s.invariant in
     record {
       on = λ w r.
           let rounds = i.on w r in
           let here = rounds.form c.loop-s-test.true in
-          from_form c.loop-s-test.true rounds (λ u x h. round c.args.start.place.owner c.args.start.place.terminators c.args.start.place.depth BlockArm.Control (sym here.arm) refl (off_to _ (lt-leb limit c.args.start.place.depth here.below) (bind_to _ form (off_to _ c.if-f.false h))))
+          from_form c.loop-s-test.true rounds (λ u x h. round c.args.start.place BlockArm.Control (sym here.arm) refl (off_to _ (lt-leb limit c.args.start.place.depth.forms here.below) (bind_to _ form (off_to _ c.if-f.false h))))
           c.parse_control_flow-f.ensures.ran.ran.onward c.next_rounds-s.ensures;
     }
 
@@ -73,73 +66,64 @@ block_from-returns t c =
     let over = (c.loop-s.invariant.on _ begun.rounds).over c.loop-s-test.false in
     record { ran = node_to _ begun.wrote over.ran over.wrote; here = over.here }
 
-pub inner_block-overflow_cast-place : goal.inner_block-overflow_cast-place
-inner_block-overflow_cast-place t c =
-    omega (arith, c.requires)
-
 pub inner_block-block_from-requires : goal.inner_block-block_from-requires
 inner_block-block_from-requires t c =
-    omega (arith, c.requires)
+    omega arith
 
 pub inner_block-returns : goal.inner_block-returns
 inner_block-returns t c =
     c.block_from.ensures
 
+-- parse_control_flow's cases are the words' numbers: 2079 is `if`, 1055 `do`, 4127 `while`
 pub parse_control_flow-parse_if-requires : goal.parse_control_flow-parse_if-requires
-parse_control_flow-parse_if-requires t c =
-    (omega (arith, c.requires), (at_here IF _ refl c.requires.0 c.if-k-eq-IF.true, omega (arith, c.requires)))
+parse_control_flow-parse_if-requires t c = (omega arith, at_here IF _ refl c.requires.0 c.in-2079.is)
 
-pub parse_control_flow-returns-then-k-eq-IF : goal.parse_control_flow-returns-then-k-eq-IF
+pub parse_control_flow-returns-in-2079 : goal.parse_control_flow-returns-in-2079
 unfolding parse_control_flow
-parse_control_flow-returns-then-k-eq-IF t c =
+parse_control_flow-returns-in-2079 t c =
     record {
-      ran = yes_to _ _ refl (at_here IF _ refl c.requires.0 c.if-k-eq-IF.true) c.parse_if.ensures.ran;
+      ran = yes_to _ _ refl (at_here IF _ refl c.requires.0 c.in-2079.is) c.parse_if.ensures.ran;
       past = c.parse_if.ensures.past;
       here = c.parse_if.ensures.here;
     }
 
 pub parse_control_flow-parse_do_while-requires : goal.parse_control_flow-parse_do_while-requires
-parse_control_flow-parse_do_while-requires t c =
-    (omega (arith, c.requires), (at_here DO _ refl c.requires.0 c.if-k-eq-DO.true, omega (arith, c.requires)))
+parse_control_flow-parse_do_while-requires t c = (omega arith, at_here DO _ refl c.requires.0 c.in-1055.is)
 
-pub parse_control_flow-returns-then-k-eq-DO : goal.parse_control_flow-returns-then-k-eq-DO
+pub parse_control_flow-returns-in-1055 : goal.parse_control_flow-returns-in-1055
 unfolding parse_control_flow
-parse_control_flow-returns-then-k-eq-DO t c =
-    let no-if = at_not IF _ refl c.requires.0 c.if-k-eq-IF.false in
+parse_control_flow-returns-in-1055 t c =
     record {
-      ran = no_to _ _ refl no-if (yes_to _ _ refl (at_here DO _ refl c.requires.0 c.if-k-eq-DO.true) c.parse_do_while.ensures.ran);
+      ran = no_to _ _ refl (at_other (is IF) DO _ refl (at_here DO _ refl c.requires.0 c.in-1055.is)) (yes_to _ _ refl (at_here DO _ refl c.requires.0 c.in-1055.is) c.parse_do_while.ensures.ran);
       past = c.parse_do_while.ensures.past;
       here = c.parse_do_while.ensures.here;
     }
 
 pub parse_control_flow-parse_while-requires : goal.parse_control_flow-parse_while-requires
-parse_control_flow-parse_while-requires t c =
-    (omega (arith, c.requires), (at_here WHILE _ refl c.requires.0 c.if-k-eq-WHILE.true, omega (arith, c.requires)))
+parse_control_flow-parse_while-requires t c = (omega arith, at_here WHILE _ refl c.requires.0 c.in-4127.is)
 
-pub parse_control_flow-returns-then-k-eq-WHILE : goal.parse_control_flow-returns-then-k-eq-WHILE
+pub parse_control_flow-returns-in-4127 : goal.parse_control_flow-returns-in-4127
 unfolding parse_control_flow
-parse_control_flow-returns-then-k-eq-WHILE t c =
-    let no-if = at_not IF _ refl c.requires.0 c.if-k-eq-IF.false in
-    let no-do = at_not DO _ refl c.requires.0 c.if-k-eq-DO.false in
+parse_control_flow-returns-in-4127 t c =
     record {
-      ran = no_to _ _ refl no-if (no_to _ _ refl no-do (yes_to _ _ refl (at_here WHILE _ refl c.requires.0 c.if-k-eq-WHILE.true) c.parse_while.ensures.ran));
+      ran = no_to _ _ refl (at_other (is IF) WHILE _ refl (at_here WHILE _ refl c.requires.0 c.in-4127.is)) (no_to _ _ refl (at_other (is DO) WHILE _ refl (at_here WHILE _ refl c.requires.0 c.in-4127.is)) (yes_to _ _ refl (at_here WHILE _ refl c.requires.0 c.in-4127.is) c.parse_while.ensures.ran));
       past = c.parse_while.ensures.past;
       here = c.parse_while.ensures.here;
     }
 
 pub parse_control_flow-parse_repeat-requires : goal.parse_control_flow-parse_repeat-requires
 parse_control_flow-parse_repeat-requires t c =
-    let no-if = at_not IF _ refl c.requires.0 c.if-k-eq-IF.false in
-    let no-do = at_not DO _ refl c.requires.0 c.if-k-eq-DO.false in
-    let no-while = at_not WHILE _ refl c.requires.0 c.if-k-eq-WHILE.false in
-    (omega (arith, c.requires), (repeat_here _ c.requires.1 no-if no-do no-while, omega (arith, c.requires)))
+    let no-if = at_not IF _ refl c.requires.0 (search rules) in
+    let no-do = at_not DO _ refl c.requires.0 (search rules) in
+    let no-while = at_not WHILE _ refl c.requires.0 (search rules) in
+    (omega arith, repeat_here _ c.requires.1 no-if no-do no-while)
 
-pub parse_control_flow-returns : goal.parse_control_flow-returns
+pub parse_control_flow-returns-in_default : goal.parse_control_flow-returns-in_default
 unfolding parse_control_flow
-parse_control_flow-returns t c =
-    let no-if = at_not IF _ refl c.requires.0 c.if-k-eq-IF.false in
-    let no-do = at_not DO _ refl c.requires.0 c.if-k-eq-DO.false in
-    let no-while = at_not WHILE _ refl c.requires.0 c.if-k-eq-WHILE.false in
+parse_control_flow-returns-in_default t c =
+    let no-if = at_not IF _ refl c.requires.0 (search rules) in
+    let no-do = at_not DO _ refl c.requires.0 (search rules) in
+    let no-while = at_not WHILE _ refl c.requires.0 (search rules) in
     record {
       ran = no_to _ _ refl no-if (no_to _ _ refl no-do (no_to _ _ refl no-while c.parse_repeat.ensures.ran));
       past = c.parse_repeat.ensures.past;
@@ -147,11 +131,11 @@ parse_control_flow-returns t c =
     }
 
 pub parse_do_while-do_header-h-requires : goal.parse_do_while-do_header-h-requires
-parse_do_while-do_header-h-requires t c = c.requires.0
+parse_do_while-do_header-h-requires t c = c.requires
 
 pub parse_do_while-inner_block-b-requires : goal.parse_do_while-inner_block-b-requires
 parse_do_while-inner_block-b-requires t c =
-    omega (arith, c.requires, c.do_header-h.ensures.past)
+    omega (arith, c.do_header-h.ensures.past)
 
 pub parse_do_while-finish-requires : goal.parse_do_while-finish-requires
 parse_do_while-finish-requires t c = c.inner_block-b.ensures.here
@@ -159,7 +143,7 @@ parse_do_while-finish-requires t c = c.inner_block-b.ensures.here
 pub parse_do_while-returns-then-not-goes_to_while : goal.parse_do_while-returns-then-not-goes_to_while
 unfolding parse_do_while
 parse_do_while-returns-then-not-goes_to_while t c =
-    let depth = c.args.depth in
+    let depth = c.args.depth.forms in
     let first = c.inner_block-b.ensures.ran in
     let fails = c.if-not-goes_to_while.true in
     let end = c.finish.ensures in
@@ -172,7 +156,7 @@ parse_do_while-keyword_line-line-requires t c =
 
 pub parse_do_while-inner_block-b-requires-2 : goal.parse_do_while-inner_block-b-requires-2
 parse_do_while-inner_block-b-requires-2 t c =
-    omega (arith, c.requires, c.do_header-h.ensures.past, c.inner_block-b.ensures.ran.ran.onward, c.keyword_line-line.ensures.onward)
+    omega (arith, c.do_header-h.ensures.past, c.inner_block-b.ensures.ran.ran.onward, c.keyword_line-line.ensures.onward)
 
 pub parse_do_while-finish-requires-2 : goal.parse_do_while-finish-requires-2
 parse_do_while-finish-requires-2 t c = c.inner_block-b-2.ensures.here
@@ -180,7 +164,7 @@ parse_do_while-finish-requires-2 t c = c.inner_block-b-2.ensures.here
 pub parse_do_while-returns : goal.parse_do_while-returns
 unfolding parse_do_while
 parse_do_while-returns t c =
-    let depth = c.args.depth in
+    let depth = c.args.depth.forms in
     let holds = c.if-not-goes_to_while.false in
     let last = c.inner_block-b-2.ensures.ran in
     let end = c.finish-2.ensures in
@@ -188,11 +172,11 @@ parse_do_while-returns t c =
     formed _ (do_condition (parse_block limit) depth) c.do_header-h.ensures c.inner_block-b.ensures.ran end rest
 
 pub parse_if-if_header-h-requires : goal.parse_if-if_header-h-requires
-parse_if-if_header-h-requires t c = c.requires.0
+parse_if-if_header-h-requires t c = c.requires
 
 pub parse_if-inner_block-b-requires : goal.parse_if-inner_block-b-requires
 parse_if-inner_block-b-requires t c =
-    omega (arith, c.requires, c.if_header-h.ensures.past)
+    omega (arith, c.if_header-h.ensures.past)
 
 pub parse_if-finish-requires : goal.parse_if-finish-requires
 parse_if-finish-requires t c = c.inner_block-b.ensures.here
@@ -200,7 +184,7 @@ parse_if-finish-requires t c = c.inner_block-b.ensures.here
 pub parse_if-returns-then-not-goes_to_else : goal.parse_if-returns-then-not-goes_to_else
 unfolding parse_if
 parse_if-returns-then-not-goes_to_else t c =
-    let depth = c.args.depth in
+    let depth = c.args.depth.forms in
     let first = c.inner_block-b.ensures.ran in
     let fails = c.if-not-goes_to_else.true in
     let end = c.finish.ensures in
@@ -213,7 +197,7 @@ parse_if-keyword_line-line-requires t c =
 
 pub parse_if-inner_block-b-requires-2 : goal.parse_if-inner_block-b-requires-2
 parse_if-inner_block-b-requires-2 t c =
-    omega (arith, c.requires, c.if_header-h.ensures.past, c.inner_block-b.ensures.ran.ran.onward, c.keyword_line-line.ensures.onward)
+    omega (arith, c.if_header-h.ensures.past, c.inner_block-b.ensures.ran.ran.onward, c.keyword_line-line.ensures.onward)
 
 pub parse_if-finish-requires-2 : goal.parse_if-finish-requires-2
 parse_if-finish-requires-2 t c = c.inner_block-b-2.ensures.here
@@ -221,7 +205,7 @@ parse_if-finish-requires-2 t c = c.inner_block-b-2.ensures.here
 pub parse_if-returns : goal.parse_if-returns
 unfolding parse_if
 parse_if-returns t c =
-    let depth = c.args.depth in
+    let depth = c.args.depth.forms in
     let holds = c.if-not-goes_to_else.false in
     let last = c.inner_block-b-2.ensures.ran in
     let end = c.finish-2.ensures in
@@ -229,11 +213,11 @@ parse_if-returns t c =
     formed _ (else_part (parse_block limit) depth) c.if_header-h.ensures c.inner_block-b.ensures.ran end rest
 
 pub parse_repeat-repeat_header-h-requires : goal.parse_repeat-repeat_header-h-requires
-parse_repeat-repeat_header-h-requires t c = c.requires.0
+parse_repeat-repeat_header-h-requires t c = c.requires
 
 pub parse_repeat-inner_block-b-requires : goal.parse_repeat-inner_block-b-requires
 parse_repeat-inner_block-b-requires t c =
-    omega (arith, c.requires, c.repeat_header-h.ensures.past)
+    omega (arith, c.repeat_header-h.ensures.past)
 
 pub parse_repeat-finish-requires : goal.parse_repeat-finish-requires
 parse_repeat-finish-requires t c = c.inner_block-b.ensures.here
@@ -245,11 +229,11 @@ parse_repeat-returns t c =
     formed _ (λ o. ended BlockOwner.Repeat o) c.repeat_header-h.ensures c.inner_block-b.ensures.ran end end.ran
 
 pub parse_while-while_header-h-requires : goal.parse_while-while_header-h-requires
-parse_while-while_header-h-requires t c = c.requires.0
+parse_while-while_header-h-requires t c = c.requires
 
 pub parse_while-inner_block-b-requires : goal.parse_while-inner_block-b-requires
 parse_while-inner_block-b-requires t c =
-    omega (arith, c.requires, c.while_header-h.ensures.past)
+    omega (arith, c.while_header-h.ensures.past)
 
 pub parse_while-finish-requires : goal.parse_while-finish-requires
 parse_while-finish-requires t c = c.inner_block-b.ensures.here

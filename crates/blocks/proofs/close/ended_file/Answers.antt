@@ -3,4 +3,4 @@ use mathlib.Core.Path.{refl}
 use Rattle.blocks.proofs.close.ended_file.Goals as goal
 
 pub returns : goal.returns
-returns c = (c.finish_node-c.ensures, refl, refl)
+returns c = (c.finish_node.ensures, refl, refl)

@@ -1,30 +1,14 @@
 -- `blocks::close::finish`: the form's `end` where its block was closed, and the closing event. Assumes nothing.
-use mathlib.Core.Bool.{true, false}
-use mathlib.Core.Path.{refl, ap, ◌∙◌}
-use Rattle.grammar.specs.Block.{closing, ended}
-use Rattle.grammar.specs.Look.{one_of, at_top_level_form_starter_in_block}
-use Rattle.blocks.proofs.Laws.{finished, no_item}
-use Rattle.parser.proofs.Kit.{done, done_to, ◌then_to◌}
+use mathlib.Core.Bool.{not}
+use mathlib.Core.Path.{sym, ap, ◌∙◌}
+use Rattle.blocks.proofs.Laws.{finished}
 use Rattle.blocks.proofs.close.finish.Goals as goal
 
-pub returns-in-ReachedEof : goal.returns-in-ReachedEof
-unfolding ended closing
-returns-in-ReachedEof c =
-    finished c.in-ReachedEof.is (done_to true) c.finish_node-e.ensures no_item
+pub returns-then-b : goal.returns-then-b
+returns-then-b c =
+    finished c.args.b.outcome c.requires c.closing-c.ensures c.finish_node.ensures c.reached_eof.ensures
+    (rw c.if-b.true (ap not c.found_terminator.ensures))
 
-pub returns-in-FoundTerminator : goal.returns-in-FoundTerminator
-unfolding ended closing
-returns-in-FoundTerminator c =
-    finished c.in-FoundTerminator.is
-    (c.expect_keyword-d.ensures.ran then_to done_to false)
-    c.finish_node-e-in-FoundTerminator.ensures
-    no_item
-
-pub returns-in-RecoveredImplicitEnd : goal.returns-in-RecoveredImplicitEnd
-unfolding ended closing
-returns-in-RecoveredImplicitEnd c =
-    let same = ap at_top_level_form_starter_in_block c.finish_node-e-in-RecoveredImplicitEnd.ensures.rest in
-    finished c.in-RecoveredImplicitEnd.is
-    (done true then_to done_to false)
-    c.finish_node-e-in-RecoveredImplicitEnd.ensures
-    (record { starts = λ h. same ∙ c.requires.starts h })
+pub returns-else-b : goal.returns-else-b
+returns-else-b c =
+    finished c.args.b.outcome c.requires c.closing-c.ensures c.finish_node.ensures c.reached_eof.ensures (rw c.if-b.false)

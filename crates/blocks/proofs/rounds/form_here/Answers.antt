@@ -17,12 +17,12 @@ returns-then-depth-ge-MAX_CONTROL_FLOW_NESTING c =
     let o = c.reject_excessive_control_flow_nesting-d.ensures.onward farther c.finish_node-e.ensures.onward in
     record {
       onward = o;
-      of = λ owner t e. record {
+      of = λ p q e. record {
         onward = o;
         form = λ h. absurd (false≢true h);
         over = λ h. record {
           mid = _;
-          ran = round owner t c.args.depth BlockArm.Control (sym e) refl (on_to _ (le-leb limit c.args.depth (omega arith)) (c.reject_excessive_control_flow_nesting-d.ensures then_to done_to BlockParseOutcome.ReachedEof));
+          ran = round p BlockArm.Control (sym e) refl (on_to _ (le-leb limit p.depth.forms (omega arith)) (c.reject_excessive_control_flow_nesting-d.ensures then_to done_to BlockParseOutcome.ReachedEof));
           wrote = c.finish_node-e.ensures;
           here = no_item;
         };
@@ -33,12 +33,12 @@ pub returns : goal.returns
 returns c =
     record {
       onward = stays;
-      of = λ owner t e. record {
+      of = λ p q e. record {
         onward = stays;
         form = λ h. record {
           on = λ v r k. k;
           arm = e;
-          first = c.current-word.ensures;
+          first = c.current.ensures;
           below = omega (arith, c.if-depth-ge-MAX_CONTROL_FLOW_NESTING.false);
         };
         over = λ h. absurd (false≢true (sym h));

@@ -1,5 +1,5 @@
 -- `blocks::rounds::rounds`: its loop, round by round. Assumes nothing.
-use mathlib.Core.Path.{sym, ap, ◌∙◌}
+use mathlib.Core.Path.{refl, sym, ap, ◌∙◌}
 use native.Mathlib.Omega.{arith}
 use Rattle.grammar.specs.Look.{at_top_level_form_starter_in_block}
 use Rattle.blocks.specs.declared.arm.BlockArm.{BlockArm}
@@ -17,12 +17,12 @@ pub loop-t-init : goal.loop-t-init
 loop-t-init c =
     (begins, stays, remembers_none (omega arith), c.requires)
 
-pub block_arm_here-seen-requires : goal.block_arm_here-seen-requires
-block_arm_here-seen-requires c = (c.loop-t.invariant.2, c.loop-t.invariant.3)
+pub block_arm_here-requires : goal.block_arm_here-requires
+block_arm_here-requires c = (c.loop-t.invariant.2, c.loop-t.invariant.3)
 
 pub loop-t-smaller : goal.loop-t-smaller
 loop-t-smaller c =
-    let moved = past_here c.take-d.ensures (takes _ _ (meant c.args.place.terminators _ (BlockArm.Takes _) c.block_arm_here-seen.ensures.0 c.in-Takes.is)) in
+    let moved = past_here c.take-d.ensures (takes _ _ (meant c.args.place.terminators _ (BlockArm.Takes _) c.block_arm_here.ensures.0 c.in-Takes.is)) in
     omega (arith, moved, c.bump_regular_trivia-c.ensures.onward)
 
 pub loop-t-preserved : goal.loop-t-preserved
@@ -33,10 +33,10 @@ loop-t-preserved c =
     let v = c.bump_regular_trivia-c in
     let p = c.args.place in (
       goes_on i (λ w' r k.
-          round p.owner p.terminators p.depth (BlockArm.Takes _) c.block_arm_here-seen.ensures.0 c.in-Takes.is
-          (t.ensures then_to absorbs limit p.owner p.terminators p.depth v.ensures k)),
+          round p (BlockArm.Takes _) c.block_arm_here.ensures.0 c.in-Takes.is
+          (t.ensures then_to absorbs limit p.owner p.terminators p.depth.forms v.ensures k)),
       c.loop-t.invariant.1 farther t.ensures.onward farther v.ensures.onward,
-      remembers_later _ (same_file (t.ensures.onward farther v.ensures.onward)) (omega (arith, t.ensures.onward, v.ensures.onward)) c.block_arm_here-seen.ensures.1,
+      remembers_later _ (same_file (t.ensures.onward farther v.ensures.onward)) (omega (arith, t.ensures.onward, v.ensures.onward)) c.block_arm_here.ensures.1,
       no_item,
     )
 
@@ -49,16 +49,16 @@ returns-in-Closes c =
       form = λ h. absurd (false≢true h);
       over = λ h. record {
         mid = _;
-        ran = c.loop-t.invariant.0.on _ _ (round c.args.place.owner c.args.place.terminators c.args.place.depth (BlockArm.Closes _) c.block_arm_here-seen.ensures.0 told c.close-e.ensures.ran);
+        ran = c.loop-t.invariant.0.on _ _ (round c.args.place (BlockArm.Closes _) c.block_arm_here.ensures.0 told c.close-e.ensures.ran);
         wrote = c.close-e.ensures.wrote;
         here = record {
           starts = λ i. ap at_top_level_form_starter_in_block (same_remaining c.close-e.ensures.onward c.close-e.ensures.pos)
-              ∙ meant c.args.place.terminators _ (BlockArm.Closes Closing.Item) c.block_arm_here-seen.ensures.0 (told ∙ ap BlockArm.Closes (c.close-e.ensures.at_item i));
+              ∙ meant c.args.place.terminators _ (BlockArm.Closes Closing.Item) c.block_arm_here.ensures.0 (told ∙ ap BlockArm.Closes (c.close-e.ensures.at_item i));
         };
       };
     }
 
 pub returns-in-Control : goal.returns-in-Control
 returns-in-Control c =
-    let here = c.form_here.ensures.of c.args.place.owner c.args.place.terminators (sym c.block_arm_here-seen.ensures.0 ∙ c.in-Control.is) in
+    let here = c.form_here.ensures.of c.args.place refl (sym c.block_arm_here.ensures.0 ∙ c.in-Control.is) in
     from_here c.loop-t.invariant.0 c.loop-t.invariant.1 here

@@ -2,15 +2,14 @@
 use lib.ListN.{length}
 use Rattle.parser.proofs.Kit.{Leads}
 use Prim.Native.Nat.{◌-◌}
-use Rattle.grammar.specs.Block.{MAX_CONTROL_FLOW_NESTING as limit, block_in}
 use Rattle.parser.specs.Rep.{Onward, world}
 use Rattle.parser.specs.Ahead.{DocKnown}
-use Rattle.blocks.specs.Shapes.{ItemAt}
+use Rattle.blocks.specs.Shapes.{ItemAt, rest_at}
 use Rattle.blocks.proofs.rounds.rounds.Given as goal
 
 abbrev pub invariant-loop-t : goal.invariant-loop-t
 invariant-loop-t l =
-    Leads (block_in limit l.owner l.terminators l.depth) (world l.initial.parser l.initial.c) (block_in limit l.owner l.terminators l.depth) (world l.parser l.c)
+    Leads (rest_at l.place) (world l.initial.parser l.initial.c) (rest_at l.place) (world l.parser l.c)
     × Onward (world l.initial.parser l.initial.c) (world l.parser l.c) × DocKnown l.parser.kinds.now l.c.pos l.known × ItemAt l.parser.kinds.now l.c.pos l.item
 
 abbrev pub decreases-loop-t : goal.decreases-loop-t
