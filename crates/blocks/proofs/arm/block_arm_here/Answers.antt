@@ -31,10 +31,6 @@ unfolding block_arm one_of
 returns-then-at_stray_else c =
     (rw (sym c.eof.ensures ∙ c.if-eof.false, sym c.at_terminator.ensures ∙ c.if-at_terminator.false, at_number regular_trivia _ refl c.current-k.ensures c.is_regular_trivia.ensures c.if-is_regular_trivia.false, sym c.at_stray_else.ensures ∙ c.if-at_stray_else.true), c.requires.0)
 
-pub inner_arm-requires : goal.inner_arm-requires
-inner_arm-requires c =
-    (c.requires.0, c.requires.1)
-
 pub returns : goal.returns
 unfolding block_arm one_of
 returns c =

@@ -17,9 +17,6 @@ use Rattle.grammar.specs.declared.block.BlockOwner.{BlockOwner}
 use borrow.Author.Rules.{rules}
 use Rattle.blocks.proofs.block.+forms.Goals as goal
 
-pub block_from-loop-s-init : goal.block_from-loop-s-init
-block_from-loop-s-init t c = record { on = λ w r. r }
-
 pub block_from-parse_control_flow-f-requires : goal.block_from-parse_control_flow-f-requires
 block_from-parse_control_flow-f-requires t c =
     let begun = c.first_rounds-s.ensures in
@@ -37,14 +34,6 @@ block_from-returns-then-f t c =
     let rest = bind_to _ form (on_to _ c.if-f.true (gives c.ended_file.ensures.1)) in
     let inside = here.on _ _ (round c.args.start.place BlockArm.Control (sym here.arm) refl (off_to _ (lt-leb limit c.args.start.place.depth.forms here.below) rest)) in
     record { ran = node_to _ begun.wrote inside c.ended_file.ensures.0; here = said_no_item c.ended_file.ensures.2 }
-
-pub block_from-next_rounds-s-requires : goal.block_from-next_rounds-s-requires
-block_from-next_rounds-s-requires t c =
-    c.parse_control_flow-f.ensures.here
-
-pub block_from-loop-s-smaller : goal.block_from-loop-s-smaller
-block_from-loop-s-smaller t c =
-    omega (arith, c.parse_control_flow-f.ensures.past, c.next_rounds-s.ensures.onward)
 
 pub block_from-loop-s-preserved : goal.block_from-loop-s-preserved
 unfolding by_block_arm
@@ -65,14 +54,6 @@ block_from-returns t c =
     let begun = c.first_rounds-s.ensures in
     let over = (c.loop-s.invariant.on _ begun.rounds).over c.loop-s-test.false in
     record { ran = node_to _ begun.wrote over.ran over.wrote; here = over.here }
-
-pub inner_block-block_from-requires : goal.inner_block-block_from-requires
-inner_block-block_from-requires t c =
-    omega arith
-
-pub inner_block-returns : goal.inner_block-returns
-inner_block-returns t c =
-    c.block_from.ensures
 
 -- parse_control_flow's cases are the words' numbers: 2079 is `if`, 1055 `do`, 4127 `while`
 pub parse_control_flow-parse_if-requires : goal.parse_control_flow-parse_if-requires
@@ -130,16 +111,6 @@ parse_control_flow-returns-in_default t c =
       here = c.parse_repeat.ensures.here;
     }
 
-pub parse_do_while-do_header-h-requires : goal.parse_do_while-do_header-h-requires
-parse_do_while-do_header-h-requires t c = c.requires
-
-pub parse_do_while-inner_block-b-requires : goal.parse_do_while-inner_block-b-requires
-parse_do_while-inner_block-b-requires t c =
-    omega (arith, c.do_header-h.ensures.past)
-
-pub parse_do_while-finish-requires : goal.parse_do_while-finish-requires
-parse_do_while-finish-requires t c = c.inner_block-b.ensures.here
-
 pub parse_do_while-returns-then-not-goes_to_while : goal.parse_do_while-returns-then-not-goes_to_while
 unfolding parse_do_while
 parse_do_while-returns-then-not-goes_to_while t c =
@@ -148,18 +119,6 @@ parse_do_while-returns-then-not-goes_to_while t c =
     let fails = c.if-not-goes_to_while.true in
     let end = c.finish.ensures in
     formed _ (do_condition (parse_block limit) depth) c.do_header-h.ensures first end (no_condition depth _ first c.goes_to_while.ensures fails end.ran)
-
-pub parse_do_while-keyword_line-line-requires : goal.parse_do_while-keyword_line-line-requires
-parse_do_while-keyword_line-line-requires t c =
-    let holds = c.if-not-goes_to_while.false in
-    (and_parts (found_terminator c.inner_block-b.result.outcome) _ (sym c.goes_to_while.ensures ∙ holds)).1
-
-pub parse_do_while-inner_block-b-requires-2 : goal.parse_do_while-inner_block-b-requires-2
-parse_do_while-inner_block-b-requires-2 t c =
-    omega (arith, c.do_header-h.ensures.past, c.inner_block-b.ensures.ran.ran.onward, c.keyword_line-line.ensures.onward)
-
-pub parse_do_while-finish-requires-2 : goal.parse_do_while-finish-requires-2
-parse_do_while-finish-requires-2 t c = c.inner_block-b-2.ensures.here
 
 pub parse_do_while-returns : goal.parse_do_while-returns
 unfolding parse_do_while
@@ -171,16 +130,6 @@ parse_do_while-returns t c =
     let rest = condition depth c.inner_block-b.result.outcome c.goes_to_while.ensures holds c.keyword_line-line.ensures last end.ran in
     formed _ (do_condition (parse_block limit) depth) c.do_header-h.ensures c.inner_block-b.ensures.ran end rest
 
-pub parse_if-if_header-h-requires : goal.parse_if-if_header-h-requires
-parse_if-if_header-h-requires t c = c.requires
-
-pub parse_if-inner_block-b-requires : goal.parse_if-inner_block-b-requires
-parse_if-inner_block-b-requires t c =
-    omega (arith, c.if_header-h.ensures.past)
-
-pub parse_if-finish-requires : goal.parse_if-finish-requires
-parse_if-finish-requires t c = c.inner_block-b.ensures.here
-
 pub parse_if-returns-then-not-goes_to_else : goal.parse_if-returns-then-not-goes_to_else
 unfolding parse_if
 parse_if-returns-then-not-goes_to_else t c =
@@ -189,18 +138,6 @@ parse_if-returns-then-not-goes_to_else t c =
     let fails = c.if-not-goes_to_else.true in
     let end = c.finish.ensures in
     formed _ (else_part (parse_block limit) depth) c.if_header-h.ensures first end (no_else depth _ c.goes_to_else.ensures fails end.ran)
-
-pub parse_if-keyword_line-line-requires : goal.parse_if-keyword_line-line-requires
-parse_if-keyword_line-line-requires t c =
-    let holds = c.if-not-goes_to_else.false in
-    (and_parts (not (reached_eof c.inner_block-b.result.outcome)) _ (sym c.goes_to_else.ensures ∙ holds)).1
-
-pub parse_if-inner_block-b-requires-2 : goal.parse_if-inner_block-b-requires-2
-parse_if-inner_block-b-requires-2 t c =
-    omega (arith, c.if_header-h.ensures.past, c.inner_block-b.ensures.ran.ran.onward, c.keyword_line-line.ensures.onward)
-
-pub parse_if-finish-requires-2 : goal.parse_if-finish-requires-2
-parse_if-finish-requires-2 t c = c.inner_block-b-2.ensures.here
 
 pub parse_if-returns : goal.parse_if-returns
 unfolding parse_if
@@ -212,31 +149,11 @@ parse_if-returns t c =
     let rest = with_else depth c.inner_block-b.result.outcome c.goes_to_else.ensures holds c.keyword_line-line.ensures last end.ran in
     formed _ (else_part (parse_block limit) depth) c.if_header-h.ensures c.inner_block-b.ensures.ran end rest
 
-pub parse_repeat-repeat_header-h-requires : goal.parse_repeat-repeat_header-h-requires
-parse_repeat-repeat_header-h-requires t c = c.requires
-
-pub parse_repeat-inner_block-b-requires : goal.parse_repeat-inner_block-b-requires
-parse_repeat-inner_block-b-requires t c =
-    omega (arith, c.repeat_header-h.ensures.past)
-
-pub parse_repeat-finish-requires : goal.parse_repeat-finish-requires
-parse_repeat-finish-requires t c = c.inner_block-b.ensures.here
-
 pub parse_repeat-returns : goal.parse_repeat-returns
 unfolding parse_repeat
 parse_repeat-returns t c =
     let end = c.finish.ensures in
     formed _ (λ o. ended BlockOwner.Repeat o) c.repeat_header-h.ensures c.inner_block-b.ensures.ran end end.ran
-
-pub parse_while-while_header-h-requires : goal.parse_while-while_header-h-requires
-parse_while-while_header-h-requires t c = c.requires
-
-pub parse_while-inner_block-b-requires : goal.parse_while-inner_block-b-requires
-parse_while-inner_block-b-requires t c =
-    omega (arith, c.while_header-h.ensures.past)
-
-pub parse_while-finish-requires : goal.parse_while-finish-requires
-parse_while-finish-requires t c = c.inner_block-b.ensures.here
 
 pub parse_while-returns : goal.parse_while-returns
 unfolding parse_while

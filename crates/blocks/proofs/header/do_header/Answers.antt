@@ -6,10 +6,6 @@ use Rattle.blocks.proofs.Laws.{opened}
 use Rattle.parser.proofs.Kit.{◌then_to◌}
 use Rattle.blocks.proofs.header.do_header.Goals as goal
 
-pub keyword_line-requires : goal.keyword_line-requires
-keyword_line-requires c =
-    ap (at (is DO)) c.start_node-a.ensures.rest ∙ c.requires
-
 pub returns : goal.returns
 returns c =
     opened c.start_node-a.ensures

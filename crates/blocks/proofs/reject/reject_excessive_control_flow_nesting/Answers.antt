@@ -7,9 +7,6 @@ use Rattle.parser.proofs.Kit.{node, ◌then◌, begins, goes_on, scan_end, scan_
 use Rattle.parser.proofs.Laws.{eof_within}
 use Rattle.blocks.proofs.reject.reject_excessive_control_flow_nesting.Goals as goal
 
-pub loop-parser-init : goal.loop-parser-init
-loop-parser-init c = begins
-
 pub loop-parser-smaller : goal.loop-parser-smaller
 loop-parser-smaller c =
     let h = eof_within c.loop-parser.parser.kinds.now c.loop-parser.c.pos c.eof.ensures c.loop-parser-test.true in

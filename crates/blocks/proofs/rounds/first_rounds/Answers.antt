@@ -3,10 +3,6 @@ use Rattle.parser.proofs.Kit.{◌farther◌}
 use Rattle.blocks.proofs.Laws.{no_item}
 use Rattle.blocks.proofs.rounds.first_rounds.Goals as goal
 
-pub rounds-requires : goal.rounds-requires
-rounds-requires c =
-    no_item
-
 pub returns : goal.returns
 returns c =
     record {

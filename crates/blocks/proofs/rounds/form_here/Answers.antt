@@ -28,19 +28,3 @@ returns-then-depth-ge-MAX_CONTROL_FLOW_NESTING c =
         };
       };
     }
-
-pub returns : goal.returns
-returns c =
-    record {
-      onward = stays;
-      of = λ p q e. record {
-        onward = stays;
-        form = λ h. record {
-          on = λ v r k. k;
-          arm = e;
-          first = c.current.ensures;
-          below = omega (arith, c.if-depth-ge-MAX_CONTROL_FLOW_NESTING.false);
-        };
-        over = λ h. absurd (false≢true (sym h));
-      };
-    }

@@ -13,13 +13,6 @@ use Rattle.grammar.specs.Block.{MAX_CONTROL_FLOW_NESTING as limit}
 use mathlib.Core.Bool.{false≢true}
 use Rattle.blocks.proofs.rounds.rounds.Goals as goal
 
-pub loop-t-init : goal.loop-t-init
-loop-t-init c =
-    (begins, stays, remembers_none (omega arith), c.requires)
-
-pub block_arm_here-requires : goal.block_arm_here-requires
-block_arm_here-requires c = (c.loop-t.invariant.2, c.loop-t.invariant.3)
-
 pub loop-t-smaller : goal.loop-t-smaller
 loop-t-smaller c =
     let moved = past_here c.take-d.ensures (takes _ _ (meant c.args.place.terminators _ (BlockArm.Takes _) c.block_arm_here.ensures.0 c.in-Takes.is)) in

@@ -6,11 +6,6 @@ use Rattle.lexer.specs.Syntax.{Number, QuotedString}
 use Rattle.parser.specs.Sets.{bits_are}
 use Rattle.blocks.proofs.suffix.is_operand.Goals as goal
 
-pub returns-then-is_name_like : goal.returns-then-is_name_like
-returns-then-is_name_like c =
-    let name = c.is_name_like in
-    rw (sym name.ensures ∙ c.if-is_name_like.true) c.if-is_name_like.true
-
 pub returns-else-is_name_like : goal.returns-else-is_name_like
 unfolding one_of
 returns-else-is_name_like c =

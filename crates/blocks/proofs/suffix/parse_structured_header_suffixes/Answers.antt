@@ -11,9 +11,6 @@ use Rattle.parser.proofs.Kit.{like_to, on_to, off_to, done_to, bind_to, begins, 
 use Rattle.parser.proofs.Laws.{past_here}
 use Rattle.blocks.proofs.suffix.parse_structured_header_suffixes.Goals as goal
 
-pub loop-s-init : goal.loop-s-init
-loop-s-init c = begins
-
 pub returns-then-not-s : goal.returns-then-not-s
 unfolding parse_structured_header_suffixes
 returns-then-not-s c =

@@ -18,9 +18,6 @@ pub returns-then-k-lt-MARK : goal.returns-then-k-lt-MARK
 unfolding arm_by
 returns-then-k-lt-MARK c = found _ (rw (lt-ltb _ _ c.if-k-lt-MARK.true) c.plain_arm.ensures) c.current-k.ensures refl
 
-pub declared-requires : goal.declared-requires
-declared-requires c = c.requires
-
 pub returns-then-k-eq-PUB : goal.returns-then-k-eq-PUB
 unfolding arm_by
 returns-then-k-eq-PUB c =

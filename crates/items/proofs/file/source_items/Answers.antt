@@ -60,9 +60,6 @@ trivia_first (s ∷ r) = by_test (regular_trivia s) refl (trivia_first r)
 absorbs : {w v w' : World} {r : Bool} → Ran (bump_while regular_trivia) w v → RanTo (items_in limit) v w' r → RanTo (items_in limit) w w' r
 absorbs h k = like_to (bump_while regular_trivia >> items_in limit) (trivia_first _) (h then_to k)
 
-pub loop-parser-init : goal.loop-parser-init
-loop-parser-init c = begins
-
 pub loop-parser-smaller : goal.loop-parser-smaller
 loop-parser-smaller c =
     let m = past_here c.parse_source_item-d.ensures (takes _ (sym c.eof.ensures ∙ c.loop-parser-test.true)) in
