@@ -25,6 +25,7 @@ pub fn parse_doc_form(parser: &mut Parser, c0: Cursor) -> Cursor
 }
 
 // What the arm does.
+#[tactic(auto, using(crate::proofs::Arms::armed), unfolding(crate::specs::Arms::by_item_arm))]
 fn parse_arm(parser: &mut Parser, c0: Cursor, a: ItemArm) -> Cursor
     ensures { Ran (by_item_arm a (parse_block limit)) (entry parser c0) (exit parser result) }
 {
