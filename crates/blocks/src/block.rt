@@ -10,11 +10,12 @@ ghost use Rattle.parser.specs.Rep.{entry, exit};
 ghost use Rattle.blocks.specs.Shapes.{place, ParseBlock, ParseForm};
 
 use crate::close::{BlockEnd, Form, ended_file, finish, goes_to_else, goes_to_while};
-use crate::header::{do_header, if_header, keyword_line, repeat_header, while_header};
+use crate::header::{do_header, header, keyword_line};
 use crate::place::{BlockPlace, Depth};
 use crate::rounds::{first_rounds, next_rounds};
 use grammar::block::{BlockOwner, Terminators};
 use grammar::words::{DO, IF, WHILE, Word};
+use lexer::syntax::SyntaxKind;
 use parser::cursor::Cursor;
 use parser::state::Parser;
 
@@ -102,7 +103,7 @@ fn parse_if(parser: &mut Parser, c0: Cursor, depth: Depth) -> Form
     requires { at (is if_word) (drop c0.pos parser.old.kinds.now) ≡ true }
     ensures { ParseForm (parse_if (parse_block limit) depth.forms) (entry parser c0) (exit parser result.c) result }
 {
-    let h = if_header(parser, c0);
+    let h = header(parser, c0, SyntaxKind::IfOp, Word::If);
     let mut b = inner_block(parser, h, BlockOwner::If, Terminators::ElseEnd, depth);
     if !goes_to_else(parser, b.c.pos, b.outcome) {
         return finish(parser, b, BlockOwner::If);
@@ -117,7 +118,7 @@ fn parse_while(parser: &mut Parser, c0: Cursor, depth: Depth) -> Form
     requires { at (is while_word) (drop c0.pos parser.old.kinds.now) ≡ true }
     ensures { ParseForm (parse_while (parse_block limit) depth.forms) (entry parser c0) (exit parser result.c) result }
 {
-    let h = while_header(parser, c0);
+    let h = header(parser, c0, SyntaxKind::WhileOp, Word::While);
     let b = inner_block(parser, h, BlockOwner::While, Terminators::End, depth);
     finish(parser, b, BlockOwner::While)
 }
@@ -148,7 +149,7 @@ fn parse_repeat(parser: &mut Parser, c0: Cursor, depth: Depth) -> Form
     requires { at (is repeat_word) (drop c0.pos parser.old.kinds.now) ≡ true }
     ensures { ParseForm (parse_repeat (parse_block limit) depth.forms) (entry parser c0) (exit parser result.c) result }
 {
-    let h = repeat_header(parser, c0);
+    let h = header(parser, c0, SyntaxKind::RepeatOp, Word::Repeat);
     let b = inner_block(parser, h, BlockOwner::Repeat, Terminators::End, depth);
     finish(parser, b, BlockOwner::Repeat)
 }

@@ -17,7 +17,7 @@ use parser::state::Parser;
 // The node's opening event, its keyword, suffixes and the rest of the line: `if`, `while` and `repeat`.
 // This and keyword_line are inlined, since the arguments of their calls would make the frame of the cycle larger.
 #[inline(always)]
-fn header(parser: &mut Parser, c0: Cursor, node: SyntaxKind, keyword: Word) -> Cursor
+pub fn header(parser: &mut Parser, c0: Cursor, node: SyntaxKind, keyword: Word) -> Cursor
     requires { at (is (key (word_number keyword))) (drop c0.pos parser.old.kinds.now) ≡ true }
     ensures { FormHeader (kind_number node) (header_of (key (word_number keyword))) (entry parser c0) (exit parser result) }
 {
@@ -46,29 +46,4 @@ pub fn do_header(parser: &mut Parser, c0: Cursor) -> Cursor
 {
     let a = parser.start_node(c0, SyntaxKind::DoWhileOp);
     keyword_line(parser, a, Word::Do)
-}
-
-// The next three differ in constants alone: calls of `header` in their places would make a level of the cycle deeper.
-// The opening event of an `if`, and its first line.
-pub fn if_header(parser: &mut Parser, c0: Cursor) -> Cursor
-    requires { at (is if_word) (drop c0.pos parser.old.kinds.now) ≡ true }
-    ensures { FormHeader IfOp (header_of if_word) (entry parser c0) (exit parser result) }
-{
-    header(parser, c0, SyntaxKind::IfOp, Word::If)
-}
-
-// The opening event of a `while`, and its first line.
-pub fn while_header(parser: &mut Parser, c0: Cursor) -> Cursor
-    requires { at (is while_word) (drop c0.pos parser.old.kinds.now) ≡ true }
-    ensures { FormHeader WhileOp (header_of while_word) (entry parser c0) (exit parser result) }
-{
-    header(parser, c0, SyntaxKind::WhileOp, Word::While)
-}
-
-// The opening event of a `repeat`, and its first line.
-pub fn repeat_header(parser: &mut Parser, c0: Cursor) -> Cursor
-    requires { at (is repeat_word) (drop c0.pos parser.old.kinds.now) ≡ true }
-    ensures { FormHeader RepeatOp (header_of repeat_word) (entry parser c0) (exit parser result) }
-{
-    header(parser, c0, SyntaxKind::RepeatOp, Word::Repeat)
 }

@@ -137,7 +137,7 @@ parse_if-returns-then-not-goes_to_else t c =
     let first = c.inner_block-b.ensures.ran in
     let fails = c.if-not-goes_to_else.true in
     let end = c.finish.ensures in
-    formed _ (else_part (parse_block limit) depth) c.if_header-h.ensures first end (no_else depth _ c.goes_to_else.ensures fails end.ran)
+    formed _ (else_part (parse_block limit) depth) c.header-h.ensures first end (no_else depth _ c.goes_to_else.ensures fails end.ran)
 
 pub parse_if-returns : goal.parse_if-returns
 unfolding parse_if
@@ -147,16 +147,16 @@ parse_if-returns t c =
     let last = c.inner_block-b-2.ensures.ran in
     let end = c.finish-2.ensures in
     let rest = with_else depth c.inner_block-b.result.outcome c.goes_to_else.ensures holds c.keyword_line-line.ensures last end.ran in
-    formed _ (else_part (parse_block limit) depth) c.if_header-h.ensures c.inner_block-b.ensures.ran end rest
+    formed _ (else_part (parse_block limit) depth) c.header-h.ensures c.inner_block-b.ensures.ran end rest
 
 pub parse_repeat-returns : goal.parse_repeat-returns
 unfolding parse_repeat
 parse_repeat-returns t c =
     let end = c.finish.ensures in
-    formed _ (λ o. ended BlockOwner.Repeat o) c.repeat_header-h.ensures c.inner_block-b.ensures.ran end end.ran
+    formed _ (λ o. ended BlockOwner.Repeat o) c.header-h.ensures c.inner_block-b.ensures.ran end end.ran
 
 pub parse_while-returns : goal.parse_while-returns
 unfolding parse_while
 parse_while-returns t c =
     let end = c.finish.ensures in
-    formed _ (λ o. ended BlockOwner.While o) c.while_header-h.ensures c.inner_block-b.ensures.ran end end.ran
+    formed _ (λ o. ended BlockOwner.While o) c.header-h.ensures c.inner_block-b.ensures.ran end end.ran
