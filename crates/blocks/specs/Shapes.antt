@@ -85,8 +85,8 @@ pub record Finish (owner : BlockOwner) (outcome : BlockParseOutcome) (w w' : Wor
   pub here : ItemAt (file w') w'.c.pos f.item
 
 -- ---- the rounds of a block
-abbrev pub place : BlockOwner → Terminators → Depth → BlockPlace
-place owner terminators depth = record { depth = depth; owner = owner; terminators = terminators }
+abbrev pub block_place : BlockOwner → Terminators → Depth → BlockPlace
+block_place owner terminators depth = record { depth = depth; owner = owner; terminators = terminators }
 
 -- what is left of a block at this place, and the whole of it
 abbrev pub rest_at : BlockPlace → P BlockParseOutcome

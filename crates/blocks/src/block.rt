@@ -7,7 +7,7 @@ ghost use Rattle.grammar.specs.Look.{at, current, control_flow};
 ghost use Rattle.grammar.specs.Block.{MAX_CONTROL_FLOW_NESTING as limit, parse_block, parse_if, parse_while, parse_do_while, parse_repeat};
 ghost use Rattle.grammar.specs.Block.{parse_control_flow};
 ghost use Rattle.parser.specs.Rep.{entry, exit};
-ghost use Rattle.blocks.specs.Shapes.{place, ParseBlock, ParseForm};
+ghost use Rattle.blocks.specs.Shapes.{block_place, ParseBlock, ParseForm};
 
 use crate::close::{BlockEnd, Form, ended_file, finish, goes_to_else, goes_to_while};
 use crate::header::{do_header, header, keyword_line};
@@ -33,7 +33,7 @@ pub fn parse_block(
     terminators: Terminators,
     depth: Depth,
 ) -> BlockEnd
-    ensures { ParseBlock (place owner terminators depth) (entry parser c0) (exit parser result.c) result }
+    ensures { ParseBlock (block_place owner terminators depth) (entry parser c0) (exit parser result.c) result }
 {
     let place = BlockPlace {
         depth,
@@ -88,7 +88,7 @@ fn inner_block(
     terminators: Terminators,
     depth: Depth,
 ) -> BlockEnd
-    ensures { ParseBlock (place owner terminators depth) (entry parser c0) (exit parser result.c) result }
+    ensures { ParseBlock (block_place owner terminators depth) (entry parser c0) (exit parser result.c) result }
 {
     let place = BlockPlace {
         depth,
