@@ -55,15 +55,9 @@ fn suffix_round(parser: &mut Parser, c0: Cursor) -> Flow
     suffix_operand(parser, d)
 }
 
+#[tactic(auto, using(parser::proofs::Rounds::truly_suffix_round), unfolding(grammar::specs::Block::parse_structured_header_suffixes))]
 pub fn parse_structured_header_suffixes(parser: &mut Parser, c0: Cursor) -> Cursor
     ensures { Ran parse_structured_header_suffixes (entry parser c0) (exit parser result) }
 {
-    let mut c = c0;
-    loop {
-        let s = suffix_round(parser, c);
-        if !s.ok {
-            return s.c;
-        }
-        c = s.c;
-    }
+    parser.repeat(c0, suffix_round)
 }

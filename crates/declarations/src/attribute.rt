@@ -40,15 +40,9 @@ fn attribute_round(parser: &mut Parser, c0: Cursor) -> Flow
     Flow { c: a, ok: false }
 }
 
+#[tactic(auto, using(parser::proofs::Rounds::truly_attribute_round))]
 pub fn attributes(parser: &mut Parser, c0: Cursor) -> Cursor
     ensures { Ran (loop attribute_round) (entry parser c0) (exit parser result) }
 {
-    let mut c = c0;
-    loop {
-        let s = attribute_round(parser, c);
-        if !s.ok {
-            return s.c;
-        }
-        c = s.c;
-    }
+    parser.repeat(c0, attribute_round)
 }

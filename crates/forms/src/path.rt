@@ -27,21 +27,22 @@ fn path_segment(parser: &mut Parser, c0: Cursor) -> Flow
     Flow { c: e, ok: false }
 }
 
+// Whether there is a further segment, and it has a name.
+fn path_round(parser: &mut Parser, c0: Cursor) -> Flow
+    ensures { RanTo path_round (entry parser c0) (exit parser result.c) result.ok }
+{
+    let next = parser.peek_after_non_comment_trivia(c0.pos);
+    if parser.at_kind(next, SyntaxKind::ColonColon) {
+        return path_segment(parser, c0);
+    }
+    Flow { c: c0, ok: false }
+}
+
+#[tactic(auto, using(parser::proofs::Rounds::truly_path_round))]
 fn path_segments(parser: &mut Parser, c0: Cursor) -> Cursor
     ensures { Ran (loop path_round) (entry parser c0) (exit parser result) }
 {
-    let mut c = c0;
-    loop {
-        let next = parser.peek_after_non_comment_trivia(c.pos);
-        if !parser.at_kind(next, SyntaxKind::ColonColon) {
-            return c;
-        }
-        let s = path_segment(parser, c);
-        if !s.ok {
-            return s.c;
-        }
-        c = s.c;
-    }
+    parser.repeat(c0, path_round)
 }
 
 // The first name and the further segments, or a diagnostic.

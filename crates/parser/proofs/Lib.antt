@@ -4,3 +4,4 @@ pub mod Kit
 pub mod Expect
 pub mod Ahead
 pub mod Counts
+pub mod Rounds

@@ -3,3 +3,4 @@ pub mod Rep
 pub mod Sets
 pub mod Ahead
 pub mod Counts
+pub mod Rounds

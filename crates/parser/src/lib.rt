@@ -6,5 +6,6 @@ pub mod cursor;
 pub mod kinds;
 pub mod look;
 pub mod nest;
+pub mod round;
 pub mod sets;
 pub mod state;
