@@ -1,7 +1,7 @@
 -- What a round of the loop over a type's body decides, by the test that the code makes. Assumes nothing.
 use mathlib.Core.Bool.{Bool, true, false, cond, and-false}
 use mathlib.Core.List.{List}
-use mathlib.Core.Path.{◌≡◌, sym, ap, ◌∙◌}
+use mathlib.Core.Path.{◌≡◌, ap}
 use Rattle.lexer.specs.Syntax.{Newline}
 use Rattle.grammar.specs.Words.{Sym}
 use Rattle.grammar.specs.Look.{current, at_kind}
@@ -11,19 +11,19 @@ use Rattle.grammar.specs.Line.{type_round}
 use Rattle.grammar.specs.declared.nesting.Nesting.{Nesting}
 use Rattle.declarations.specs.Parts.{type_ends}
 
-module _ (n : Nesting) (r : List Sym) {x : Bool} (e : x ≡ type_ends n r) where
+module _ (n : Nesting) (r : List Sym) where
   abbrev goes : Round Nesting
   goes = bump_nesting n (current r) (λ m. m)
 
-  pub type_stops : x ≡ true → type_round n r ≡ stop
+  pub type_stops : type_ends n r ≡ true → type_round n r ≡ stop
   unfolding type_round type_ends
-  type_stops k = ap (λ t. cond t stop goes) (sym e ∙ k)
+  type_stops e = ap (λ t. cond t stop goes) e
 
-  pub type_counts : x ≡ false → type_round n r ≡ goes
+  pub type_counts : type_ends n r ≡ false → type_round n r ≡ goes
   unfolding type_round type_ends
-  type_counts k = ap (λ t. cond t stop goes) (sym e ∙ k)
+  type_counts e = ap (λ t. cond t stop goes) e
 
--- inside delimiters it goes on
-pub type_inside : (n : Nesting) (r : List Sym) → is_root n ≡ false → false ≡ type_ends n r
-unfolding type_ends
-type_inside n r e = rw e (sym (and-false (at_kind Newline r)))
+  -- inside delimiters it goes on
+  pub type_inside : is_root n ≡ false → type_ends n r ≡ false
+  unfolding type_ends
+  type_inside e = rw e (and-false (at_kind Newline r))

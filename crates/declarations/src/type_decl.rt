@@ -1,5 +1,5 @@
 // A type declaration.
-ghost use Rattle.std.specs.Prelude.{◌≡◌, drop};
+ghost use Rattle.std.specs.Prelude.{◌≡◌, true, false, drop, MatchOption};
 ghost use Rattle.grammar.specs.Run.{scan};
 ghost use Rattle.grammar.specs.Nesting.{default};
 ghost use Rattle.grammar.specs.Line.{type_round, parse_type_body};
@@ -15,53 +15,48 @@ use lexer::syntax::SyntaxKind;
 use parser::cursor::Cursor;
 use parser::kinds::{in_set, in_words};
 use parser::look::Remembered;
+use parser::nest::Nested;
 use parser::sets::{EQUAL_OR_COLON, TYPE_WORDS};
 use parser::state::Parser;
 
-// Whether a type's body ends here, and what is remembered of the lookahead behind newlines: each is of use without the other.
-#[derive(Clone, Copy)]
-struct BodyEnd {
-    ends: bool,
-    known: Remembered,
-}
-
-fn at_type_end(parser: &Parser, p: usize, nesting: Nesting, known: Remembered) -> BodyEnd
-    requires { BreakKnown parser.now.kinds.now p known }
-    ensures { (result.ends ≡ type_ends nesting (drop p parser.now.kinds.now)) × BreakKnown parser.now.kinds.now p result.known }
+// What is remembered of the lookahead behind newlines; none where a type's body ends here.
+fn body_goes_on(parser: &Parser, at: Nested, known: Remembered) -> Option<Remembered>
+    requires { BreakKnown parser.now.kinds.now at.c.pos known }
+    ensures { MatchOption result (type_ends at.nesting (drop at.c.pos parser.now.kinds.now) ≡ true)
+        (λ k. (type_ends at.nesting (drop at.c.pos parser.now.kinds.now) ≡ false) × BreakKnown parser.now.kinds.now at.c.pos k) }
 {
-    if !nesting.is_root() {
-        return BodyEnd { ends: false, known };
+    if !at.nesting.is_root() {
+        return Some(known);
     }
-    if !parser.at_kind(p, SyntaxKind::Newline) {
-        return BodyEnd { ends: false, known };
+    if !parser.at_kind(at.c.pos, SyntaxKind::Newline) {
+        return Some(known);
     }
-    let b = parser.line_break_starts_new_top_level_item(p, known);
-    BodyEnd {
-        ends: b.starts,
-        known: b,
+    let b = parser.line_break_starts_new_top_level_item(at.c.pos, known);
+    if b.starts {
+        return None;
     }
+    Some(b)
 }
 
 fn type_tokens(parser: &mut Parser, c0: Cursor) -> Cursor
     ensures { Ran (scan type_round default) (entry parser c0) (exit parser result) }
 {
-    let mut c = c0;
-    let mut nesting = Nesting::default();
+    let mut at = Nested {
+        c: c0,
+        nesting: Nesting::default(),
+    };
     let mut known = Remembered {
         next: 0,
         starts: false,
     };
-    while !parser.eof(c.pos) {
-        let e = at_type_end(parser, c.pos, nesting, known);
-        if e.ends {
-            return c;
-        }
-        known = e.known;
-        let b = parser.bump_nesting(c, nesting, parser.current(c.pos));
-        nesting = b.nesting;
-        c = parser.bump(b.c);
+    while !parser.eof(at.c.pos) {
+        let Some(k) = body_goes_on(parser, at, known) else {
+            return at.c;
+        };
+        known = k;
+        at = parser.bump_nested(at);
     }
-    c
+    at.c
 }
 
 pub fn parse_type_body(parser: &mut Parser, c0: Cursor) -> Cursor

@@ -52,9 +52,9 @@ apart : (x k : Sym) → ordinary x ≡ false → ordinary k ≡ true → is x k 
 apart x k s o = ne_eqb x k (λ e. false≢true (sym s ∙ ap ordinary e ∙ o))
 
 module _ (k : Sym) (o : ordinary k ≡ true) where
-  unchanged : (l : Inst) (r : List Sym) → bump_nesting default k (instruction_locals l r) ≡ go (instruction_locals l r default)
+  unchanged : (r : List Sym) → bump_nesting default k (instruction_locals r) ≡ go (instruction_locals r default)
   unfolding bump_nesting bump_by counted one_of
-  unchanged l r = rw (apart LParen k refl o, apart LBracket k refl o, apart LBrace k refl o, apart RParen k refl o, apart RBracket k refl o, apart RBrace k refl o)
+  unchanged r = rw (apart LParen k refl o, apart LBracket k refl o, apart LBrace k refl o, apart RParen k refl o, apart RBracket k refl o, apart RBrace k refl o)
 
   no_trivia : is_trivia k ≡ false
   unfolding one_of
@@ -83,7 +83,7 @@ plain_round previous (s ∷ r) k z c b =
     let l = behind previous in
     let b' = subst (λ i. bit (open_behind previous) i ≡ true) c b in
     let o = open_ordinary previous s b' in
-    instruction_counts l (s ∷ r) refl (goes_on_by s o previous r b') (no_trivia s o) ∙ unchanged s o l (s ∷ r) ∙ ap (λ i. go (behind (Some i))) (sym c)
+    instruction_counts l (s ∷ r) refl (goes_on_by s o previous r b') (no_trivia s o) ∙ unchanged s o (s ∷ r) ∙ ap (λ i. go (behind (Some i))) (sym c)
 
 -- ---- the end of an instruction, outside delimiters
 pub ends_at_line : (previous : Option Sym) (r : List Sym) → at (one_of (Newline ∷ Comment ∷ DocComment ∷ [])) r ≡ true → instruction_ends previous default r ≡ true

@@ -53,15 +53,16 @@ module _ {A : Type 0} (x y : A) where
   in_either true b = refl
   in_either false b = refl
 
+-- the locals behind a token, by the counts
+abbrev pub expr_locals : Bool → List Sym → Nesting → Expression
+expr_locals saw r n = record { nesting = n; saw_significant = saw || not (is_trivia (current r)) }
+
+pub expr_next : (saw : Bool) (r : List Sym) {saw' : Bool} {n : Nesting} {k : Sym} → k ≡ current r → saw' ≡ (saw || not (is_trivia k)) → expr_locals saw r n ≡ record { nesting = n; saw_significant = saw' }
+expr_next saw r c e = rw (← c, ← e)
+
 module _ (l : Expression) (r : List Sym) where
-  abbrev pub expr_locals : Nesting → Expression
-  expr_locals n = record { nesting = n; saw_significant = l.saw_significant || not (is_trivia (current r)) }
-
-  pub expr_next : (n : Nesting) (k : Sym) (saw : Bool) → k ≡ current r → saw ≡ (l.saw_significant || not (is_trivia k)) → expr_locals n ≡ record { nesting = n; saw_significant = saw }
-  expr_next n k saw c e = rw (← c, ← e)
-
   abbrev expr_goes : Round Expression
-  expr_goes = bump_nesting l.nesting (current r) expr_locals
+  expr_goes = bump_nesting l.nesting (current r) (expr_locals l.saw_significant r)
 
   expr_round_is : expr_round l r ≡ cond (expr_ends l.nesting l.saw_significant r) stop expr_goes
   unfolding expr_round expr_ends line_ends
@@ -97,20 +98,20 @@ module _ (l : ResultType) (r : List Sym) where
   result_counts e k = result_round_is ∙ if_false stop result_goes e k
 
 -- ---- instructions
+abbrev pub instruction_locals : List Sym → Nesting → Inst
+instruction_locals r n = record { nesting = n; previous = Some (current r) }
+
+pub instruction_next : (r : List Sym) {n : Nesting} {k : Sym} → k ≡ current r → instruction_locals r n ≡ record { nesting = n; previous = Some k }
+instruction_next r c = rw (← c)
+
 trivia_kinds : (r : List Sym) → at is_trivia r ≡ (at_kind Whitespace r || at (one_of (Newline ∷ Comment ∷ DocComment ∷ [])) r)
 unfolding one_of at
 trivia_kinds [] = refl
 trivia_kinds (s ∷ r) = refl
 
 module _ (l : Inst) (r : List Sym) where
-  abbrev pub instruction_locals : Nesting → Inst
-  instruction_locals n = record { nesting = n; previous = Some (current r) }
-
-  pub instruction_next : (n : Nesting) (k : Sym) → k ≡ current r → instruction_locals n ≡ record { nesting = n; previous = Some k }
-  instruction_next n k c = rw (← c)
-
   abbrev instruction_goes : Round Inst
-  instruction_goes = bump_nesting l.nesting (current r) instruction_locals
+  instruction_goes = bump_nesting l.nesting (current r) (instruction_locals r)
 
   -- white: at whitespace; line: at the end of a line
   in_order : {A : Type 0} (x y z : A) (white line on root next : Bool)

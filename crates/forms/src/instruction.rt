@@ -19,6 +19,7 @@ use parser::kinds::{
     expects_continuation_operand, in_set, in_words, is_trivia, punctuation_continues_instruction,
     starts_instruction,
 };
+use parser::nest::Nested;
 use parser::sets::{CONTROL_FLOW, GOES_ON, LINE_END, PLAIN, PLAIN_PUNCTUATION};
 use parser::state::Parser;
 
@@ -163,24 +164,24 @@ fn ends_plainly(parser: &Parser, p: usize, previous: Option<u16>) -> bool
 fn further_tokens(parser: &mut Parser, c0: Cursor, previous0: Option<u16>) -> Cursor
     ensures { Ran (scan instruction_round (behind previous0)) (entry parser c0) (exit parser result) }
 {
-    let mut c = c0;
-    let mut nesting = Nesting::default();
+    let mut at = Nested {
+        c: c0,
+        nesting: Nesting::default(),
+    };
     let mut previous = previous0;
-    while !parser.eof(c.pos) {
-        if at_instruction_end(parser, c.pos, previous, nesting) {
-            return c;
+    while !parser.eof(at.c.pos) {
+        if at_instruction_end(parser, at.c.pos, previous, at.nesting) {
+            return at.c;
         }
-        let k = parser.current(c.pos);
+        let k = parser.current(at.c.pos);
         if is_trivia(k) {
-            c = parser.bump(c);
+            at.c = parser.bump(at.c);
             continue;
         }
-        let b = parser.bump_nesting(c, nesting, k);
-        nesting = b.nesting;
+        at = parser.bump_nested(at);
         previous = Some(k);
-        c = parser.bump(b.c);
     }
-    c
+    at.c
 }
 
 fn instruction_tokens(parser: &mut Parser, c0: Cursor) -> Cursor

@@ -12,6 +12,7 @@ use grammar::nesting::Nesting;
 use lexer::syntax::SyntaxKind;
 use parser::cursor::Cursor;
 use parser::kinds::{in_set, is_trivia};
+use parser::nest::Nested;
 use parser::sets::LINE_END;
 use parser::state::Parser;
 
@@ -71,20 +72,19 @@ fn at_expr_end(parser: &Parser, p: usize, nesting: Nesting, saw: bool) -> bool
 fn expr_tokens(parser: &mut Parser, c0: Cursor) -> Cursor
     ensures { Ran (scan expr_round no_token) (entry parser c0) (exit parser result) }
 {
-    let mut c = c0;
-    let mut nesting = Nesting::default();
+    let mut at = Nested {
+        c: c0,
+        nesting: Nesting::default(),
+    };
     let mut saw_significant = false;
-    while !parser.eof(c.pos) {
-        if at_expr_end(parser, c.pos, nesting, saw_significant) {
-            return c;
+    while !parser.eof(at.c.pos) {
+        if at_expr_end(parser, at.c.pos, at.nesting, saw_significant) {
+            return at.c;
         }
-        let k = parser.current(c.pos);
-        saw_significant = or_significant(saw_significant, k);
-        let b = parser.bump_nesting(c, nesting, k);
-        nesting = b.nesting;
-        c = parser.bump(b.c);
+        saw_significant = or_significant(saw_significant, parser.current(at.c.pos));
+        at = parser.bump_nested(at);
     }
-    c
+    at.c
 }
 
 pub fn parse_expr_until_line_end(parser: &mut Parser, c0: Cursor) -> Cursor
@@ -109,18 +109,17 @@ fn result_end(parser: &mut Parser, c0: Cursor, taken: bool) -> Cursor
 pub fn parse_signature_result_until_line_end(parser: &mut Parser, c0: Cursor) -> Cursor
     ensures { Ran parse_signature_result_until_line_end (entry parser c0) (exit parser result) }
 {
-    let mut c = c0;
-    let mut nesting = Nesting::default();
+    let mut at = Nested {
+        c: c0,
+        nesting: Nesting::default(),
+    };
     let mut taken = false;
-    while !parser.eof(c.pos) {
-        if at_line_end(parser, c.pos, nesting) {
-            return result_end(parser, c, taken);
+    while !parser.eof(at.c.pos) {
+        if at_line_end(parser, at.c.pos, at.nesting) {
+            return result_end(parser, at.c, taken);
         }
-        let k = parser.current(c.pos);
-        let b = parser.bump_nesting(c, nesting, k);
-        nesting = b.nesting;
+        at = parser.bump_nested(at);
         taken = true;
-        c = parser.bump(b.c);
     }
-    result_end(parser, c, taken)
+    result_end(parser, at.c, taken)
 }

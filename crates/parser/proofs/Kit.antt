@@ -234,3 +234,14 @@ module _ {L : Type 0} (step : L → List Sym → Round L) where
 
     pub scan_go : (l l' : L) {v w' : World} {r : L} → Look.eof (remaining w) ≡ false → step l (remaining w) ≡ go l' → Ran take_token w v → RanTo (scan step l') v w' r → RanTo (scan step l) w w' r
     scan_go l l' z e t h = like_to (take_token >> scan step l') (scan_go_eq l l' _ z e) (t then_to h)
+
+  -- the same behind the rounds before
+  module _ {f₀ : P L} {w₀ w : World} {l : L} (i : Leads f₀ w₀ (scan step l) w) where
+    pub loop_stops : step l (remaining w) ≡ stop → RanTo f₀ w₀ w l
+    loop_stops e = i.on _ _ (scan_stop l e)
+
+    pub loop_ends : {x : Bool} → x ≡ Look.eof (remaining w) → x ≡ true → RanTo f₀ w₀ w l
+    loop_ends e t = i.on _ _ (scan_end l (sym e ∙ t))
+
+    pub loop_takes : {l' : L} {v : World} → Look.eof (remaining w) ≡ false → step l (remaining w) ≡ go l' → Ran take_token w v → Leads f₀ w₀ (scan step l') v
+    loop_takes {l'} z e t = goes_on i (λ w' r k. scan_go l l' z e t k)

@@ -1,14 +1,16 @@
 // Delimiter counts in a loop that takes token by token.
-ghost use Rattle.std.specs.Prelude.{◌^◌};
+ghost use Rattle.std.specs.Prelude.{◌≡◌, false, ◌+◌, ◌^◌, drop};
+ghost use Rattle.grammar.specs.Look.{eof};
 ghost use Rattle.grammar.specs.Nesting.{NestingBelow};
 ghost use Rattle.parser.specs.Rep.{entry, exit};
-ghost use Rattle.parser.specs.Counts.{BumpNesting};
+ghost use Rattle.parser.specs.Counts.{BumpNesting, BumpNested};
 
 use crate::cursor::Cursor;
 use crate::state::Parser;
 use grammar::message::Message;
 use grammar::nesting::Nesting;
 
+// A cursor, and how many delimiters are open there.
 #[derive(Clone, Copy)]
 pub struct Nested {
     pub c: Cursor,
@@ -17,7 +19,7 @@ pub struct Nested {
 
 impl Parser<'_> {
     // A closer without its opener is reported, and leaves the counts as they are.
-    pub fn bump_nesting(&mut self, c: Cursor, nesting: Nesting, kind: u16) -> Nested
+    fn bump_nesting(&mut self, c: Cursor, nesting: Nesting, kind: u16) -> Nested
         requires { NestingBelow (2 ^ 63) nesting }
         ensures { BumpNesting nesting kind (entry self c) (exit self result.c) result.nesting }
     {
@@ -27,6 +29,20 @@ impl Parser<'_> {
                 let d = self.error_here(c, Message::UnexpectedCloser(x));
                 Nested { c: d, nesting }
             }
+        }
+    }
+
+    // bump_nesting, and bump: a loop's step at its token.
+    pub fn bump_nested(&mut self, at: Nested) -> Nested
+        requires token { eof (drop at.c.pos self.old.kinds.now) ≡ false }
+        requires below { NestingBelow (at.c.pos + 1) at.nesting }
+        ensures { BumpNested at.nesting (entry self at.c) (exit self result.c) result.nesting }
+    {
+        let k = self.current(at.c.pos);
+        let b = self.bump_nesting(at.c, at.nesting, k);
+        Nested {
+            c: self.bump(b.c),
+            nesting: b.nesting,
         }
     }
 }

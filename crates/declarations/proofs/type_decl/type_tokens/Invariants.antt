@@ -9,8 +9,8 @@ use Rattle.parser.specs.Rep.{world}
 use Rattle.parser.proofs.Kit.{Leads}
 use Rattle.declarations.proofs.type_decl.type_tokens.Given as goal
 
-abbrev pub invariant-loop-nesting : goal.invariant-loop-nesting
-invariant-loop-nesting l = Leads (scan type_round default) (world l.initial.parser l.initial.c) (scan type_round l.nesting) (world l.parser l.c) × NestingBelow (l.c.pos + 1) l.nesting × BreakKnown l.parser.kinds.now l.c.pos l.known
+abbrev pub invariant-loop-known : goal.invariant-loop-known
+invariant-loop-known l = Leads (scan type_round default) (world l.initial.parser l.initial.at.c) (scan type_round l.at.nesting) (world l.parser l.at.c) × NestingBelow (l.at.c.pos + 1) l.at.nesting × BreakKnown l.parser.kinds.now l.at.c.pos l.known
 
-abbrev pub decreases-loop-nesting : goal.decreases-loop-nesting
-decreases-loop-nesting l = length l.parser.kinds.now - l.c.pos
+abbrev pub decreases-loop-known : goal.decreases-loop-known
+decreases-loop-known l = length l.parser.kinds.now - l.at.c.pos

@@ -8,11 +8,11 @@ use Rattle.parser.specs.Rep.{world}
 use Rattle.parser.proofs.Kit.{Leads}
 use Rattle.forms.proofs.line.expr_tokens.Given as goal
 
-abbrev pub invariant-loop-nesting : goal.invariant-loop-nesting
-invariant-loop-nesting l =
-    Leads (scan expr_round no_token) (world l.initial.parser l.initial.c)
-    (scan expr_round (record { nesting = l.nesting; saw_significant = l.saw_significant })) (world l.parser l.c)
-    × NestingBelow (l.c.pos + 1) l.nesting
+abbrev pub invariant-loop-parser : goal.invariant-loop-parser
+invariant-loop-parser l =
+    Leads (scan expr_round no_token) (world l.initial.parser l.initial.at.c)
+    (scan expr_round (record { nesting = l.at.nesting; saw_significant = l.saw_significant })) (world l.parser l.at.c)
+    × NestingBelow (l.at.c.pos + 1) l.at.nesting
 
-abbrev pub decreases-loop-nesting : goal.decreases-loop-nesting
-decreases-loop-nesting l = length l.parser.kinds.now - l.c.pos
+abbrev pub decreases-loop-parser : goal.decreases-loop-parser
+decreases-loop-parser l = length l.parser.kinds.now - l.at.c.pos

@@ -12,10 +12,10 @@ use Rattle.forms.proofs.line.parse_signature_result_until_line_end.Given as goal
 abbrev pub first : ResultType
 first = record { nesting = default; taken = false }
 
-abbrev pub invariant-loop-nesting : goal.invariant-loop-nesting
-invariant-loop-nesting l =
-    Leads (scan result_round first) (world l.initial.parser l.initial.c) (scan result_round (record { nesting = l.nesting; taken = l.taken })) (world l.parser l.c)
-    × NestingBelow (l.c.pos + 1) l.nesting
+abbrev pub invariant-loop-parser : goal.invariant-loop-parser
+invariant-loop-parser l =
+    Leads (scan result_round first) (world l.initial.parser l.initial.at.c) (scan result_round (record { nesting = l.at.nesting; taken = l.taken })) (world l.parser l.at.c)
+    × NestingBelow (l.at.c.pos + 1) l.at.nesting
 
-abbrev pub decreases-loop-nesting : goal.decreases-loop-nesting
-decreases-loop-nesting l = length l.parser.kinds.now - l.c.pos
+abbrev pub decreases-loop-parser : goal.decreases-loop-parser
+decreases-loop-parser l = length l.parser.kinds.now - l.at.c.pos
