@@ -1,3 +1,4 @@
 -- What the functions' proofs share.
 pub mod Plain
 pub mod Rounds
+pub mod Tail

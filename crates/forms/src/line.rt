@@ -20,14 +20,8 @@ use parser::state::Parser;
 pub fn parse_line_tail(parser: &mut Parser, c0: Cursor) -> Cursor
     ensures { Ran parse_line_tail (entry parser c0) (exit parser result) }
 {
-    let mut c = c0;
-    while parser.at_kind(c.pos, SyntaxKind::Whitespace) {
-        c = parser.bump(c);
-    }
-    if parser.at_kind(c.pos, SyntaxKind::Comment) {
-        return parser.bump(c);
-    }
-    c
+    let c = parser.bump_inline_whitespace(c0);
+    parser.bump_at(c, SyntaxKind::Comment)
 }
 
 fn or_significant(saw: bool, k: u16) -> bool
