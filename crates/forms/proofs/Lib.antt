@@ -1,4 +1,5 @@
 -- What the functions' proofs share.
 pub mod Plain
+pub mod At
 pub mod Rounds
 pub mod Tail

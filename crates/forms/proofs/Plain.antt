@@ -1,5 +1,6 @@
 -- A token that is taken at one look, and an instruction that ends at one or two. Assumes nothing.
-use Prim.Native.Nat.{ℕ}
+use Prim.Native.Nat.{ℕ, ◌+◌, ◌<◌}
+use lib.ListN.{length, drop}
 use mathlib.Core.Bool.{Bool, true, false, false≢true, cond, not, ◌&&◌, ◌||◌, and-false}
 use mathlib.Core.List.{List, [], ◌∷◌}
 use mathlib.Core.Path.{◌≡◌, refl, sym, ap, ap₂, subst, ◌∙◌}
@@ -7,15 +8,18 @@ use Rattle.std.specs.Prelude.{Option, Some, None, is_some}
 use borrow.Author.Tests.{eqb-true, ne_eqb}
 use lib.Dec.{eqb}
 use Rattle.lexer.specs.Syntax.{Error, Whitespace, Newline, Comment, DocComment, Dot, Equal, Comma, DotDot, DotDotDot, Colon, ColonColon, RArrow, Plus, Minus, Star, Slash, SlashSlash, LBrace, LBracket, LParen, RBrace, RBracket, RParen}
-use Rattle.grammar.specs.Words.{Sym, is}
+use Rattle.grammar.specs.Words.{Sym, File, is}
 use Rattle.grammar.specs.Look.{one_of, at, current, eof, skip, is_trivia, expects_continuation_operand, punctuation_continues_instruction}
 use Rattle.grammar.specs.Out.{kind}
 use Rattle.grammar.specs.Run.{go}
 use Rattle.grammar.specs.Nesting.{default, is_root, bump_by, bump_nesting, counted}
-use Rattle.grammar.specs.Instruction.{Inst, instruction_round, expects_operand, should_continue_instruction_after_whitespace, should_stop_instruction_before}
+use Rattle.grammar.specs.Instruction.{instruction_round, expects_operand, should_continue_instruction_after_whitespace, should_stop_instruction_before}
 use Rattle.parser.specs.Sets.{bit, bits_are, each_of}
 use Rattle.forms.specs.Instruction.{instruction_ends, behind, plain_kinds, plain_punctuation, open_behind}
-use Rattle.forms.proofs.Rounds.{instruction_locals, instruction_counts, or_off}
+use Rattle.parser.proofs.Ahead.{at_here}
+use Rattle.parser.proofs.Laws.{rest_cons, at_within}
+use Rattle.forms.proofs.At.{line_end, or_off}
+use Rattle.forms.proofs.Rounds.{instruction_locals, instruction_counts}
 
 -- kinds of which more than `previous` depends
 abbrev special : List Sym
@@ -120,6 +124,22 @@ module _ (previous : Option Sym) (s : Sym) (r : List Sym) (w : is Whitespace s �
       let n = ap (λ (u : Bool). at punctuation_continues_instruction (elim u [ true ↦ skip (is Whitespace) r | false ↦ s ∷ r ])) w ∙ none_behind r e in
       ap₂ (λ x y. is_some previous && (x || y)) o n ∙ and-false (is_some previous)
 
-  pub ends_at_space : instruction_ends previous default (s ∷ r) ≡ true
+  ends_behind : instruction_ends previous default (s ∷ r) ≡ true
   unfolding instruction_ends at
-  ends_at_space = rw w (ap not no_more)
+  ends_behind = rw w (ap not no_more)
+
+module _ (F : File) (p : ℕ) {k : Sym} (c : k ≡ current (drop p F)) (w : k ≡ Whitespace) where
+  space_here : at (is Whitespace) (drop p F) ≡ true
+  space_here = at_here Whitespace _ refl c w
+
+  pub space_within : p < length F
+  space_within = at_within F p (is Whitespace) refl space_here
+
+  pub ends_at_space : (previous : Option Sym) {j : Sym} → expects_operand previous ≡ false → j ≡ current (drop (p + 1) F) → bit goes_on j ≡ false
+      → instruction_ends previous default (drop p F) ≡ true
+  unfolding at
+  ends_at_space previous o n g =
+      let q = rest_cons F p space_within in
+      ap (instruction_ends previous default) q ∙ ends_behind previous _ _ (sym (ap (at (is Whitespace)) q) ∙ space_here) o (ap (bit goes_on) (sym n) ∙ g)
+
+pub ruleset ends_plainly = (line_end, ends_at_line, space_within, ends_at_space)

@@ -1,20 +1,16 @@
 -- What a round of each loop decides, by the tests that the code makes. Assumes nothing.
-use mathlib.Core.Bool.{Bool, true, false, false≢true, cond, not, ◌&&◌, ◌||◌}
+use mathlib.Core.Bool.{Bool, true, false, cond, not, ◌&&◌, ◌||◌}
 use mathlib.Core.List.{List, [], ◌∷◌}
-use mathlib.Core.Path.{◌≡◌, refl, sym, ap, ap₂, ◌∙◌}
+use mathlib.Core.Path.{◌≡◌, refl, sym, ap, ◌∙◌}
 use Rattle.std.specs.Prelude.{Some, is_some}
-use borrow.Author.Tests.{ne_eqb}
 use Rattle.lexer.specs.Syntax.{Whitespace, Newline, Comment, DocComment}
-use Rattle.grammar.specs.Words.{Sym, is, ELSE}
-use Rattle.grammar.specs.Look.{one_of, is_trivia, current, at, skip, past, at_kind, space_before_top_level_item, is_top_level_starter, at_top_level_form_starter_in_block, at_terminator, at_block_recovery_boundary}
+use Rattle.grammar.specs.Words.{Sym}
+use Rattle.grammar.specs.Look.{one_of, is_trivia, current, at, at_kind, space_before_top_level_item}
 use Rattle.grammar.specs.Run.{Round, stop, go}
 use Rattle.grammar.specs.Nesting.{is_root, bump_nesting}
 use Rattle.grammar.specs.Line.{Expression, expr_round, ResultType, result_round}
 use Rattle.grammar.specs.Instruction.{Inst, instruction_round, should_continue_instruction_after_whitespace, should_stop_instruction_before}
-use Rattle.grammar.specs.declared.block.Terminators.{Terminators}
 use Rattle.grammar.specs.declared.nesting.Nesting.{Nesting}
-use Rattle.parser.specs.Sets.{bit, bits_are}
-use Rattle.parser.proofs.Laws.{at_by}
 use Rattle.forms.specs.Line.{line_ends, expr_ends}
 use Rattle.forms.specs.Instruction.{instruction_ends}
 
@@ -23,16 +19,6 @@ line_kinds : (r : List Sym) → at (one_of (Newline ∷ Comment ∷ DocComment �
 unfolding one_of at
 line_kinds [] = refl
 line_kinds (s ∷ r) = refl
-
--- and as the code does
-pub line_end_is : {x : Bool} {k : Sym} (r : List Sym) → x ≡ bit 0x70000000 k → k ≡ current r → x ≡ at (one_of (Newline ∷ Comment ∷ DocComment ∷ [])) r
-unfolding one_of
-line_end_is {k} r e c = at_by (one_of (Newline ∷ Comment ∷ DocComment ∷ [])) r refl (e ∙ bits_are 0x70000000 (Newline ∷ Comment ∷ DocComment ∷ []) k tt tt) c
-
--- behind the test for Whitespace, the same is asked by `is_trivia`
-pub trivia_end_is : {x : Bool} {k : Sym} (r : List Sym) → x ≡ is_trivia k → k ≡ current r → (k ≡ Whitespace → ⊥) → x ≡ at (one_of (Newline ∷ Comment ∷ DocComment ∷ [])) r
-unfolding one_of
-trivia_end_is {k} r e c n = at_by (one_of (Newline ∷ Comment ∷ DocComment ∷ [])) r refl (e ∙ rw (ne_eqb Whitespace k (λ q. n (sym q))) refl) c
 
 -- a test that is made in parts
 module _ {A : Type 0} (x y : A) where
@@ -139,23 +125,3 @@ module _ (l : Inst) (r : List Sym) where
 
     pub instruction_counts : x ≡ false → at is_trivia r ≡ false → instruction_round l r ≡ instruction_goes
     instruction_counts k t = instruction_round_is ∙ if_false stop _ e k ∙ if_false (go l) instruction_goes refl t
-
--- ---- tokens that a test leaves out
-pub or_off : (s t : Bool) → (s || t) ≡ false → (s ≡ false) × (t ≡ false)
-or_off true t e = absurd (false≢true (sym e))
-or_off false t e = (refl, e)
-
-pub not_else : (r : List Sym) → at_terminator Terminators.ElseEnd r ≡ false → at (is ELSE) r ≡ false
-unfolding at at_terminator one_of
-not_else [] e = refl
-not_else (s ∷ r) e = (or_off (is ELSE s) _ e).0
-
-pub not_doc : (r : List Sym) → at (one_of (Newline ∷ Comment ∷ DocComment ∷ [])) r ≡ false → at (is DocComment) r ≡ false
-unfolding at one_of
-not_doc [] e = refl
-not_doc (s ∷ r) e = (or_off (is DocComment s) false (or_off (is Comment s) _ (or_off (is Newline s) _ e).1).1).0
-
-pub boundary_is : (r : List Sym) → at (is ELSE) r ≡ false → at (is DocComment) r ≡ false → at_block_recovery_boundary r ≡ is_top_level_starter r
-unfolding at_block_recovery_boundary at_top_level_form_starter_in_block
-boundary_is r e d =
-    ap₂ ◌||◌ e (ap (λ (u : Bool). elim u [ true ↦ is_top_level_starter (skip is_trivia (past (is DocComment) r)) | false ↦ is_top_level_starter r ]) d)

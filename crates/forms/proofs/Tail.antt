@@ -7,7 +7,7 @@ use lib.ListN.{length}
 use Rattle.lexer.specs.Syntax.{Whitespace, Comment}
 use Rattle.grammar.specs.Words.{Sym, is}
 use Rattle.grammar.specs.Look.{at}
-use Rattle.grammar.specs.Run.{Forest, nil, leaf, leaves, Res, P, pure, peek, take_token, scan, turn, ◌>>=◌, ◌>>◌, when◌then◌else◌}
+use Rattle.grammar.specs.Run.{Forest, nil, leaf, leaves, Res, P, pure, peek, take_token, scan, ◌>>=◌, ◌>>◌, when◌then◌else◌}
 use Rattle.grammar.specs.Bump.{nop, bump_while, while_round}
 use Rattle.grammar.specs.Out.{ev, dg}
 use Rattle.grammar.specs.State.{run}

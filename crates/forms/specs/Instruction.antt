@@ -11,7 +11,7 @@ use Rattle.grammar.specs.Run.{scan}
 use Rattle.parser.specs.Rep.{World, Onward, RanTo}
 
 -- a terminator, an operation, or what ends a block that lacks its `end`
-unfoldable pub starts_next : List Sym → Bool
+abbrev pub starts_next : List Sym → Bool
 starts_next r = at_terminator Terminators.ElseEnd r || (can_start_operation r || at_block_recovery_boundary r)
 
 -- an instruction ends before the token here

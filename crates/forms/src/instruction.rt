@@ -24,12 +24,14 @@ use parser::sets::{CONTROL_FLOW, GOES_ON, LINE_END, PLAIN, PLAIN_PUNCTUATION};
 use parser::state::Parser;
 
 // Whether the last token that an instruction took, trivia aside, expects an operand.
+#[tactic(auto, unfolding(grammar::specs::Instruction::expects_operand))]
 fn expects_operand(previous: Option<u16>) -> bool
     ensures { result ≡ expects_operand previous }
 {
     previous.is_some_and(expects_continuation_operand)
 }
 
+#[tactic(auto, using(crate::proofs::At::continues), unfolding(grammar::specs::Instruction::should_continue_instruction_after_whitespace))]
 pub fn should_continue_instruction_after_whitespace(
     parser: &Parser,
     p: usize,
@@ -38,37 +40,28 @@ pub fn should_continue_instruction_after_whitespace(
 ) -> bool
     ensures { result ≡ should_continue previous nesting (drop p parser.now.kinds.now) }
 {
-    if !nesting.is_root() {
-        return true;
-    }
-    if previous.is_none() {
-        return false;
-    }
-    if expects_operand(previous) {
-        return true;
-    }
-    let next = parser.peek_after_inline_whitespace(p);
-    punctuation_continues_instruction(parser.current(next))
+    !nesting.is_root()
+        || previous.is_some()
+            && (expects_operand(previous)
+                || punctuation_continues_instruction(parser.current(
+                    parser.peek_after_inline_whitespace(p),
+                )))
 }
 
 // A terminator, an operation, or what ends a block that lacks its `end`; not asked at a doc comment.
+#[tactic(auto, using(crate::proofs::At::next), unfolding(grammar::specs::Look::can_start_operation))]
 fn at_next(parser: &Parser, p: usize) -> bool
     requires { at (is DocComment) (drop p parser.now.kinds.now) ≡ false }
     ensures { result ≡ starts_next (drop p parser.now.kinds.now) }
 {
-    if parser.at_terminator(p, Terminators::ElseEnd) {
-        return true;
-    }
     let k = parser.current(p);
-    if starts_instruction(k) {
-        return true;
-    }
-    if in_words(CONTROL_FLOW, k) {
-        return true;
-    }
-    parser.is_top_level_starter(p)
+    parser.at_terminator(p, Terminators::ElseEnd)
+        || starts_instruction(k)
+        || in_words(CONTROL_FLOW, k)
+        || parser.is_top_level_starter(p)
 }
 
+#[tactic(auto, using(crate::proofs::At::continues), unfolding(grammar::specs::Instruction::should_stop_instruction_before))]
 pub fn should_stop_instruction_before(
     parser: &Parser,
     p: usize,
@@ -78,19 +71,14 @@ pub fn should_stop_instruction_before(
     requires { at (is DocComment) (drop p parser.now.kinds.now) ≡ false }
     ensures { result ≡ should_stop previous nesting (drop p parser.now.kinds.now) }
 {
-    if !nesting.is_root() {
-        return false;
-    }
-    if expects_operand(previous) {
-        return false;
-    }
-    if punctuation_continues_instruction(parser.current(p)) {
-        return false;
-    }
-    at_next(parser, p)
+    nesting.is_root()
+        && !expects_operand(previous)
+        && !punctuation_continues_instruction(parser.current(p))
+        && at_next(parser, p)
 }
 
 // Whether an instruction ends before the token here.
+#[tactic(auto, using(crate::proofs::At::ends), unfolding(crate::specs::Instruction::instruction_ends))]
 fn at_instruction_end(parser: &Parser, p: usize, previous: Option<u16>, nesting: Nesting) -> bool
     ensures { result ≡ instruction_ends previous nesting (drop p parser.now.kinds.now) }
 {
@@ -101,20 +89,19 @@ fn at_instruction_end(parser: &Parser, p: usize, previous: Option<u16>, nesting:
     if is_trivia(k) {
         return nesting.is_root();
     }
-    if previous.is_some() {
-        return should_stop_instruction_before(parser, p, previous, nesting);
-    }
-    false
+    previous.is_some() && should_stop_instruction_before(parser, p, previous, nesting)
 }
 
 // Which plain kinds an instruction goes on with behind a token, outside delimiters.
+#[tactic(auto, unfolding(crate::specs::Instruction::open_behind))]
 fn open_behind(k: u16) -> u64
     ensures { result ≡ open_behind (Some k) }
 {
     if expects_continuation_operand(k) {
-        return PLAIN;
+        PLAIN
+    } else {
+        PLAIN_PUNCTUATION
     }
-    PLAIN_PUNCTUATION
 }
 
 // Where the first tokens, which are plain, end; and the last of them.
@@ -144,20 +131,13 @@ fn plain_tokens(parser: &mut Parser, c0: Cursor) -> Lead
 }
 
 // Whether one or two tokens tell that an instruction ends here, outside delimiters. Mostly they do.
+#[tactic(auto, using(crate::proofs::Plain::ends_plainly))]
 fn ends_plainly(parser: &Parser, p: usize, previous: Option<u16>) -> bool
     ensures { result ≡ true → instruction_ends previous default (drop p parser.now.kinds.now) ≡ true }
 {
     let k = parser.current(p);
-    if in_set(LINE_END, k) {
-        return true;
-    }
-    if k != WHITESPACE {
-        return false;
-    }
-    if expects_operand(previous) {
-        return false;
-    }
-    !in_set(GOES_ON, parser.current(p + 1))
+    in_set(LINE_END, k)
+        || k == WHITESPACE && !expects_operand(previous) && !in_set(GOES_ON, parser.current(p + 1))
 }
 
 // The rounds behind the token `previous0`.

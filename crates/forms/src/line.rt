@@ -1,6 +1,7 @@
 // Line forms: what runs to the end of a line.
-ghost use Rattle.std.specs.Prelude.{◌≡◌, not, ◌||◌, drop};
-ghost use Rattle.grammar.specs.Look.{is_trivia};
+ghost use Rattle.std.specs.Prelude.{◌≡◌, not, ◌&&◌, ◌||◌, drop};
+ghost use Rattle.grammar.specs.Look.{is_trivia, at_kind, space_before_top_level_item};
+ghost use Rattle.lexer.specs.Syntax.{Whitespace};
 ghost use Rattle.grammar.specs.Run.{scan};
 ghost use Rattle.grammar.specs.Line.{parse_line_tail, expr_round, no_token, parse_expr_until_line_end};
 ghost use Rattle.grammar.specs.Line.{parse_signature_result_until_line_end};
@@ -24,43 +25,36 @@ pub fn parse_line_tail(parser: &mut Parser, c0: Cursor) -> Cursor
     parser.bump_at(c, SyntaxKind::Comment)
 }
 
+// Whether one of the tokens is no trivia.
 fn or_significant(saw: bool, k: u16) -> bool
     ensures { result ≡ (saw || not (is_trivia k)) }
 {
-    if saw {
-        return true;
-    }
-    !is_trivia(k)
+    saw || !is_trivia(k)
 }
 
 // Whether the line ends here: outside of delimiters, at a newline or a comment.
+#[tactic(auto, using(crate::proofs::At::line_end), unfolding(crate::specs::Line::line_ends))]
 fn at_line_end(parser: &Parser, p: usize, nesting: Nesting) -> bool
     ensures { result ≡ line_ends nesting (drop p parser.now.kinds.now) }
 {
-    if nesting.is_root() {
-        return in_set(LINE_END, parser.current(p));
-    }
-    false
+    nesting.is_root() && in_set(LINE_END, parser.current(p))
+}
+
+// Whether whitespace stands here before the next item.
+#[tactic(auto, using(parser::proofs::Ahead::one_on), unfolding(grammar::specs::Look::space_before_top_level_item))]
+fn space_before_item(parser: &Parser, p: usize) -> bool
+    ensures { result ≡ (at_kind Whitespace (drop p parser.now.kinds.now) && space_before_top_level_item (drop p parser.now.kinds.now)) }
+{
+    parser.at_kind(p, SyntaxKind::Whitespace)
+        && parser.is_top_level_starter(parser.next_relevant_top_level_token(p + 1))
 }
 
 // Whether an expression ends here: where the line does, or where whitespace stands before the next item.
+#[tactic(auto, unfolding(crate::specs::Line::expr_ends))]
 fn at_expr_end(parser: &Parser, p: usize, nesting: Nesting, saw: bool) -> bool
     ensures { result ≡ expr_ends nesting saw (drop p parser.now.kinds.now) }
 {
-    if at_line_end(parser, p, nesting) {
-        return true;
-    }
-    if !nesting.is_root() {
-        return false;
-    }
-    if !saw {
-        return false;
-    }
-    if !parser.at_kind(p, SyntaxKind::Whitespace) {
-        return false;
-    }
-    let next = parser.next_relevant_top_level_token(p + 1);
-    parser.is_top_level_starter(next)
+    at_line_end(parser, p, nesting) || nesting.is_root() && saw && space_before_item(parser, p)
 }
 
 fn expr_tokens(parser: &mut Parser, c0: Cursor) -> Cursor

@@ -67,6 +67,7 @@ pub fn parse_path_with_message(parser: &mut Parser, c0: Cursor, m: Message) -> C
 }
 
 // How many delimiters of this kind are open behind the token k.
+#[tactic(auto, unfolding(crate::specs::Path::group_step))]
 fn group_depth(opener: SyntaxKind, closer: SyntaxKind, depth: usize, k: u16) -> usize
     requires { (0 < depth) × (depth < 2 ^ 63) }
     ensures { result ≡ group_step (kind_number opener) (kind_number closer) depth k }

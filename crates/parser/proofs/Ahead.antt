@@ -41,6 +41,9 @@ module _ (F : File) (c : ℕ) (t : Sym → Bool) {x : Bool} (e : x ≡ at t (dro
   pub next_within : x ≡ true → c + 1 ≤ length F
   next_within h = let w = at_within F c t e h in omega arith
 
+-- what stands one place on
+pub ruleset one_on = (next_within, past_on)
+
 -- ---- a test of the number that `current` gave
 module _ {x : Sym} (k : Sym) (r : List Sym) (n : is k Syntax.Tombstone ≡ false) (e : x ≡ current r) where
   pub at_here : x ≡ k → at (is k) r ≡ true
