@@ -9,7 +9,7 @@ use native.Mathlib.Omega.{arith}
 use lib.ListN.{length, drop}
 use borrow.Author.Tests.{eqb-true, eq-eqb, ne_eqb}
 use Rattle.lexer.specs.Syntax
-use Rattle.grammar.specs.Words.{Sym, File, from, is, PUB}
+use Rattle.grammar.specs.Words.{Sym, File, from, is, ELSE, END, PUB}
 use Rattle.grammar.specs.Look.{one_of, current, at, skip, past, next_token_after_visibility, at_prefixed_keyword}
 use Rattle.grammar.specs.Item.{at_declaration}
 use Rattle.parser.specs.declared.look.Remembered.{Remembered}
@@ -40,6 +40,12 @@ module _ (F : File) (c : ℕ) (t : Sym → Bool) {x : Bool} (e : x ≡ at t (dro
   -- a token stands at c, so the next place is no further than the end
   pub next_within : x ≡ true → c + 1 ≤ length F
   next_within h = let w = at_within F c t e h in omega arith
+
+-- the words that end a block of `if`
+pub at_either : (r : List Sym) → at (one_of (ELSE ∷ END ∷ [])) r ≡ (at (is ELSE) r || at (is END) r)
+unfolding at one_of
+at_either [] = refl
+at_either (s ∷ r) = ap (λ u. is ELSE s || u) (or-false _)
 
 -- what stands one place on
 pub ruleset one_on = (next_within, past_on)
@@ -76,6 +82,11 @@ module _ (r : List Sym) where
     pub prefixed_is : one_of ks Syntax.Tombstone ≡ false → at (is PUB) r ≡ true → at_prefixed_keyword ks r ≡ one_of ks (declared r)
     unfolding at_prefixed_keyword
     prefixed_is n e = rw (e, declared_behind e) (sym (at_current (one_of ks) _ n))
+
+pub at_pub : (F : File) (p : ℕ) {x : Sym} → x ≡ current (drop p F) → x ≡ PUB → p + 1 ≤ length F
+at_pub F p c e = next_within F p (is PUB) refl (at_here PUB _ refl c e)
+
+pub ruleset declaration = (at_pub, past_on, at_here, at_not, declared_here, declared_behind)
 
 -- one token says which declaration starts here, where neither `pub` nor Tombstone, which stands for no token, is one of the keywords
 pub declaration_is : (ks r : List Sym) → one_of ks PUB ≡ false → one_of ks Syntax.Tombstone ≡ false → at_declaration ks r ≡ one_of ks (declared r)

@@ -4,4 +4,5 @@ pub mod Kit
 pub mod Expect
 pub mod Ahead
 pub mod Counts
+pub mod Bits
 pub mod Rounds

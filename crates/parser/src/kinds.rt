@@ -21,6 +21,7 @@ pub const NON_COMMENT_TRIVIA: SyntaxKind = SyntaxKind::Newline;
 pub const SPACE: SyntaxKind = SyntaxKind::Whitespace;
 
 // Whether the bit is set.
+#[tactic(auto, unfolding(crate::specs::Sets::bit))]
 pub fn in_set(mask: u64, k: u16) -> bool
     ensures { result ≡ bit mask k }
 {
@@ -31,6 +32,7 @@ pub fn in_set(mask: u64, k: u16) -> bool
 }
 
 // Whether k is trivia, up to the kind `last`.
+#[tactic(auto, unfolding(crate::specs::Sets::trivia_to))]
 pub fn is_trivia_to(last: SyntaxKind, k: u16) -> bool
     ensures { result ≡ trivia_to (kind_number last) k }
 {
@@ -38,6 +40,7 @@ pub fn is_trivia_to(last: SyntaxKind, k: u16) -> bool
 }
 
 // Whitespace, Newline, Comment
+#[tactic(auto, using(crate::proofs::Bits::trivia))]
 pub fn is_regular_trivia(k: u16) -> bool
     ensures { result ≡ regular_trivia k }
 {
@@ -45,24 +48,28 @@ pub fn is_regular_trivia(k: u16) -> bool
 }
 
 // The same and DocComment
+#[tactic(auto, using(crate::proofs::Bits::trivia))]
 pub fn is_trivia(k: u16) -> bool
     ensures { result ≡ is_trivia k }
 {
     is_trivia_to(TRIVIA, k)
 }
 
+#[tactic(auto, using(crate::proofs::Bits::trivia))]
 pub fn is_non_comment_trivia(k: u16) -> bool
     ensures { result ≡ non_comment_trivia k }
 {
     is_trivia_to(NON_COMMENT_TRIVIA, k)
 }
 
+#[tactic(auto, using(crate::proofs::Bits::operands))]
 pub fn expects_continuation_operand(k: u16) -> bool
     ensures { result ≡ expects_operand k }
 {
     in_set(OPERAND, k)
 }
 
+#[tactic(auto, using(crate::proofs::Bits::punctuation))]
 pub fn punctuation_continues_instruction(k: u16) -> bool
     ensures { result ≡ continues k }
 {
@@ -70,6 +77,7 @@ pub fn punctuation_continues_instruction(k: u16) -> bool
 }
 
 // An Ident of any word, a SpecialIdent or a QuotedIdent
+#[tactic(auto, using(crate::proofs::Bits::names), unfolding(grammar::specs::Look::name_like))]
 pub fn is_name_like(k: u16) -> bool
     ensures { result ≡ name_like k }
 {
@@ -77,6 +85,7 @@ pub fn is_name_like(k: u16) -> bool
 }
 
 // Whether a token is an Ident whose word's bit is set.
+#[tactic(auto, unfolding(crate::specs::Sets::word_bit))]
 pub fn in_words(mask: u64, k: u16) -> bool
     ensures { result ≡ word_bit mask k }
 {
@@ -84,12 +93,14 @@ pub fn in_words(mask: u64, k: u16) -> bool
 }
 
 // All words but `package`
+#[tactic(auto, using(crate::proofs::Bits::reserved))]
 fn is_reserved_block_keyword(k: u16) -> bool
     ensures { result ≡ is_reserved_block_keyword k }
 {
     in_words(RESERVED, k)
 }
 
+#[tactic(auto, unfolding(grammar::specs::Look::starts_instruction))]
 pub fn starts_instruction(k: u16) -> bool
     ensures { result ≡ starts_instruction k }
 {
@@ -97,6 +108,7 @@ pub fn starts_instruction(k: u16) -> bool
 }
 
 // DocComment, At, or a word that starts an item
+#[tactic(auto, using(crate::proofs::Bits::starters))]
 pub fn starts_item(k: u16) -> bool
     ensures { result ≡ starter k }
 {

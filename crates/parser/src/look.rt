@@ -30,6 +30,7 @@ pub struct Remembered {
 }
 
 impl Parser<'_> {
+    #[tactic(auto, using(crate::proofs::Laws::eof_is))]
     pub fn eof(&self, p: usize) -> bool
         ensures { result ≡ eof_of (drop p self.now.kinds.now) }
     {
@@ -37,6 +38,7 @@ impl Parser<'_> {
     }
 
     // The token here; past the last one Tombstone, as in the definition. No Option: each test of it is then one comparison.
+    #[tactic(auto, using(crate::proofs::Laws::current_in, crate::proofs::Laws::current_out))]
     pub fn current(&self, p: usize) -> u16
         ensures { result ≡ current_of (drop p self.now.kinds.now) }
     {
@@ -47,6 +49,7 @@ impl Parser<'_> {
     }
 
     // A plain kind, or an Ident that is a word, by its number.
+    #[tactic(auto, using(crate::proofs::Laws::at_in, crate::proofs::Laws::at_out))]
     pub(crate) fn at_symbol(&self, p: usize, k: u16) -> bool
         ensures { result ≡ at (is k) (drop p self.now.kinds.now) }
     {
@@ -132,6 +135,7 @@ impl Parser<'_> {
     }
 
     // The token here or, at `pub`, the one behind the visibility: what says which declaration starts here.
+    #[tactic(auto, using(crate::proofs::Ahead::declaration))]
     pub fn declared(&self, p: usize) -> u16
         ensures { result ≡ declared_of (drop p self.now.kinds.now) }
     {
@@ -152,12 +156,14 @@ impl Parser<'_> {
         starts_item(k)
     }
 
+    #[tactic(auto, using(crate::proofs::Ahead::one_on), unfolding(grammar::specs::Look::at_bare_while))]
     pub fn at_bare_while(&self, p: usize) -> bool
         ensures { result ≡ bare_while (drop p self.now.kinds.now) }
     {
         self.at_keyword(p, Word::While) && !self.at_kind(p + 1, Dot)
     }
 
+    #[tactic(auto, using(crate::proofs::Ahead::at_either), unfolding(grammar::specs::Look::at_terminator))]
     pub fn at_terminator(&self, p: usize, terminators: Terminators) -> bool
         ensures { result ≡ at_terminator terminators (drop p self.now.kinds.now) }
     {
@@ -169,6 +175,7 @@ impl Parser<'_> {
     }
 
     // block_recovery_boundary's test for `else`
+    #[tactic(auto, unfolding(grammar::specs::Look::at_stray_else))]
     pub fn at_stray_else(&self, p: usize, terminators: Terminators) -> bool
         ensures { result ≡ stray_else terminators (drop p self.now.kinds.now) }
     {
