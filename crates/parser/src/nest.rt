@@ -32,7 +32,8 @@ impl Parser<'_> {
         }
     }
 
-    // bump_nesting, and bump: a loop's step at its token.
+    // bump_nesting, and bump: a loop's step at its token. Inlined: by a call, a token of a group takes up to a third more instructions.
+    #[inline(always)]
     pub fn bump_nested(&mut self, at: Nested) -> Nested
         requires token { eof (drop at.c.pos self.old.kinds.now) ≡ false }
         requires below { NestingBelow (at.c.pos + 1) at.nesting }
