@@ -1,71 +1,96 @@
 // Text for standard output, gathered in a lent buffer that is written when the next text has no room.
-ghost use Rattle.std.specs.Prelude.{◌≡◌, ◌+◌, ◌≤◌, ℕ, List, length, flat_map, OnOk};
+ghost use Rattle.std.specs.Prelude.{◌≡◌, ◌+◌, ◌≤◌, ℕ, List, [], length, take, flat_map, None, OnOk};
 ghost use Rattle.std.specs.List.{AllZip};
-ghost use Rattle.std.specs.Io.KnownBytes.{Appends};
+ghost use Rattle.std.specs.Io.{WritesAtMost};
+ghost use Rattle.std.specs.Io.KnownBytes.{Appends, Keeps, WriteAppends};
 ghost use Rattle.frames.specs.Ready.{Ready};
+ghost use Rattle.frames.specs.Gathered.{Gathered, gathered, gather};
 ghost use Rattle.std.specs.Fmt.{decimal};
 ghost use Rattle.frames.specs.Text.{spaced, number_line, tagged_line};
 
 use std::io;
 use std::io::Write;
+use std::marker::Model;
 
-// A writer that never fails: what can't be written is lost, and the program goes on. std's `BufWriter` needs the heap.
+// A writer that never fails: what can't be written is lost, and the program goes on. Clauses see what it has gathered (`Gathered`).
+// std's `BufWriter` needs the heap.
 #[derive(Drop)]
-pub struct Output<'a, P: Print> {
-    rt: &'a P,
-    buf: &'a mut [u8],
+pub struct Output<'r, 'b, P: Print> {
+    rt: &'r P,
+    buf: &'b mut [u8],
     used: usize,
-    ghost ready: { Ready used buf.now },
 }
 
-impl<'a, P: Print> Output<'a, P> {
-    pub fn new(rt: &'a P, buf: &'a mut [u8]) -> Output<'a, P>
+impl<'r, 'b, P: Print> Model for Output<'r, 'b, P> {
+    ghost Value = { Gathered };
+
+    ghost view = { λ o. gathered (length o.buf.now) (take o.used o.buf.now) };
+
+    ghost invariant = { λ o. Ready o.used o.buf.now };
+}
+
+impl<'r, 'b, P: Print> Output<'r, 'b, P> {
+    pub fn new(rt: &'r P, buf: &'b mut [u8]) -> Output<'r, 'b, P>
         requires { 32 ≤ length buf.old }
-        ensures { result.used ≡ 0 }
+        ensures { result ≡ gathered (length buf.old) [] }
     {
         Output { rt, buf, used: 0 }
     }
 
     // What can't be written is lost.
     fn write_out(&mut self)
-        ensures size { length self.new.buf.now ≡ length self.old.buf.now }
-        ensures empty { self.new.used ≡ 0 }
+        ensures { self.new ≡ gathered self.old.capacity [] }
     {
-        let _ = self.rt.write_all(&self.buf[..self.used]);
+        let used = self.used;
+        let _ = self.rt.write_all(&self.buf[..used]);
         self.used = 0;
     }
 
-    // Writes the buffer out where fewer than `n` bytes are free.
-    fn make_room(&mut self, n: usize)
-        requires { n ≤ length self.old.buf.now }
-        ensures { self.new.used + n ≤ length self.new.buf.now }
+    // Puts a text behind what is gathered, which is written first where there is no room for both.
+    fn gather(&mut self, text: &[u8])
+        requires { length text.now ≤ self.old.capacity }
+        ensures { self.new ≡ gather self.old text.now }
     {
-        if self.buf.len() - self.used < n {
+        if self.buf.len() - self.used < text.len() {
             self.write_out();
         }
+        let to = self.used + text.len();
+        self.buf[self.used..to].copy_from_slice(text);
+        self.used = to;
     }
 }
 
-impl<P: Print> Write for Output<'_, P> {
-    fn write(&mut self, text: &[u8]) -> io::Result<usize> {
+// It always answers `Ok`. The bytes that standard output holds are not known, so no clause says what came of those that are not pending.
+impl<P: Print> Write for Output<'_, '_, P> {
+    fn write(&mut self, text: &[u8]) -> io::Result<usize>
+        ensures bound { WritesAtMost result text.now }
+        ensures bytes { WriteAppends None None result text.now }
+        ensures all { result ≡ Ok (length text.now) }
+        ensures gathers { self.new ≡ gather self.old text.now }
+    {
         self.write_all(text)?;
         Ok(text.len())
     }
 
-    fn write_all(&mut self, text: &[u8]) -> io::Result<()> {
+    fn write_all(&mut self, text: &[u8]) -> io::Result<()>
+        ensures bytes { OnOk result (Appends None None text.now) }
+        ensures ok { result ≡ Ok tt }
+        ensures gathers { self.new ≡ gather self.old text.now }
+    {
         if self.buf.len() < text.len() {
             self.write_out();
             let _ = self.rt.write_all(text);
             return Ok(());
         }
-        self.make_room(text.len());
-        let to = self.used + text.len();
-        self.buf[self.used..to].copy_from_slice(text);
-        self.used = to;
+        self.gather(text);
         Ok(())
     }
 
-    fn flush(&mut self) -> io::Result<()> {
+    fn flush(&mut self) -> io::Result<()>
+        ensures bytes { Keeps None None }
+        ensures ok { result ≡ Ok tt }
+        ensures empty { self.new ≡ gathered self.old.capacity [] }
+    {
         self.write_out();
         Ok(())
     }

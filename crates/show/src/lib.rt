@@ -64,6 +64,6 @@ pub fn write_tree(out: &mut impl Write, source: &[u8], slices: &mut Slices<'_>) 
 }
 
 // The same to standard output, where what can't be written is lost.
-pub fn put_tree<P: Print>(out: &mut Output<'_, P>, source: &[u8], slices: &mut Slices<'_>) {
+pub fn put_tree<P: Print>(out: &mut Output<'_, '_, P>, source: &[u8], slices: &mut Slices<'_>) {
     let _ = write_tree(out, source, slices);
 }

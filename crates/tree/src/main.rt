@@ -9,7 +9,7 @@ use std::io::{Read, Write};
 
 // One byte more is read, for which the text is that there are too many.
 fn put_input<P: Print>(
-    out: &mut Output<'_, P>,
+    out: &mut Output<'_, '_, P>,
     from: &mut impl Read,
     slices: &mut Slices<'_>,
 ) -> io::Result<()> {
