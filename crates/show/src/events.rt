@@ -1,12 +1,16 @@
 // One line for each event.
 use frames::output::write_tagged;
+use grammar::event::{CLOSE, ERROR_TOKEN};
+use lexer::syntax::SyntaxKind;
 use std::io;
 use std::io::Write;
 
-// A token of kind Error has an event of its own, 60.
-const ERROR: u16 = 1;
+// The kinds of nodes go from ERROR to LAST_NODE. A token of kind Error has an event of its own.
+const ERROR: u16 = SyntaxKind::Error as u16;
 
-// What an entry of the slice of events says: 0 closes a node, 1 to 26 are the kinds of nodes, those above are of tokens.
+const LAST_NODE: u16 = SyntaxKind::TypeBody as u16;
+
+// What an entry of the slice of events says: a node closes, a node of this kind opens, or a token of this kind stands there.
 #[derive(Clone, Copy)]
 enum Event {
     Close,
@@ -17,9 +21,9 @@ enum Event {
 impl From<u16> for Event {
     fn from(entry: u16) -> Event {
         match entry {
-            0 => Event::Close,
-            1..=26 => Event::Open(entry),
-            60 => Event::Token(ERROR),
+            CLOSE => Event::Close,
+            ERROR..=LAST_NODE => Event::Open(entry),
+            ERROR_TOKEN => Event::Token(ERROR),
             _ => Event::Token(entry),
         }
     }

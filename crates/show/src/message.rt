@@ -1,9 +1,10 @@
 // The texts of the messages, by number (docs/MESSAGES.md).
+use grammar::message::Message;
 use std::io;
 use std::io::Write;
 
 // Message n is at n, and there is no message 0.
-static TEXTS: [&str; 54] = [
+static TEXTS: &[&str] = &[
     "",
     "expected `end` to close `begin` block",
     "expected `end` to close procedure",
@@ -60,14 +61,11 @@ static TEXTS: [&str; 54] = [
     "unexpected closing delimiter `}`",
 ];
 
-// Message 50 goes on with its token, between backticks.
-const UNRECOGNIZED: u16 = 50;
-
-// The text of message n, or nothing where there is no such message.
+// The text of message n, or nothing where there is no such message. For an unrecognized token it goes on with the token, in backticks.
 pub fn put_message(out: &mut impl Write, n: u16, token: &[u8]) -> io::Result<()> {
     let text = TEXTS.get(usize::from(n)).copied().unwrap_or("");
     out.write_all(text.as_bytes())?;
-    if n == UNRECOGNIZED {
+    if n == u16::from(Message::UnrecognizedToken) {
         out.write_all(b" `")?;
         out.write_all(token)?;
         out.write_all(b"`")?;
