@@ -1,8 +1,19 @@
--- Document 01's four numbers of an answer. Assumes nothing: these are definitions.
+-- Document 01's number of a status, and its four numbers of an answer. Assumes nothing: these are definitions.
 use Rattle.std.specs.Prelude.{ℕ}
 use Rattle.answer.specs.declared.Answer.{Answer}
 use Rattle.answer.specs.declared.Answer.TheVariants.{TooLong, NotUtf8, TokenRoom, Refused, OutputRoom, Accepted}
+use Rattle.answer.specs.declared.Status.{Status}
+use Rattle.answer.specs.declared.Status.TheVariants as status
 use Rattle.answer.specs.declared.FourNumbers.{FourNumbers}
+
+abbrev pub status_number : Status → ℕ
+status_number status.Accepted = 0
+status_number status.TooLong = 1
+status_number status.NotUtf8 = 2
+status_number status.TokenRoom = 3
+status_number status.Refused = 4
+status_number status.OutputRoom = 5
+status_number status.FewCounts = 6
 
 abbrev pub row : ℕ → ℕ → ℕ → ℕ → FourNumbers
 row status first second third = record { status = status; first = first; second = second; third = third }

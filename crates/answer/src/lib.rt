@@ -2,7 +2,7 @@
 #![tactic(auto)]
 
 ghost use Rattle.std.specs.Prelude.{◌≡◌};
-ghost use Rattle.answer.specs.Numbers.{row, numbers};
+ghost use Rattle.answer.specs.Numbers.{status_number, row, numbers};
 
 // The six lent slices: kinds and ends of tokens, events, and messages, starts and stops of diagnostics.
 #[derive(Drop)]
@@ -13,6 +13,26 @@ pub struct Slices<'a> {
     pub messages: &'a mut [u16],
     pub starts: &'a mut [u32],
     pub stops: &'a mut [u32],
+}
+
+// What the call returns, as document 01's table numbers its rows. FewCounts is the C call's alone: no reading answers with it.
+#[derive(Clone, Copy)]
+pub enum Status {
+    Accepted = 0,
+    TooLong = 1,
+    NotUtf8 = 2,
+    TokenRoom = 3,
+    Refused = 4,
+    OutputRoom = 5,
+    FewCounts = 6,
+}
+
+impl From<Status> for u64 {
+    ghost from_gives = { λ status n. n ≡ status_number status };
+
+    fn from(status: Status) -> u64 {
+        status as u64
+    }
 }
 
 // The rows of document 01's table with their values. No Result: where the room is short, the slices hold a part of the reading, and the
@@ -37,11 +57,11 @@ pub struct FourNumbers {
 }
 
 // Three counts behind a status.
-fn row(status: u64, first: usize, second: usize, third: usize) -> FourNumbers
-    ensures { result ≡ row status first second third }
+fn row(status: Status, first: usize, second: usize, third: usize) -> FourNumbers
+    ensures { result ≡ row (status_number status) first second third }
 {
     FourNumbers {
-        status,
+        status: status.into(),
         first: first as u64,
         second: second as u64,
         third: third as u64,
@@ -54,12 +74,12 @@ impl From<Answer> for FourNumbers {
 
     fn from(answer: Answer) -> FourNumbers {
         match answer {
-            Answer::TooLong => row(1, 0, 0, 0),
-            Answer::NotUtf8(n) => row(2, n, 0, 0),
-            Answer::TokenRoom(t) => row(3, t, 0, 0),
-            Answer::Refused(n) => row(4, n, 0, 0),
-            Answer::OutputRoom(t, e, d) => row(5, t, e, d),
-            Answer::Accepted(t, e, d) => row(0, t, e, d),
+            Answer::TooLong => row(Status::TooLong, 0, 0, 0),
+            Answer::NotUtf8(n) => row(Status::NotUtf8, n, 0, 0),
+            Answer::TokenRoom(t) => row(Status::TokenRoom, t, 0, 0),
+            Answer::Refused(n) => row(Status::Refused, n, 0, 0),
+            Answer::OutputRoom(t, e, d) => row(Status::OutputRoom, t, e, d),
+            Answer::Accepted(t, e, d) => row(Status::Accepted, t, e, d),
         }
     }
 }

@@ -8,7 +8,7 @@ ghost use Rattle.answer.specs.Answer.{entry_slices, exit_slices, outcome, with_t
 ghost use Rattle.answer.specs.Call.{MasmParseText};
 ghost use Rattle.answer.specs.Lent.{lists, SameSlices};
 
-use answer::{Answer, FourNumbers};
+use answer::{Answer, FourNumbers, Status};
 use lexer::MAX_SOURCE;
 
 mod rows;
@@ -46,8 +46,7 @@ pub fn parse_text(source: &[u8], slices: &mut Slices) -> Answer
     if MAX_SOURCE < source.len() {
         return Answer::TooLong;
     }
-    let found = utf8::validate(source);
-    match found {
+    match utf8::validate(source) {
         Err(e) => Answer::NotUtf8(e.valid_up_to),
         Ok(()) => parse_utf8(Text { bytes: source }, slices),
     }
@@ -69,7 +68,7 @@ pub fn masm_parse_text(
         result (exit_slices kinds ends events messages starts stops) counts.new }
 {
     if counts.len() < 3 {
-        return 6;
+        return Status::FewCounts.into();
     }
     let mut slices = Slices {
         kinds,

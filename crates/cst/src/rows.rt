@@ -34,19 +34,17 @@ fn parse_from_row_5(text: Text, t: usize, slices: Slices) -> Answer
         &mut messages[..room],
         &mut starts[..room],
     );
-    let e = end.events;
-    let d = end.diags;
     places::places(
         &ends[..t],
         anchor,
-        d,
+        end.diags,
         &mut starts[..room],
         &mut stops[..room],
     );
-    if events.len() < e || room < d {
-        return Answer::OutputRoom(t, e, d);
+    if events.len() < end.events || room < end.diags {
+        return Answer::OutputRoom(t, end.events, end.diags);
     }
-    Answer::Accepted(t, e, d)
+    Answer::Accepted(t, end.events, end.diags)
 }
 
 // Rows 3 and 4: tokens that have no room, a refused word; else the rest of the reading.

@@ -20,11 +20,11 @@ three (a ∷ b ∷ []) x y z h = absurd (omega arith)
 three (a ∷ b ∷ c ∷ l) x y z h = refl
 
 module _ (source : List ℕ) (s : Slices) (counts : List ℕ) where
-  too_short : length counts < 3 → MasmParseText source s counts 6 s counts
+  too_short : {status : ℕ} → length counts < 3 → status ≡ 6 → MasmParseText source s counts status s counts
   unfolding call
-  too_short h =
+  too_short h six =
       let e = lt-ltb (length counts) 3 h in
-      record { status_is = rw e; slices_are = rw e; counts_are = rw e }
+      record { status_is = six ∙ rw e refl; slices_are = rw e; counts_are = rw e }
 
   replies : (a : Answer) (s' : Slices) (n : FourNumbers) → 3 ≤ length counts → outcome a s' ≡ parse_text source s → n ≡ numbers a
       → MasmParseText source s counts n.status s' (set (set (set counts 0 n.first) 1 n.second) 2 n.third)
@@ -38,7 +38,7 @@ module _ (source : List ℕ) (s : Slices) (counts : List ℕ) where
       }
 
 pub returns-then-counts-lt3 : goal.returns-then-counts-lt3
-returns-then-counts-lt3 c = too_short _ _ _ (omega arith)
+returns-then-counts-lt3 c = too_short _ _ _ (omega arith) c.into.ensures
 
 pub returns : goal.returns
 returns c =

@@ -32,8 +32,8 @@ returns-then-source-gt-MAX_SOURCE-clause-answer c = too_long _ _ (omega arith)
 
 pub returns-in-Err-clause-answer : goal.returns-in-Err-clause-answer
 returns-in-Err-clause-answer c =
-    not_utf8 _ _ c.if-source-gt-MAX_SOURCE.false _ (sym c.validate-found.ensures ∙ c.in-Err.is)
+    not_utf8 _ _ c.if-source-gt-MAX_SOURCE.false _ (sym c.validate.ensures ∙ c.in-Err.is)
 
 pub returns-in-Ok-clause-answer : goal.returns-in-Ok-clause-answer
 returns-in-Ok-clause-answer c =
-    goes_on _ _ c.if-source-gt-MAX_SOURCE.false (sym c.validate-found.ensures ∙ c.in-Ok.is) c.parse_utf8.ensures.answer
+    goes_on _ _ c.if-source-gt-MAX_SOURCE.false (sym c.validate.ensures ∙ c.in-Ok.is) c.parse_utf8.ensures.answer

@@ -99,11 +99,11 @@ places-requires c =
       ap length (take_at c.parse-end.new.starts _ n starts-room) ∙ starts-room ∙ sym (length-take-le n a.slices.stops.now (omega arith)),
     )
 
-pub returns-then-events-e : goal.returns-then-events-e
-returns-then-events-e c =
+pub returns-then-events-end : goal.returns-then-events-end
+returns-then-events-end c =
     let pre = c.requires in
     whole c.args.text.bytes.now _ _ _ _ _ _ _ _ _ _ _ _ pre.0 pre.1 pre.3 c.last_char-anchor.ensures (omega arith) refl refl
-    c.parse-end.ensures c.places.ensures _ (elim c.then-events-e.either [
+    c.parse-end.ensures c.places.ensures _ (elim c.then-events-end.either [
       | inl h ↦ rw (lt-ltb _ _ h)
       | inr h ↦ rw (le-ltb _ _ h.0, lt-ltb _ _ h.1)
     ])
