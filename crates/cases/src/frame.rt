@@ -3,8 +3,8 @@ use crate::{lexing, reading};
 use cst::Slices;
 use frames::header::frame_number;
 use frames::input::read_input;
-use std::io;
 use std::io::{Read, Write};
+use std::{array, io};
 
 // What is printed of a source: the lexer's slices, the whole reading, or the text of `tree`.
 #[derive(Clone, Copy)]
@@ -54,15 +54,17 @@ fn read_whole(from: &mut impl Read, buf: &mut [u8]) -> Option<()> {
 fn read_header(from: &mut impl Read) -> Option<Header> {
     let mut head = [0u8; 32];
     read_whole(from, &mut head)?;
+    let numbers: [usize; 8] = array::from_fn(|i| frame_number(&head, 4 * i));
+    let [part, source, kinds, ends, events, messages, starts, stops] = numbers;
     Some(Header {
-        part: Part::try_from(frame_number(&head, 0)).ok()?,
-        source: frame_number(&head, 4),
-        kinds: frame_number(&head, 8),
-        ends: frame_number(&head, 12),
-        events: frame_number(&head, 16),
-        messages: frame_number(&head, 20),
-        starts: frame_number(&head, 24),
-        stops: frame_number(&head, 28),
+        part: Part::try_from(part).ok()?,
+        source,
+        kinds,
+        ends,
+        events,
+        messages,
+        starts,
+        stops,
     })
 }
 
