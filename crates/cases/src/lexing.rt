@@ -1,6 +1,6 @@
 // The lexer alone on one source: its slices filled, the call, and what is left in the slices.
 use crate::filling;
-use answer::{Answer, FourNumbers};
+use answer::{Answer, FourNumbers, Status};
 use cst::Slices;
 use frames::output::write_line;
 use lexer::MAX_SOURCE;
@@ -18,12 +18,12 @@ fn tokenize(source: &[u8], slices: &mut Slices<'_>) -> Result<usize, Answer> {
     }
 }
 
-// The three lines of an answer. The first has 0 and the number of tokens, or the refusal's status and offset.
+// The three lines of an answer. The first has the status, and the number of tokens or the refusal's offset.
 pub fn put_lexing(out: &mut impl Write, source: &[u8], slices: &mut Slices<'_>) -> io::Result<()> {
     slices.kinds.fill(filling::SHORT);
     slices.ends.fill(filling::LONG);
     match tokenize(source, slices) {
-        Ok(count) => write_line(out, &[0, count as u64])?,
+        Ok(count) => write_line(out, &[Status::Accepted.into(), count as u64])?,
         Err(refusal) => {
             let row = FourNumbers::from(refusal);
             write_line(out, &[row.status, row.first])?;

@@ -12,7 +12,7 @@ mod events;
 mod message;
 
 // The most bytes that are read.
-const LONGEST: usize = 2048;
+pub const LONGEST: usize = 2048;
 
 // `ok` T E D, or `no` and the four numbers.
 fn put_row(out: &mut impl Write, answer: Answer) -> io::Result<()> {

@@ -4,6 +4,7 @@
 use cst::Slices;
 use frames::input::read_input;
 use frames::output::Output;
+use show::LONGEST;
 use std::io;
 use std::io::{Read, Write};
 
@@ -13,7 +14,7 @@ fn put_input<P: Print>(
     from: &mut impl Read,
     slices: &mut Slices<'_>,
 ) -> io::Result<()> {
-    let mut source = [0u8; 2049];
+    let mut source = [0u8; LONGEST + 1];
     match read_input(from, &mut source) {
         Ok(got) => show::put_tree(out, &source[..got], slices),
         Err(_) => out.write_all(b"unread\n")?,
@@ -23,12 +24,12 @@ fn put_input<P: Print>(
 
 fn main(rt: HostRuntime) {
     let mut slices = Slices {
-        kinds: &mut [0u16; 2048],
-        ends: &mut [0u32; 2048],
-        events: &mut [0u16; 14338],
-        messages: &mut [0u16; 2048],
-        starts: &mut [0u32; 2048],
-        stops: &mut [0u32; 2048],
+        kinds: &mut [0u16; LONGEST],
+        ends: &mut [0u32; LONGEST],
+        events: &mut [0u16; 7 * LONGEST + 2],
+        messages: &mut [0u16; LONGEST],
+        starts: &mut [0u32; LONGEST],
+        stops: &mut [0u32; LONGEST],
     };
     let mut buf = [0u8; 4096];
     let mut out = Output::new(&rt, &mut buf);
