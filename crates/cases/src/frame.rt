@@ -2,7 +2,6 @@
 use crate::{lexing, reading};
 use cst::Slices;
 use frames::header::frame_number;
-use frames::input::read_input;
 use std::io::{Read, Write};
 use std::{array, io};
 
@@ -44,16 +43,10 @@ struct Header {
     stops: usize,
 }
 
-// Fills the buffer, or says that the input has too little.
-fn read_whole(from: &mut impl Read, buf: &mut [u8]) -> Option<()> {
-    let got = read_input(from, buf).ok()?;
-    if got == buf.len() { Some(()) } else { None }
-}
-
 // The next header, or `None` where the input ends or there is no such part.
 fn read_header(from: &mut impl Read) -> Option<Header> {
     let mut head = [0u8; 32];
-    read_whole(from, &mut head)?;
+    from.read_exact(&mut head).ok()?;
     let numbers: [usize; 8] = array::from_fn(|i| frame_number(&head, 4 * i));
     let [part, source, kinds, ends, events, messages, starts, stops] = numbers;
     Some(Header {
@@ -99,7 +92,7 @@ fn answer_frame(
         starts: slices.starts.get_mut(..header.starts)?,
         stops: slices.stops.get_mut(..header.stops)?,
     };
-    read_whole(from, source)?;
+    from.read_exact(source).ok()?;
     Some(put_part(out, header.part, source, &mut lent))
 }
 
