@@ -4,7 +4,8 @@
 ghost use Rattle.std.specs.Prelude.{◌≡◌};
 ghost use Rattle.answer.specs.Numbers.{status_number, row, numbers};
 
-// The six lent slices: kinds and ends of tokens, events, and messages, starts and stops of diagnostics.
+// The six lent slices: kinds and ends of tokens, events, and messages, starts and stops of diagnostics. Slices of numbers side by side, and
+// none of structs, since C lends them so.
 #[derive(Drop)]
 pub struct Slices<'a> {
     pub kinds: &'a mut [u16],

@@ -1,4 +1,4 @@
-// The unit's call for C: cst's, under a name that the archive exports.
+// The unit's call for C: cst's, under a name that the archive exports. A static library has it alone, since no crate can stand on one.
 #![tactic(auto)]
 
 ghost use Rattle.answer.specs.Answer.{entry_slices, exit_slices};
