@@ -1,6 +1,8 @@
 // Reads up to 2,048 bytes of standard input, and prints their reading, or that they can't be read.
 #![tactic(auto)]
 
+ghost use Rattle.std.specs.Prelude.{◌≡◌, []};
+
 use cst::Slices;
 use frames::input::read_input;
 use frames::output::Output;
@@ -8,12 +10,15 @@ use show::LONGEST;
 use std::io;
 use std::io::{Read, Write};
 
-// One byte more is read, for which the text is that there are too many.
+// One byte more is read, for which the text is that there are too many. It always answers `Ok`, as `Output` does, with nothing left in it.
 fn put_input<P: Print>(
     out: &mut Output<'_, '_, P>,
     from: &mut impl Read,
     slices: &mut Slices<'_>,
-) -> io::Result<()> {
+) -> io::Result<()>
+    ensures ok { result ≡ Ok tt }
+    ensures written { out.new.pending ≡ [] }
+{
     let mut source = [0u8; LONGEST + 1];
     match read_input(from, &mut source) {
         Ok(got) => show::put_tree(out, &source[..got], slices),
