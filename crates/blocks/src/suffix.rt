@@ -13,6 +13,7 @@ use parser::kinds::{in_set, is_name_like};
 use parser::sets::LITERALS;
 use parser::state::Parser;
 
+#[tactic(auto, using(parser::proofs::Bits::literals))]
 fn is_operand(k: u16) -> bool
     ensures { result ≡ (name_like k || one_of (Number ∷ QuotedString ∷ []) k) }
 {

@@ -20,6 +20,7 @@ use parser::sets::{EQUAL_OR_COLON, TYPE_WORDS};
 use parser::state::Parser;
 
 // What is remembered of the lookahead behind newlines; none where a type's body ends here.
+#[tactic(auto, unfolding(crate::specs::Parts::type_ends))]
 fn body_goes_on(parser: &Parser, at: Nested, known: Remembered) -> Option<Remembered>
     requires { BreakKnown parser.now.kinds.now at.c.pos known }
     ensures { MatchOption result (type_ends at.nesting (drop at.c.pos parser.now.kinds.now) ≡ true)

@@ -1,16 +1,17 @@
 -- What each set of kinds or words, as bits, is a set of: one computed test each. Assumes nothing.
-use mathlib.Core.Bool.{Bool, true, false, ◌||◌}
+use mathlib.Core.Bool.{Bool, true, false, ◌||◌, or-false}
 use mathlib.Core.List.{List, [], ◌∷◌}
-use mathlib.Core.Path.{◌≡◌, refl, sym, ap, ap₂, ◌∙◌}
+use mathlib.Core.Path.{◌≡◌, refl, sym, ap, ap₂, fun_ext, ◌∙◌}
 use Prim.Native.Nat.{◌<◌}
 use borrow.Author.Tests.{lt-ltb}
-use Rattle.lexer.specs.Syntax.{Whitespace, Newline, Comment, DocComment, Ident, SpecialIdent, QuotedIdent, At, Dot, Equal, Comma, DotDot, DotDotDot, Colon, ColonColon, RArrow, Plus, Minus, Star, Slash, SlashSlash, LBracket, LParen, LBrace, RBracket, RParen, RBrace}
+use Rattle.lexer.specs.Syntax.{Whitespace, Newline, Comment, DocComment, Ident, SpecialIdent, QuotedIdent, Number, QuotedString, At, Dot, Equal, Comma, DotDot, DotDotDot, Colon, ColonColon, RArrow, Plus, Minus, Star, Slash, SlashSlash, LBracket, LParen, LBrace, RBracket, RParen, RBrace}
 use Rattle.grammar.specs.Words.{Sym, MARK, is}
 use Rattle.grammar.specs.Look.{one_of, name_like, regular_trivia, is_trivia, non_comment_trivia, is_reserved_block_keyword}
 use Rattle.grammar.specs.Look.{expects_continuation_operand, punctuation_continues_instruction}
 use Rattle.parser.specs.Ahead.{starter}
 use Rattle.parser.specs.Sets.{bit, bits_are, word_bit, keys, word_bits_are, trivia_to, trivia_is}
 
+-- ---- the sets of trivia
 module _ (k : Sym) where
   pub regular : trivia_to 29 k ≡ regular_trivia k
   unfolding one_of trivia_to
@@ -24,6 +25,29 @@ module _ (k : Sym) where
   unfolding one_of trivia_to
   non_comment = trivia_is _ (Whitespace ∷ Newline ∷ []) k tt tt
 
+  space : trivia_to 27 k ≡ is Whitespace k
+  unfolding one_of trivia_to
+  space = trivia_is _ (Whitespace ∷ []) k tt tt ∙ or-false _
+
+pub ruleset trivia = (regular, any, non_comment)
+
+-- the same as functions
+pub all_regular : trivia_to 29 ≡ regular_trivia
+all_regular = fun_ext regular
+
+pub all_any : trivia_to 30 ≡ is_trivia
+all_any = fun_ext any
+
+pub all_non_comment : trivia_to 28 ≡ non_comment_trivia
+all_non_comment = fun_ext non_comment
+
+pub all_space : trivia_to 27 ≡ is Whitespace
+all_space = fun_ext space
+
+pub ruleset all_trivia = (all_regular, all_any, all_non_comment, all_space)
+
+-- ---- the other sets
+module _ (k : Sym) where
   pub operands : bit 0xe17dfc000000000 k ≡ expects_continuation_operand k
   unfolding one_of
   operands = bits_are _ (Dot ∷ Equal ∷ Comma ∷ DotDot ∷ DotDotDot ∷ Colon ∷ ColonColon ∷ RArrow ∷ Plus ∷ Minus ∷ Star ∷ Slash ∷ SlashSlash ∷ LBracket ∷ LParen ∷ LBrace ∷ []) k tt tt
@@ -31,6 +55,10 @@ module _ (k : Sym) where
   pub punctuation : bit 0xef61fc000000000 k ≡ punctuation_continues_instruction k
   unfolding one_of
   punctuation = bits_are _ (Dot ∷ Equal ∷ Comma ∷ DotDot ∷ DotDotDot ∷ Colon ∷ ColonColon ∷ RArrow ∷ Plus ∷ Minus ∷ Star ∷ Slash ∷ SlashSlash ∷ RBracket ∷ RParen ∷ RBrace ∷ []) k tt tt
+
+  pub literals : bit 0xa00000000 k ≡ one_of (Number ∷ QuotedString ∷ []) k
+  unfolding one_of
+  literals = bits_are _ (Number ∷ QuotedString ∷ []) k tt tt
 
   pub names : k < MARK → bit 0x580000000 k ≡ name_like k
   unfolding one_of name_like
@@ -65,5 +93,3 @@ module _ (k : Sym) where
   starts_by_word e = starter_is ∙ ap (λ u. u || word_bit 0x968e k) e
 
 pub ruleset starters = (starts_by_kind, starts_by_word)
-
-pub ruleset trivia = (regular, any, non_comment)

@@ -30,18 +30,21 @@ impl Parser<'_> {
         c
     }
 
+    #[tactic(auto, using(crate::proofs::Bits::all_trivia))]
     pub fn bump_regular_trivia(&mut self, c0: Cursor) -> Cursor
         ensures { Ran (bump_while regular_trivia) (entry self c0) (exit self result) }
     {
         self.bump_while(c0, REGULAR_TRIVIA)
     }
 
+    #[tactic(auto, using(crate::proofs::Bits::all_trivia))]
     pub fn bump_non_comment_trivia(&mut self, c0: Cursor) -> Cursor
         ensures { Ran (bump_while non_comment_trivia) (entry self c0) (exit self result) }
     {
         self.bump_while(c0, NON_COMMENT_TRIVIA)
     }
 
+    #[tactic(auto, using(crate::proofs::Bits::all_trivia))]
     pub fn bump_inline_whitespace(&mut self, c0: Cursor) -> Cursor
         ensures { Ran (bump_while (is Whitespace)) (entry self c0) (exit self result) }
     {

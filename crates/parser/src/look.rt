@@ -83,24 +83,28 @@ impl Parser<'_> {
         i
     }
 
+    #[tactic(auto, using(crate::proofs::Bits::all_trivia))]
     pub fn next_relevant_top_level_token(&self, p: usize) -> usize
         ensures { Found self.now.kinds.now p result (skip_of regular_trivia (drop p self.now.kinds.now)) }
     {
         self.skip(REGULAR_TRIVIA, p)
     }
 
+    #[tactic(auto, using(crate::proofs::Bits::all_trivia))]
     pub fn next_relevant_block_token(&self, p: usize) -> usize
         ensures { Found self.now.kinds.now p result (skip_of is_trivia (drop p self.now.kinds.now)) }
     {
         self.skip(TRIVIA, p)
     }
 
+    #[tactic(auto, using(crate::proofs::Bits::all_trivia))]
     pub fn peek_after_inline_whitespace(&self, p: usize) -> usize
         ensures { Found self.now.kinds.now p result (skip_of (is Whitespace) (drop p self.now.kinds.now)) }
     {
         self.skip(SPACE, p)
     }
 
+    #[tactic(auto, using(crate::proofs::Bits::all_trivia))]
     pub fn peek_after_non_comment_trivia(&self, p: usize) -> usize
         ensures { Found self.now.kinds.now p result (skip_of non_comment_trivia (drop p self.now.kinds.now)) }
     {
