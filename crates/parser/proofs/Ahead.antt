@@ -16,10 +16,6 @@ use Rattle.parser.specs.declared.look.Remembered.{Remembered}
 use Rattle.parser.specs.Ahead.{Found, declared, Remembers}
 use Rattle.parser.proofs.Laws.{rest_cons, rest_nil, at_within, at_current, skip_on, skip_off, skip_end, tokens_left}
 
--- what is found from p on by tests that agree
-pub found_same : {F : File} {p r : ℕ} {s t : Sym → Bool} → ((k : Sym) → s k ≡ t k) → Found F p r (skip s (drop p F)) → Found F p r (skip t (drop p F))
-found_same {F} {p} e f = record { is = f.is ∙ ap (λ (t : Sym → Bool). skip t (drop p F)) (fun_ext e); ahead = f.ahead }
-
 -- ---- the list behind the token that stands at c, where l is what is left there
 past_none : (t : Sym → Bool) (r : List Sym) → at t r ≡ false → past t r ≡ []
 unfolding past at

@@ -185,10 +185,6 @@ answers h e = record { ran = h.ran; val = h.val ∙ e }
 pub says : {w w' : World} (m m' : ℕ) → m ≡ m' → Ran (Run.err m) w w' → Ran (Run.err m') w w'
 says {w} {w'} m m' e h = subst (λ n. Ran (Run.err n) w w') e h
 
--- the same set of tokens in other words
-pub of_set : {w w' : World} {t t' : Sym → Bool} → ((k : Sym) → t k ≡ t' k) → Ran (bump_while t) w w' → Ran (bump_while t') w w'
-of_set {w} {w'} e h = subst (λ (t : Sym → Bool). Ran (bump_while t) w w') (fun_ext e) h
-
 -- ---- loops. The loop that began as f₀ at w₀ has come to f at w: what goes on from there goes on from the start
 pub record Leads {A : Type 0} (f₀ : P A) (w₀ : World) (f : P A) (w : World) : Type 0 where
   pub on : (w' : World) (r : A) → RanTo f w w' r → RanTo f₀ w₀ w' r
