@@ -31,6 +31,7 @@ fn expects_operand(previous: Option<u16>) -> bool
     previous.is_some_and(expects_continuation_operand)
 }
 
+// The tests take the position and the counts one by one, as the definitions do: no proof of theirs is longer for it.
 #[tactic(auto, using(crate::proofs::At::continues), unfolding(grammar::specs::Instruction::should_continue_instruction_after_whitespace))]
 pub fn should_continue_instruction_after_whitespace(
     parser: &Parser,

@@ -93,10 +93,7 @@ fn group_rest(
 {
     let mut c = c0;
     let mut depth: usize = 1;
-    while !parser.eof(c.pos) {
-        if 0 == depth {
-            return c;
-        }
+    while 0 != depth && !parser.eof(c.pos) {
         depth = group_depth(opener, closer, depth, parser.current(c.pos));
         c = parser.bump(c);
     }

@@ -115,7 +115,7 @@ impl Parser<'_> {
         self.finish_node(d)
     }
 
-    // if at_kind(kind) { bump }
+    // if at_kind(kind) { bump }. The other such tests have their step between the braces too: a call with a closure is no shorter.
     pub fn bump_at(&mut self, c0: Cursor, kind: SyntaxKind) -> Cursor
         ensures { Ran (when at (is (kind_number kind)) then take_token else nop) (entry self c0) (exit self result) }
     {

@@ -32,7 +32,8 @@ impl Parser<'_> {
         }
     }
 
-    // bump_nesting, and bump: a loop's step at its token. Inlined: by a call, a token of a group takes up to a third more instructions.
+    // bump_nesting, and bump: the step of four loops, which differ in what they ask of a token and what they keep of it.
+    // Inlined: by a call, a token of a group takes up to a third more instructions.
     #[inline(always)]
     pub fn bump_nested(&mut self, at: Nested) -> Nested
         requires token { eof (drop at.c.pos self.old.kinds.now) ≡ false }

@@ -15,9 +15,10 @@ use Rattle.grammar.specs.Run.{go, stop, scan}
 use Rattle.grammar.specs.Words.{Sym, is}
 use Rattle.grammar.specs.declared.message.Message.{Message}
 use Rattle.parser.specs.Rep.{World, Ran, RanTo}
-use Rattle.parser.proofs.Kit.{on, off, done, bind, begins, goes_on, scan_stop, scan_end, scan_go}
+use Rattle.parser.proofs.Kit.{on, off, done, bind, loop_takes, loop_stops, loop_ends}
 use Rattle.parser.proofs.Laws.{eof_within, at_token}
 use Rattle.forms.proofs.path.group_rest.Goals as goal
+use Rattle.forms.proofs.path.group_rest.Goals.{then-loop-depth-test+else-not-eof, else-loop-depth-test}
 
 module _ (opener closer : Sym) (depth : ℕ) (r : List Sym) where
   round_ends : 0 ≡ depth → group_round opener closer depth r ≡ stop
@@ -47,41 +48,33 @@ module _ (opener closer : Sym) (missing : Message) {w₀ w : World} {depth : ℕ
   unfolding group_rest
   lacks n s = bind _ h (off _ (ne_eqb 0 depth n) s)
 
-pub loop-opener-init : goal.loop-opener-init
-loop-opener-init c = (begins, omega arith)
+pub group_depth-depth-requires : goal.group_depth-depth-requires
+group_depth-depth-requires c =
+    let h = eof_within c.loop-depth.parser.kinds.now c.loop-depth.c.pos c.eof.ensures c.if-not-eof.true in
+    omega (arith, c.loop-depth-test.true, c.loop-depth.invariant.1, h)
+
+pub loop-depth-smaller : goal.loop-depth-smaller
+loop-depth-smaller c =
+    let h = eof_within c.loop-depth.parser.kinds.now c.loop-depth.c.pos c.eof.ensures c.if-not-eof.true in
+    omega (arith, h, c.bump-c.ensures.moved h)
+
+pub loop-depth-preserved : goal.loop-depth-preserved
+loop-depth-preserved c =
+    let opener = kind_number c.args.opener in
+    let closer = kind_number c.args.closer in
+    let z = sym c.eof.ensures ∙ c.if-not-eof.true in
+    let m = c.bump-c.ensures.moved (eof_within c.loop-depth.parser.kinds.now _ c.eof.ensures c.if-not-eof.true) in
+    let e = round_goes opener closer _ _ _ _ z c.loop-depth-test.true c.current.ensures c.group_depth-depth.ensures in
+    let u = step_up opener closer c.loop-depth.depth c.current.result in
+    (loop_takes (group_round opener closer) c.loop-depth.invariant.0 z e c.bump-c.ensures.ran, omega (arith, m, u, c.group_depth-depth.ensures, c.loop-depth.invariant.1))
 
 pub returns-then-depth-eq0 : goal.returns-then-depth-eq0
 returns-then-depth-eq0 c =
-    closes (kind_number c.args.opener) (kind_number c.args.closer) c.args.missing (c.loop-opener.invariant.0.on _ _ (scan_stop _ _ (round_ends _ _ _ _ c.if-depth-eq0.true))) c.if-depth-eq0.true
-
-pub group_depth-depth-requires : goal.group_depth-depth-requires
-group_depth-depth-requires c =
-    let h = eof_within c.loop-opener.parser.kinds.now c.loop-opener.c.pos c.eof.ensures c.loop-opener-test.true in
-    omega (arith, c.if-depth-eq0.false, c.loop-opener.invariant.1, h)
-
-pub loop-opener-smaller : goal.loop-opener-smaller
-loop-opener-smaller c =
-    let h = eof_within c.loop-opener.parser.kinds.now c.loop-opener.c.pos c.eof.ensures c.loop-opener-test.true in
-    omega (arith, h, c.bump-c.ensures.moved h)
-
-pub loop-opener-preserved : goal.loop-opener-preserved
-loop-opener-preserved c =
-    let i = c.loop-opener.invariant.0 in
-    let m = c.bump-c.ensures.moved (eof_within c.loop-opener.parser.kinds.now _ c.eof.ensures c.loop-opener-test.true) in
-    let z = sym c.eof.ensures ∙ c.loop-opener-test.true in
-    let e = round_goes (kind_number c.args.opener) (kind_number c.args.closer) _ _ _ _ z c.if-depth-eq0.false c.current.ensures c.group_depth-depth.ensures in
-    let u = step_up (kind_number c.args.opener) (kind_number c.args.closer) c.loop-opener.depth c.current.result in (
-      goes_on i (λ w' r k.
-          scan_go (group_round (kind_number c.args.opener) (kind_number c.args.closer)) _ _ z e c.bump-c.ensures.ran k),
-      omega (arith, m, u, c.group_depth-depth.ensures, c.loop-opener.invariant.1),
-    )
-
-pub returns-then-depth-eq0-2 : goal.returns-then-depth-eq0-2
-returns-then-depth-eq0-2 c =
-    let z = sym c.eof.ensures ∙ c.loop-opener-test.false in
-    closes (kind_number c.args.opener) (kind_number c.args.closer) c.args.missing (c.loop-opener.invariant.0.on _ _ (scan_end _ _ z)) c.if-depth-eq0-2.true
+    closes (kind_number c.args.opener) (kind_number c.args.closer) c.args.missing (loop_stops _ c.loop-depth.invariant.0 (round_ends _ _ _ _ c.if-depth-eq0.true)) c.if-depth-eq0.true
 
 pub returns : goal.returns
-returns c =
-    let z = sym c.eof.ensures ∙ c.loop-opener-test.false in
-    lacks (kind_number c.args.opener) (kind_number c.args.closer) c.args.missing (c.loop-opener.invariant.0.on _ _ (scan_end _ _ z)) c.if-depth-eq0-2.false c.error_here.ensures.ran
+returns c = elim c.loop-depth-test.branch [
+  | then-loop-depth-test+else-not-eof w ↦
+      lacks (kind_number c.args.opener) (kind_number c.args.closer) c.args.missing (loop_ends _ c.loop-depth.invariant.0 w.eof.ensures w.if-not-eof.false) c.if-depth-eq0.false c.error_here.ensures.ran
+  | else-loop-depth-test w ↦ absurd (c.if-depth-eq0.false w.loop-depth-test.false)
+]

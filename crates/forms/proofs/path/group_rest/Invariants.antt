@@ -8,10 +8,10 @@ use Rattle.parser.specs.Rep.{world}
 use Rattle.parser.proofs.Kit.{Leads}
 use Rattle.forms.proofs.path.group_rest.Given as goal
 
-abbrev pub invariant-loop-opener : goal.invariant-loop-opener
-invariant-loop-opener l =
+abbrev pub invariant-loop-depth : goal.invariant-loop-depth
+invariant-loop-depth l =
     Leads (scan (group_round (kind_number l.opener) (kind_number l.closer)) 1) (world l.initial.parser l.initial.c) (scan (group_round (kind_number l.opener) (kind_number l.closer)) l.depth) (world l.parser l.c)
     × (l.depth ≤ l.c.pos + 1)
 
-abbrev pub decreases-loop-opener : goal.decreases-loop-opener
-decreases-loop-opener l = length l.parser.kinds.now - l.c.pos
+abbrev pub decreases-loop-depth : goal.decreases-loop-depth
+decreases-loop-depth l = length l.parser.kinds.now - l.c.pos
