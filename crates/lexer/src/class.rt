@@ -93,8 +93,5 @@ pub fn class_of(b: u8) -> Class
 pub fn is_word(b: u8) -> bool
     ensures { result ≡ word b }
 {
-    match class_of(b) {
-        Letter | Digit => true,
-        _ => false,
-    }
+    matches!(class_of(b), Letter | Digit)
 }
