@@ -96,13 +96,13 @@ abbrev pub kept : Bool → ℕ → Bool
 kept i b = i && (graphic b && not (eqb b 92))
 
 -- a quote that ended so has this kind
-abbrev pub quote_kind : Ending → Bool → ℕ
-quote_kind Closed i = cond i QuotedIdent QuotedString
-quote_kind Line i = Error
-quote_kind File i = Error
+abbrev pub quote_kind : Ending → ℕ
+quote_kind (Closed i) = cond i QuotedIdent QuotedString
+quote_kind Line = Error
+quote_kind File = Error
 
 pub record Quote (q : Quoted) (t : Placed) : Type 0 where
-  pub kind_is : quote_kind q.ending q.identifier_like ≡ t.kind
+  pub kind_is : quote_kind q.ending ≡ t.kind
   pub end_is : q.at ≡ t.end
 
 abbrev pub other_than : ℕ → ℕ → Bool

@@ -10,7 +10,7 @@ use crate::syntax::SyntaxKind;
 
 #[derive(Clone, Copy)]
 pub enum Ending {
-    Closed,
+    Closed { identifier_like: bool },
     Line,
     File,
 }
@@ -19,7 +19,6 @@ pub enum Ending {
 pub struct Quoted {
     pub ending: Ending,
     pub at: usize,
-    pub identifier_like: bool,
 }
 
 // Whether a quote that was identifier-like stays so with this byte.
@@ -70,17 +69,13 @@ fn quote(source: &[u8], from: usize) -> Quoted
         }
         if b == b'"' {
             at += 1;
-            break Ending::Closed;
+            break Ending::Closed { identifier_like };
         }
         taken = b == b'\\';
         identifier_like = keeps(identifier_like, b);
         at += 1;
     };
-    Quoted {
-        ending,
-        at,
-        identifier_like,
-    }
+    Quoted { ending, at }
 }
 
 pub fn lex_quoted(source: &[u8], from: usize) -> Token
@@ -89,8 +84,12 @@ pub fn lex_quoted(source: &[u8], from: usize) -> Token
 {
     let q = quote(source, from);
     let kind = match q.ending {
-        Ending::Closed if q.identifier_like => SyntaxKind::QuotedIdent,
-        Ending::Closed => SyntaxKind::QuotedString,
+        Ending::Closed {
+            identifier_like: true,
+        } => SyntaxKind::QuotedIdent,
+        Ending::Closed {
+            identifier_like: false,
+        } => SyntaxKind::QuotedString,
         Ending::Line | Ending::File => SyntaxKind::Error,
     };
     Token { kind, end: q.at }
