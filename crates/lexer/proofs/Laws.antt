@@ -66,12 +66,6 @@ module _ {p : ℕ → Bool} {s : List ℕ} {a at : ℕ} (g : Reaches p s a at) (
   pub reaches_three : p (get_or s at 0) ≡ true → p (get_or s (at + 1) 0) ≡ true → p (get_or s (at + 2) 0) ≡ true → Reaches p s a (at + 3)
   reaches_three e f i = reaches_next (reaches_two e f) h (omega arith) i
 
--- current_char, at the end
-module _ (x : ℕ) (s : List ℕ) (at : ℕ) where
-  pub starts_none : length s ≤ at → starts_with x (drop at s) ≡ false
-  unfolding starts_with
-  starts_none h = rw (drop_of_length-le s h)
-
 -- what `get` gives of the source: the byte there, or nothing behind the end
 module _ (s : List ℕ) (at : ℕ) where
   pub got_some : (r : Option (Bor ℕ)) (v : Bor ℕ) → is_some r ≡ ltb at (length s) → unwrap_or (option_map (λ w. w.now) r) 0 ≡ get_or s at 0
@@ -104,13 +98,6 @@ module _ (x : ℕ) (f g : LexRule) where
   placed_yes s at e =
       ap (λ (n : ℕ). record { kind = (f (drop (at + 1) s)).kind; end = n }) (omega arith)
       ∙ ap (placed at) (sym (follow_yes s at e))
-
-pub starts_within : (x : ℕ) (s : List ℕ) (at : ℕ) → starts_with x (drop at s) ≡ true → at + 1 ≤ length s
-starts_within x s at e = go (ltb at (length s)) refl
-  where
-    go : (t : Bool) → ltb at (length s) ≡ t → at + 1 ≤ length s
-    go true h = omega (arith, ltb-true at (length s) h)
-    go false h = absurd (false≢true (sym (starts_none x s at (ltb-false at (length s) h)) ∙ e))
 
 -- a token of one byte in its place
 pub one_here : (k n : ℕ) → ◌≡◌ {A = Placed} (record { kind = k; end = n }) (placed n (record { kind = k; more = 0 }))

@@ -1,5 +1,6 @@
 -- What the functions' proofs share.
 pub mod Laws
+pub mod Steps
 pub mod Quotes
 pub mod Rest
 pub mod Going

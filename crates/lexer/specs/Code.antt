@@ -2,15 +2,15 @@
 -- Assumes nothing: these are definitions.
 use Rattle.std.specs.Prelude.{◌≡◌, Bool, true, false, not, ◌&&◌, ◌||◌, cond, List, [], ◌∷◌, ℕ, ◌+◌, ◌<◌, ◌≤◌, eqb, get_or, drop, length, Option, MatchOption}
 use Rattle.lexer.specs.declared.lexer.Token.{Token}
-use Rattle.lexer.specs.declared.lexer.Lexer.{Lexer}
-use Rattle.lexer.specs.declared.quoted.Quoted.{Quoted}
+use Rattle.lexer.specs.declared.state.Lexer.{Lexer}
 use Rattle.lexer.specs.declared.quoted.Ending.{Ending}
 use Rattle.lexer.specs.declared.quoted.Ending.TheVariants.{Closed, Line, File}
+use Rattle.lexer.specs.declared.syntax.SyntaxKind.{SyntaxKind}
 use Rattle.lexer.specs.declared.class.Class.{Class}
 use Rattle.lexer.specs.declared.class.Class.TheVariants as class
 use Rattle.lexer.specs.Syntax.{kind_number, Error, Whitespace, Comment, SpecialIdent, QuotedIdent, QuotedString, Colon, Dot, Minus, Slash}
 use Rattle.lexer.specs.Chars.{graphic, Cr, Letter, Digit}
-use Rattle.lexer.specs.Lexer.{Lexeme, next}
+use Rattle.lexer.specs.Lexer.{Lexeme, LexRule, quoted, next}
 
 -- the number of a class
 abbrev pub class_number : Class → ℕ
@@ -72,6 +72,16 @@ token_of t = record { kind = kind_number t.kind; end = t.end }
 abbrev pub placed : ℕ → Lexeme → Placed
 placed n t = record { kind = t.kind; end = n + t.more }
 
+-- The rest of a token, from the offset on, as the rule has it: its kind, and the offset behind it.
+pub record Lexed (f : LexRule) (s : Lexer) (k : SyntaxKind) (t : Lexer) : Type 0 where
+  pub source_is : t.source.now ≡ s.source.now
+  pub token_is : ◌≡◌ {A = Placed} (record { kind = kind_number k; end = t.offset }) (placed s.offset (f (drop s.offset s.source.now)))
+
+-- So many bytes further as n counts of those that are left.
+pub record Advanced (n : List ℕ → ℕ) (s t : Lexer) : Type 0 where
+  pub source_is : t.source.now ≡ s.source.now
+  pub offset_is : t.offset ≡ s.offset + n (drop s.offset s.source.now)
+
 -- A call of the iterator: the token at the offset, and the offset behind it; none at the end.
 abbrev pub NextToken : Lexer → Option Token → Lexer → Type 0
 NextToken s r t =
@@ -91,6 +101,12 @@ unfoldable pub starts_with : ℕ → List ℕ → Bool
 starts_with x [] = false
 starts_with x (b ∷ r) = eqb b x
 
+-- if self.current_char() == Some(x) { self.advance_char(); }: whether it was, and a byte further if so.
+pub record AdvanceIf (x : ℕ) (s : Lexer) (r : Bool) (t : Lexer) : Type 0 where
+  pub found_is : r ≡ starts_with x (drop s.offset s.source.now)
+  pub source_is : t.source.now ≡ s.source.now
+  pub offset_is : t.offset ≡ s.offset + cond r 1 0
+
 -- identifier_like, one byte on
 abbrev pub kept : Bool → ℕ → Bool
 kept i b = i && (graphic b && not (eqb b 92))
@@ -101,9 +117,13 @@ quote_kind (Closed i) = cond i QuotedIdent QuotedString
 quote_kind Line = Error
 quote_kind File = Error
 
-pub record Quote (q : Quoted) (t : Placed) : Type 0 where
-  pub kind_is : quote_kind q.ending ≡ t.kind
-  pub end_is : q.at ≡ t.end
+-- what the rest of a quote comes to, from the offset on
+abbrev pub quote_rest : Lexer → (taken identifier_like : Bool) → Placed
+quote_rest s t i = placed s.offset (quoted t i (drop s.offset s.source.now))
+
+-- A quote whose body starts at the offset ended so, and the offset is behind it. The source stays.
+abbrev pub Quote : Lexer → Ending → Lexer → Type 0
+Quote s e t = (t.source.now ≡ s.source.now) × (◌≡◌ {A = Placed} (record { kind = quote_kind e; end = t.offset }) (quote_rest s false true))
 
 abbrev pub other_than : ℕ → ℕ → Bool
 other_than x b = not (eqb b x)

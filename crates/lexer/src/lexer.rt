@@ -1,16 +1,16 @@
-// lexer.rs: one function for each shape of token, `next`, and `tokenize`.
-ghost use Rattle.std.specs.Prelude.{◌≡◌, ◌||◌, ◌+◌, ◌-◌, ◌≤◌, ◌<◌, Bool, ℕ, length, get_or, drop, set};
+// lexer.rs: a method for each shape of token, the iterator, and `tokenize`.
+ghost use Rattle.std.specs.Prelude.{◌≡◌, ◌||◌, ◌-◌, ◌≤◌, Bool, ℕ, length, set};
 ghost use Rattle.std.specs.Iterator.{at_most};
 ghost use Rattle.lexer.specs.Syntax.{kind_number};
 ghost use Rattle.lexer.specs.Lexer.{lex_one, follow, lex_while, comment as comment_of, lex_number, zero_led};
 ghost use Rattle.lexer.specs.Lexer.{same as same_of, kernel, exec, special as special_of, stray as stray_of, dots, next as next_of};
-ghost use Rattle.lexer.specs.Code.{placed, token_of, NextToken, AnswersAs};
+ghost use Rattle.lexer.specs.Code.{Lexed, NextToken, AnswersAs};
 ghost use Rattle.lexer.specs.Tokens.{MAX_SOURCE, token_kind, TokensOver, Tokenize};
 
 use crate::chars::{is_binary, is_blank, is_decimal, is_hex};
 use crate::class::{Class, class_of, is_word};
-use crate::quoted::lex_quoted;
-use crate::runs::{advance_while, current_is, line_rest, same};
+use crate::runs::same;
+use crate::state::Lexer;
 use crate::syntax::SyntaxKind;
 use crate::syntax::SyntaxKind::{
     Colon, ColonColon, Comment, DocComment, Dot, DotDot, DotDotDot, Error, Ident, Minus, Newline,
@@ -26,56 +26,6 @@ pub struct Token {
     pub end: usize,
 }
 
-// A token that is its first byte and a run from `from` on.
-fn lex_while<F: Fn(u8) -> bool>(kind: SyntaxKind, goes_on: F, source: &[u8], from: usize) -> Token
-    requires { (F.IsAlwaysCallable goes_on) × (from ≤ length source.now) }
-    ensures { (p : ℕ → Bool) → AnswersAs p (F.post goes_on)
-        → token_of result ≡ placed from (lex_while (kind_number kind) p (drop from source.now)) }
-{
-    Token {
-        kind,
-        end: advance_while(goes_on, source, from),
-    }
-}
-
-// A token of one byte, or of two where x follows.
-fn pair(x: u8, longer: SyntaxKind, shorter: SyntaxKind, source: &[u8], from: usize) -> Token
-    requires { from ≤ length source.now }
-    ensures { token_of result
-        ≡ placed from (follow x (lex_one (kind_number longer)) (lex_one (kind_number shorter)) (drop from source.now)) }
-{
-    if current_is(source, from, x) {
-        Token {
-            kind: longer,
-            end: from + 1,
-        }
-    } else {
-        Token {
-            kind: shorter,
-            end: from,
-        }
-    }
-}
-
-// lex_trivia, at `#`. Not inlined, so that `next` saves no register.
-#[inline(never)]
-fn comment(source: &[u8], from: usize) -> Token
-    requires { from ≤ length source.now }
-    ensures { token_of result ≡ placed from (comment_of (drop from source.now)) }
-{
-    if current_is(source, from, b'!') {
-        Token {
-            kind: DocComment,
-            end: line_rest(source, from + 1),
-        }
-    } else {
-        Token {
-            kind: Comment,
-            end: line_rest(source, from),
-        }
-    }
-}
-
 // Behind `$` only these two.
 fn is_special(text: &[u8]) -> bool
     ensures { result ≡ (same_of text.now kernel || same_of text.now exec) }
@@ -83,111 +33,116 @@ fn is_special(text: &[u8]) -> bool
     same(text, b"kernel") || same(text, b"exec")
 }
 
-// lex_identifier, at `$`
-fn special(source: &[u8], from: usize) -> Token
-    requires { from ≤ length source.now }
-    ensures { token_of result ≡ placed from (special_of (drop from source.now)) }
-{
-    let end = advance_while(is_word, source, from);
-    let kind = if is_special(&source[from..end]) {
-        SpecialIdent
-    } else {
+// Each goes over what is left of a token, from the offset on, and gives its kind.
+impl Lexer<'_> {
+    // A run, of a token of this kind.
+    fn lex_while<F: Fn(u8) -> bool>(&mut self, kind: SyntaxKind, goes_on: F) -> SyntaxKind
+        requires { F.IsAlwaysCallable goes_on }
+        ensures { (p : ℕ → Bool) → AnswersAs p (F.post goes_on) → Lexed (lex_while (kind_number kind) p) self.old result self.new }
+    {
+        self.advance_while(goes_on);
+        kind
+    }
+
+    // One byte more where it is x.
+    fn pair(&mut self, x: u8, longer: SyntaxKind, shorter: SyntaxKind) -> SyntaxKind
+        ensures { Lexed (follow x (lex_one (kind_number longer)) (lex_one (kind_number shorter))) self.old result self.new }
+    {
+        if self.advance_if(x) { longer } else { shorter }
+    }
+
+    // lex_trivia, at `#`
+    fn comment(&mut self) -> SyntaxKind
+        ensures { Lexed comment_of self.old result self.new }
+    {
+        let doc = self.advance_if(b'!');
+        self.line_rest();
+        if doc { DocComment } else { Comment }
+    }
+
+    // lex_identifier, at `$`
+    fn special(&mut self) -> SyntaxKind
+        ensures { Lexed special_of self.old result self.new }
+    {
+        let start = self.offset;
+        self.advance_while(is_word);
+        if is_special(&self.source[start..self.offset]) {
+            SpecialIdent
+        } else {
+            Error
+        }
+    }
+
+    // lex_number behind a first `0`
+    fn zero_led(&mut self) -> SyntaxKind
+        ensures { Lexed zero_led self.old result self.new }
+    {
+        match self.source.get(self.offset) {
+            Some(b'x' | b'X') => {
+                self.offset += 1;
+                self.lex_while(Number, is_hex)
+            }
+            Some(b'b' | b'B') => {
+                self.offset += 1;
+                self.lex_while(Number, is_binary)
+            }
+            _ => self.lex_while(Number, is_decimal),
+        }
+    }
+
+    fn lex_number(&mut self, b: u8) -> SyntaxKind
+        ensures { Lexed (lex_number b) self.old result self.new }
+    {
+        if b == b'0' {
+            self.zero_led()
+        } else {
+            self.lex_while(Number, is_decimal)
+        }
+    }
+
+    // `.`, `..` and `...`
+    fn dot(&mut self) -> SyntaxKind
+        ensures { Lexed dots self.old result self.new }
+    {
+        if self.advance_if(b'.') {
+            self.pair(b'.', DotDotDot, DotDot)
+        } else {
+            Dot
+        }
+    }
+
+    // A character that starts nothing: all its bytes, as far as the source goes.
+    fn stray(&mut self, b: u8) -> SyntaxKind
+        ensures { Lexed (stray_of b) self.old result self.new }
+    {
+        let more = utf8::width(b) - 1;
+        self.offset += more.min(self.source.len() - self.offset);
         Error
-    };
-    Token { kind, end }
-}
-
-// lex_number behind a first `0`
-fn zero_led(source: &[u8], from: usize) -> Token
-    requires { from ≤ length source.now }
-    ensures { token_of result ≡ placed from (zero_led (drop from source.now)) }
-{
-    let kind = Number;
-    match source.get(from) {
-        Some(b'x' | b'X') => lex_while(kind, is_hex, source, from + 1),
-        Some(b'b' | b'B') => lex_while(kind, is_binary, source, from + 1),
-        _ => lex_while(kind, is_decimal, source, from),
     }
-}
 
-fn lex_number(b: u8, source: &[u8], from: usize) -> Token
-    requires { from ≤ length source.now }
-    ensures { token_of result ≡ placed from (lex_number b (drop from source.now)) }
-{
-    if b == b'0' {
-        zero_led(source, from)
-    } else {
-        lex_while(Number, is_decimal, source, from)
-    }
-}
-
-// `.`, `..` and `...`
-fn dot(source: &[u8], from: usize) -> Token
-    requires { from ≤ length source.now }
-    ensures { token_of result ≡ placed from (dots (drop from source.now)) }
-{
-    if current_is(source, from, b'.') {
-        pair(b'.', DotDotDot, DotDot, source, from + 1)
-    } else {
-        Token {
-            kind: Dot,
-            end: from,
+    // What stands behind a token's first byte.
+    fn behind(&mut self, b: u8) -> SyntaxKind
+        ensures { Lexed (next_of b) self.old result self.new }
+    {
+        match class_of(b) {
+            Class::Blank => self.lex_while(Whitespace, is_blank),
+            Class::Cr => self.pair(b'\n', Newline, Newline),
+            Class::Comment => self.comment(),
+            Class::Letter => self.lex_while(Ident, is_word),
+            Class::Special => self.special(),
+            Class::Digit => self.lex_number(b),
+            Class::Quote => self.lex_quoted(),
+            Class::Colon => self.pair(b':', ColonColon, Colon),
+            Class::Dot => self.dot(),
+            Class::Minus => self.pair(b'>', RArrow, Minus),
+            Class::Slash => self.pair(b'/', SlashSlash, Slash),
+            Class::Single(kind) => kind,
+            Class::Stray => self.stray(b),
         }
     }
 }
 
-// A character that starts nothing: all its bytes, as far as the source goes.
-fn stray(b: u8, source: &[u8], from: usize) -> Token
-    requires { from ≤ length source.now }
-    ensures { token_of result ≡ placed from (stray_of b (drop from source.now)) }
-{
-    let more = utf8::width(b) - 1;
-    Token {
-        kind: Error,
-        end: from + more.min(source.len() - from),
-    }
-}
-
-// The token that starts at `at`.
-pub fn next(source: &[u8], at: usize) -> Token
-    requires { at < length source.now }
-    ensures { token_of result ≡ placed (at + 1) (next_of (get_or source.now at 0) (drop (at + 1) source.now)) }
-{
-    let b = source[at];
-    let from = at + 1;
-    match class_of(b) {
-        Class::Blank => lex_while(Whitespace, is_blank, source, from),
-        Class::Cr => pair(b'\n', Newline, Newline, source, from),
-        Class::Comment => comment(source, from),
-        Class::Letter => lex_while(Ident, is_word, source, from),
-        Class::Special => special(source, from),
-        Class::Digit => lex_number(b, source, from),
-        Class::Quote => lex_quoted(source, from),
-        Class::Colon => pair(b':', ColonColon, Colon, source, from),
-        Class::Dot => dot(source, from),
-        Class::Minus => pair(b'>', RArrow, Minus, source, from),
-        Class::Slash => pair(b'/', SlashSlash, Slash, source, from),
-        Class::Single(kind) => Token { kind, end: from },
-        Class::Stray => stray(b, source, from),
-    }
-}
-
-// The tokens of a source, from an offset on.
-#[derive(Drop)]
-pub struct Lexer<'a> {
-    pub source: &'a [u8],
-    pub offset: usize,
-}
-
-impl<'a> Lexer<'a> {
-    pub fn new(source: &'a [u8]) -> Lexer<'a>
-        ensures { (result.source.now ≡ source.now) × (result.offset ≡ 0) }
-    {
-        Lexer { source, offset: 0 }
-    }
-}
-
-impl<'a> Iterator for Lexer<'a> {
+impl Iterator for Lexer<'_> {
     type Item = Token;
 
     ghost next_gives = { NextToken };
@@ -200,9 +155,11 @@ impl<'a> Iterator for Lexer<'a> {
         if self.source.len() <= self.offset {
             return None;
         }
-        let token = next(self.source, self.offset);
-        self.offset = token.end;
-        Some(token)
+        let b = self.source[self.offset];
+        self.offset += 1;
+        let kind = self.behind(b);
+        let end = self.offset;
+        Some(Token { kind, end })
     }
 }
 

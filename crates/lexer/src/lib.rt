@@ -6,7 +6,9 @@ mod class;
 mod lexer;
 mod quoted;
 mod runs;
+mod state;
 pub mod syntax;
 
-pub use lexer::{Lexer, MAX_SOURCE, Token, next, put_token, tokenize};
+pub use lexer::{MAX_SOURCE, Token, put_token, tokenize};
 pub use runs::same;
+pub use state::Lexer;

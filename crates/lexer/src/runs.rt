@@ -1,47 +1,72 @@
-// Runs of bytes, and what stands at an offset.
+// Runs of bytes, and what stands at the offset.
 ghost use Rattle.std.specs.Prelude.{◌≡◌, ◌+◌, ◌≤◌, Bool, ℕ, true, length, drop};
 ghost use Rattle.lexer.specs.Lexer.{advance_while, in_line, same as same_of};
-ghost use Rattle.lexer.specs.Code.{starts_with, other_than, AllHold, AnswersAs};
+ghost use Rattle.lexer.specs.Code.{Advanced, AdvanceIf, other_than, AllHold, AnswersAs};
 
 use crate::chars::is_in_line;
+use crate::state::Lexer;
 
-// Where the run from `from` on ends, a byte at a time.
-fn advance_tail<F: Fn(u8) -> bool>(goes_on: F, source: &[u8], from: usize) -> usize
-    requires { (F.IsAlwaysCallable goes_on) × (from ≤ length source.now) }
-    ensures { (p : ℕ → Bool) → AnswersAs p (F.post goes_on) → result ≡ from + advance_while p (drop from source.now) }
-{
-    // By index: of the bytes that `position` met no contract tells that they are below 256.
-    for at in from..source.len() {
-        if !goes_on(source[at]) {
-            return at;
+impl Lexer<'_> {
+    // Over the run at the offset, a byte at a time.
+    fn advance_tail<F: Fn(u8) -> bool>(&mut self, goes_on: F)
+        requires { F.IsAlwaysCallable goes_on }
+        ensures { (p : ℕ → Bool) → AnswersAs p (F.post goes_on) → Advanced (advance_while p) self.old self.new }
+    {
+        // By index: of the bytes that `position` met no contract tells that they are below 256.
+        for at in self.offset..self.source.len() {
+            if !goes_on(self.source[at]) {
+                self.offset = at;
+                return;
+            }
         }
+        self.offset = self.source.len();
     }
-    source.len()
-}
 
-// Where the run from `from` on ends, with one test of the length for four bytes.
-pub fn advance_while<F: Fn(u8) -> bool>(goes_on: F, source: &[u8], from: usize) -> usize
-    requires { (F.IsAlwaysCallable goes_on) × (from ≤ length source.now) }
-    ensures { (p : ℕ → Bool) → AnswersAs p (F.post goes_on) → result ≡ from + advance_while p (drop from source.now) }
-{
-    let mut at = from;
-    // A while: the step is four bytes.
-    while 4 <= source.len() - at {
-        if !goes_on(source[at]) {
-            return at;
+    // Over the run at the offset, with one test of the length for four bytes.
+    pub fn advance_while<F: Fn(u8) -> bool>(&mut self, goes_on: F)
+        requires { F.IsAlwaysCallable goes_on }
+        ensures { (p : ℕ → Bool) → AnswersAs p (F.post goes_on) → Advanced (advance_while p) self.old self.new }
+    {
+        // A while: the step is four bytes.
+        while 4 <= self.source.len() - self.offset {
+            if !goes_on(self.source[self.offset]) {
+                return;
+            }
+            if !goes_on(self.source[self.offset + 1]) {
+                self.offset += 1;
+                return;
+            }
+            if !goes_on(self.source[self.offset + 2]) {
+                self.offset += 2;
+                return;
+            }
+            if !goes_on(self.source[self.offset + 3]) {
+                self.offset += 3;
+                return;
+            }
+            self.offset += 4;
         }
-        if !goes_on(source[at + 1]) {
-            return at + 1;
-        }
-        if !goes_on(source[at + 2]) {
-            return at + 2;
-        }
-        if !goes_on(source[at + 3]) {
-            return at + 3;
-        }
-        at += 4;
+        self.advance_tail(goes_on);
     }
-    advance_tail(goes_on, source, at)
+
+    // Over the rest of the line: advance_while up to a line end, blocks of 16 bytes first.
+    pub fn line_rest(&mut self)
+        ensures { Advanced (advance_while in_line) self.old self.new }
+    {
+        self.offset += blocks_in_line(&self.source[self.offset..]);
+        self.advance_while(is_in_line);
+    }
+
+    // if self.current_char() == Some(x) { self.advance_char(); }
+    pub fn advance_if(&mut self, x: u8) -> bool
+        ensures { AdvanceIf x self.old result self.new }
+    {
+        let found = self.source.get(self.offset) == Some(&x);
+        if found {
+            self.offset += 1;
+        }
+        found
+    }
 }
 
 // Whether x is none of these bytes. All are looked at, so that the compiler makes one wide comparison of it.
@@ -64,27 +89,19 @@ fn all_in_line(block: &[u8]) -> bool
     none_is(block, b'\n') && none_is(block, b'\r')
 }
 
-// Where the line that `from` stands in ends: advance_while up to a line end, 16 bytes at a time.
-pub fn line_rest(source: &[u8], from: usize) -> usize
-    requires { from ≤ length source.now }
-    ensures { result ≡ from + advance_while in_line (drop from source.now) }
+// How many bytes the blocks of 16 take that stand before the first one with a line end. Not inlined, so that the lexer saves no
+// register.
+#[inline(never)]
+fn blocks_in_line(rest: &[u8]) -> usize
+    ensures { (result ≤ length rest.now)
+        × (advance_while in_line rest.now ≡ result + advance_while in_line (drop result rest.now)) }
 {
-    let mut at = from;
+    let mut at = 0;
     // A while: the step is 16 bytes.
-    while 16 <= source.len() - at {
-        if !all_in_line(&source[at..at + 16]) {
-            return advance_while(is_in_line, source, at);
-        }
+    while 16 <= rest.len() - at && all_in_line(&rest[at..at + 16]) {
         at += 16;
     }
-    advance_while(is_in_line, source, at)
-}
-
-// current_char() == Some(x)
-pub fn current_is(source: &[u8], at: usize, x: u8) -> bool
-    ensures { result ≡ starts_with x (drop at source.now) }
-{
-    source.get(at) == Some(&x)
+    at
 }
 
 // Whether two texts are the same.

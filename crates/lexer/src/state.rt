@@ -1,0 +1,18 @@
+// What the lexer reads, and where it stands.
+ghost use Rattle.std.specs.Prelude.{◌≡◌, ◌≤◌, length};
+
+// The tokens of a source, from an offset on.
+#[derive(Drop)]
+pub struct Lexer<'a> {
+    pub source: &'a [u8],
+    pub offset: usize,
+    pub ghost within: { offset ≤ length source.now },
+}
+
+impl<'a> Lexer<'a> {
+    pub fn new(source: &'a [u8]) -> Lexer<'a>
+        ensures { (result.source.now ≡ source.now) × (result.offset ≡ 0) }
+    {
+        Lexer { source, offset: 0 }
+    }
+}
