@@ -89,9 +89,7 @@ fn all_in_line(block: &[u8]) -> bool
     none_is(block, b'\n') && none_is(block, b'\r')
 }
 
-// How many bytes the blocks of 16 take that stand before the first one with a line end. Not inlined, so that the lexer saves no
-// register.
-#[inline(never)]
+// How many bytes the blocks of 16 take that stand before the first one with a line end.
 fn blocks_in_line(rest: &[u8]) -> usize
     ensures { (result ≤ length rest.now)
         × (advance_while in_line rest.now ≡ result + advance_while in_line (drop result rest.now)) }
