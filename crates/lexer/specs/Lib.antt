@@ -3,6 +3,7 @@ pub mod Syntax
 pub mod Chars
 pub mod Lexer
 pub mod Tokens
+pub mod Slices
 pub mod Code
 pub mod Good
 pub mod Laws

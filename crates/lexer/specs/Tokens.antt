@@ -1,7 +1,7 @@
 -- What the lexer leaves in the lent slices.
 -- Assumes nothing: these are definitions.
 use Rattle.std.specs.Prelude.{◌≡◌, List, [], ◌∷◌, map, ℕ, ◌+◌, min, length}
-use Rattle.room.specs.Over.{over, fit}
+use Rattle.room.specs.Over.{fit}
 use Rattle.lexer.specs.Lexer.{Token, tokenize}
 
 -- The most bytes that a source may have (document 01).
@@ -22,16 +22,11 @@ token_kinds s = map token_kind (tokenize s)
 abbrev pub token_ends : List ℕ → List ℕ
 token_ends s = ends 0 (tokenize s)
 
--- f says what is written for a token: its kind, or that and more. All tokens, where each slice takes what it has room for.
-pub record TokensOver (f : Token → ℕ) (source kinds ends : List ℕ) (count : ℕ) (kinds' ends' : List ℕ) : Type 0 where
-  pub count_is : count ≡ length (tokenize source)
-  pub kinds_are : kinds' ≡ over kinds 0 (map f (tokenize source))
-  pub ends_are : ends' ≡ over ends 0 (token_ends source)
-
 -- Room is the shorter length.
 abbrev pub room : List ℕ → List ℕ → ℕ
 room kinds ends = min (length kinds) (length ends)
 
+-- f says what is written for a token: its kind, or that and more. All tokens, as far as both slices have room.
 pub record TokensFit (f : Token → ℕ) (source kinds ends : List ℕ) (count : ℕ) (kinds' ends' : List ℕ) : Type 0 where
   pub count_is : count ≡ length (tokenize source)
   pub kinds_are : kinds' ≡ fit (room kinds ends) (map f (tokenize source)) kinds

@@ -1,15 +1,16 @@
 // lexer.rs: a method for each shape of token, the iterator, and `tokenize`.
-ghost use Rattle.std.specs.Prelude.{◌≡◌, ◌||◌, ◌-◌, ◌≤◌, Bool, ℕ, length, set};
+ghost use Rattle.std.specs.Prelude.{◌≡◌, ◌||◌, ◌-◌, ◌≤◌, Bool, ℕ, length};
 ghost use Rattle.std.specs.Iterator.{at_most};
 ghost use Rattle.lexer.specs.Syntax.{kind_number};
 ghost use Rattle.lexer.specs.Lexer.{lex_one, follow, lex_while, comment as comment_of, lex_number, zero_led};
 ghost use Rattle.lexer.specs.Lexer.{same as same_of, kernel, exec, special as special_of, stray as stray_of, dots, next as next_of};
 ghost use Rattle.lexer.specs.Code.{Lexed, NextToken, AnswersAs};
-ghost use Rattle.lexer.specs.Tokens.{MAX_SOURCE, token_kind, TokensOver, Tokenize};
+ghost use Rattle.lexer.specs.Tokens.{MAX_SOURCE, Tokenize};
 
 use crate::chars::{is_binary, is_blank, is_decimal, is_hex};
 use crate::class::{Class, class_of, is_word};
 use crate::runs::same;
+use crate::slices::TokenSlices;
 use crate::state::Lexer;
 use crate::syntax::SyntaxKind;
 use crate::syntax::SyntaxKind::{
@@ -163,33 +164,6 @@ impl Iterator for Lexer<'_> {
     }
 }
 
-// Writes a token while there is room; both slices have the same length.
-pub fn put_token(kinds: &mut [u16], ends: &mut [u32], n: usize, kind: u16, end: u32)
-    requires { length kinds.old ≡ length ends.old }
-    ensures { (kinds.new ≡ set kinds.old n kind)
-        × (ends.new ≡ set ends.old n end) }
-{
-    if n < kinds.len() {
-        kinds[n] = kind;
-        ends[n] = end;
-    }
-}
-
-// All tokens: kinds and ends as far as the slices go, and the full count.
-fn tokens(source: &[u8], kinds: &mut [u16], ends: &mut [u32]) -> usize
-    requires { (length source.now ≤ MAX_SOURCE) × (length kinds.old ≡ length ends.old) }
-    ensures { TokensOver
-        token_kind source.now kinds.old ends.old
-        result kinds.new ends.new }
-{
-    let mut n = 0;
-    for token in Lexer::new(source) {
-        put_token(kinds, ends, n, u16::from(token.kind), token.end as u32);
-        n += 1;
-    }
-    n
-}
-
 // The tokens of a source, written while there is room in both slices, and counted on.
 pub fn tokenize(source: &[u8], kinds: &mut [u16], ends: &mut [u32]) -> usize
     requires { length source.now ≤ MAX_SOURCE }
@@ -197,6 +171,13 @@ pub fn tokenize(source: &[u8], kinds: &mut [u16], ends: &mut [u32]) -> usize
         source.now kinds.old ends.old
         result kinds.new ends.new }
 {
-    let room = kinds.len().min(ends.len());
-    tokens(source, &mut kinds[..room], &mut ends[..room])
+    let mut tokens = TokenSlices {
+        kinds,
+        ends,
+        count: 0,
+    };
+    for token in Lexer::new(source) {
+        tokens.push(token.kind.into(), token.end as u32);
+    }
+    tokens.count
 }

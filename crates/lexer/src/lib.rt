@@ -6,9 +6,11 @@ mod class;
 mod lexer;
 mod quoted;
 mod runs;
+mod slices;
 mod state;
 pub mod syntax;
 
-pub use lexer::{MAX_SOURCE, Token, put_token, tokenize};
+pub use lexer::{MAX_SOURCE, Token, tokenize};
 pub use runs::same;
+pub use slices::TokenSlices;
 pub use state::Lexer;

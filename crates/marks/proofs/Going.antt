@@ -6,20 +6,21 @@ use mathlib.Core.List.{List}
 use borrow.Author.Tests.{lt-ltb, le-ltb}
 use native.Mathlib.Omega.{arith}
 use Rattle.std.specs.Prelude.{Option, None, Some}
-use lib.ListN.{length, get_or, take, drop, set}
+use lib.ListN.{length, get_or, take, drop}
+use Rattle.lexer.specs.declared.slices.TokenSlices.{TokenSlices}
 use Rattle.lexer.specs.Code.{Placed}
+use Rattle.lexer.specs.Slices.{Push}
 use Rattle.lexer.specs.Lexer.{Token, tokenize}
 use Rattle.lexer.specs.Tokens.{MAX_SOURCE}
 use Rattle.grammar.specs.Words.{key}
 use Rattle.lexer.proofs.Rest.{rest, rest_none, rest_more, end_is}
-use Rattle.lexer.proofs.Going as lexer
-use Rattle.lexer.proofs.Going.{here, token_here, text_here}
+use Rattle.lexer.proofs.Going.{here, token_here, text_here, Writing, begins_writing, writes_on, all_written}
 use Rattle.marks.specs.Marks.{is_refused, first_refused}
-use Rattle.marks.specs.Code.{marked, mark, symbol_mark, refused, refused_at, or_else, MarkTokens}
+use Rattle.marks.specs.Code.{marked, mark, symbol_mark, refused, refused_at, or_else, MarkSource}
 use Rattle.lexer.specs.Kinds.{low_next}
 
-pub record Going (s kinds₀ ends₀ kinds ends' : List ℕ) (refusal : Option ℕ) (at n : ℕ) : Type 0 where
-  pub going : lexer.Going mark s kinds₀ ends₀ kinds ends' at n
+pub record Going (s kinds₀ ends₀ : List ℕ) (w : TokenSlices) (refusal : Option ℕ) (at : ℕ) : Type 0 where
+  pub writing : Writing mark s kinds₀ ends₀ w at
   pub refusal_is : first_refused 0 (tokenize s) ≡ or_else refusal (first_refused at (rest s at))
 
 or_else_assoc : (p q r : Option ℕ) → or_else p (or_else q r) ≡ or_else (or_else p q) r
@@ -47,16 +48,16 @@ module _ (s : List ℕ) (at : ℕ) (h : at < length s) where
           rw (le-ltb (key 16) (mark t) ((symbol_mark t.kind t.text e).bounded (low_next (get_or s at 0) (drop (at + 1) s))))
           (ap (λ (n : ℕ). first_refused n (rest s (here s at).end)) (end_is s at h))
 
-pub begins : (s kinds ends' : List ℕ) → length s ≤ MAX_SOURCE → length kinds ≡ length ends' → Going s kinds ends' kinds ends' None 0 0
-begins s kinds ends' h same = record { going = lexer.begins s kinds ends' h same; refusal_is = refl }
+pub begins : (s : List ℕ) (w : TokenSlices) → length s ≤ MAX_SOURCE → w.count ≡ 0 → Going s w.kinds.now w.ends.now w None 0
+begins s w h e = record { writing = begins_writing s w h e refl; refusal_is = refl }
 
-pub goes_on : {s kinds₀ ends₀ kinds ends' : List ℕ} {refusal : Option ℕ} {at n : ℕ} → Going s kinds₀ ends₀ kinds ends' refusal at n → at < length s
+pub goes_on : {s kinds₀ ends₀ : List ℕ} {w : TokenSlices} {refusal : Option ℕ} {at : ℕ} → Going s kinds₀ ends₀ w refusal at → at < length s
     → (t : Placed) → t ≡ here s at → (v : ℕ) → v ≡ marked t.kind (take (t.end - at) (drop at s)) → (r : Option ℕ) → r ≡ or_else refusal (refused_at v at)
-    → (kinds'' ends'' : List ℕ) → kinds'' ≡ set kinds n v → ends'' ≡ set ends' n t.end → Going s kinds₀ ends₀ kinds'' ends'' r t.end (n + 1)
-goes_on {s} {refusal = refusal} {at = at} g h t e v f r q kinds'' ends'' ke ee =
+    → (w' : TokenSlices) → Push v t.end w w' → Going s kinds₀ ends₀ w' r t.end
+goes_on {s} {refusal = refusal} {at = at} g h t e v f r q w' p =
     let m : v ≡ mark (token_here s at) = f ∙ ap₂ marked (ap (λ (x : Placed). x.kind) e) (text_here s at h t e) in
     record {
-      going = lexer.goes_on g.going h t e v m kinds'' ends'' ke ee;
+      writing = writes_on g.writing h t e v m w' p;
       refusal_is =
           g.refusal_is
           ∙ ap (or_else refusal) (step s at h)
@@ -65,10 +66,11 @@ goes_on {s} {refusal = refusal} {at = at} g h t e v f r q kinds'' ends'' ke ee =
           (ap (λ (i : ℕ). or_else refusal (refused_at i at)) (sym m) ∙ sym q) (ap (λ (x : Placed). x.end) (sym e));
     }
 
-pub ended : {s kinds₀ ends₀ kinds ends' : List ℕ} {refusal : Option ℕ} {at n : ℕ} → Going s kinds₀ ends₀ kinds ends' refusal at n → length s ≤ at
-    → MarkTokens s kinds₀ ends₀ (record { count = n; refusal = refusal }) kinds ends'
+pub ended : {s kinds₀ ends₀ : List ℕ} {w : TokenSlices} {refusal : Option ℕ} {at : ℕ} → Going s kinds₀ ends₀ w refusal at → length s ≤ at
+    → (kinds ends' : List ℕ) → kinds ≡ w.kinds.now → ends' ≡ w.ends.now
+    → MarkSource s kinds₀ ends₀ (record { count = w.count; refusal = refusal }) kinds ends'
 unfolding first_refused
-ended {s} {refusal = refusal} {at = at} g h = record {
-  over = lexer.ended g.going h;
+ended {s} {refusal = refusal} {at = at} g h kinds ends' ke ee = record {
+  fit = all_written g.writing h kinds ends' ke ee;
   refusal_is = or_else_none refusal ∙ sym (g.refusal_is ∙ ap (λ (ts : List Token). or_else refusal (first_refused at ts)) (rest_none s at h));
 }

@@ -9,7 +9,7 @@ use borrow.Author.Tests.{eqb-true}
 use Rattle.std.proofs.Math.Dec.{eqb}
 use Rattle.lexer.specs.Syntax.{Ident}
 use Rattle.lexer.specs.Lexer.{Token, same, tokenize}
-use Rattle.lexer.specs.Tokens.{TokensOver, TokensFit}
+use Rattle.lexer.specs.Tokens.{TokensFit}
 use Rattle.lexer.specs.Laws.{same_equal}
 use Rattle.grammar.specs.Words.{MARK, key, words, number_in, word_of, word_number, sym_of}
 use Rattle.grammar.specs.declared.words.Word.{Word}
@@ -116,11 +116,7 @@ abbrev pub or_else : Option ℕ → Option ℕ → Option ℕ
 or_else None q = q
 or_else (Some m) q = Some m
 
--- The tokens with their marks, where each slice takes what it has room for; and where both have the same room.
-pub record MarkTokens (source kinds ends : List ℕ) (r : Read) (kinds' ends' : List ℕ) : Type 0 where
-  pub over : TokensOver mark source kinds ends r.count kinds' ends'
-  pub refusal_is : r.refusal ≡ first_refused 0 (tokenize source)
-
+-- The tokens with their marks, as far as both slices have room, and the first refusal.
 pub record MarkSource (source kinds ends : List ℕ) (r : Read) (kinds' ends' : List ℕ) : Type 0 where
   pub fit : TokensFit mark source kinds ends r.count kinds' ends'
   pub refusal_is : r.refusal ≡ first_refused 0 (tokenize source)

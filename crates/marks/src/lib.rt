@@ -5,11 +5,11 @@ ghost use Rattle.std.specs.Prelude.{◌≡◌, map, ◌≤◌, ◌<◌, length};
 ghost use Rattle.lexer.specs.Syntax.{kind_number};
 ghost use Rattle.lexer.specs.Tokens.{MAX_SOURCE};
 ghost use Rattle.grammar.specs.Words.{kind_of};
-ghost use Rattle.marks.specs.Code.{text_number, found_number, marked, or_else, refused_at, MarkTokens, MarkSource};
+ghost use Rattle.marks.specs.Code.{text_number, found_number, marked, or_else, refused_at, MarkSource};
 
 use grammar::words::{MARK, WHILE, Word};
-use lexer::Lexer;
 use lexer::syntax::{IDENT, SyntaxKind};
+use lexer::{Lexer, TokenSlices};
 
 mod filter;
 mod word;
@@ -58,35 +58,30 @@ fn mark(kind: SyntaxKind, text: &[u8]) -> u16
     }
 }
 
-// The lexer's tokens, each marked as it is written, and the first refusal carried along; both slices have the same length.
-fn mark_tokens(source: &[u8], kinds: &mut [u16], ends: &mut [u32]) -> Read
-    requires { (length source.now ≤ MAX_SOURCE) × (length kinds.old ≡ length ends.old) }
-    ensures { MarkTokens
-        source.now kinds.old ends.old
-        result kinds.new ends.new }
-{
-    let mut refusal = None;
-    let mut start = 0;
-    let mut n = 0;
-    for token in Lexer::new(source) {
-        let kind = mark(token.kind, &source[start..token.end]);
-        refusal = or_else(refusal, kind, start);
-        lexer::put_token(kinds, ends, n, kind, token.end as u32);
-        n += 1;
-        start = token.end;
-    }
-    Read { count: n, refusal }
-}
-
-// The tokens, written while there is room in both slices, and counted on.
+// The lexer's tokens, each marked as it is written, as far as both slices have room; the first refusal is carried along.
 pub fn mark_source(source: &[u8], kinds: &mut [u16], ends: &mut [u32]) -> Read
     requires { length source.now ≤ MAX_SOURCE }
     ensures { MarkSource
         source.now kinds.old ends.old
         result kinds.new ends.new }
 {
-    let room = kinds.len().min(ends.len());
-    mark_tokens(source, &mut kinds[..room], &mut ends[..room])
+    let mut tokens = TokenSlices {
+        kinds,
+        ends,
+        count: 0,
+    };
+    let mut refusal = None;
+    let mut start = 0;
+    for token in Lexer::new(source) {
+        let kind = mark(token.kind, &source[start..token.end]);
+        refusal = or_else(refusal, kind, start);
+        tokens.push(kind, token.end as u32);
+        start = token.end;
+    }
+    Read {
+        count: tokens.count,
+        refusal,
+    }
 }
 
 // The kind of a token that may be marked.

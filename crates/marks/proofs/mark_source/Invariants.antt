@@ -1,7 +1,7 @@
--- `marks::mark_tokens` meets its contract: the lexer's tokens, each with its mark. Assumes nothing.
+-- `marks::mark_source` meets its contract: the lexer's tokens, each with its mark. Assumes nothing.
 use mathlib.Core.Path.{◌≡◌}
 use Rattle.marks.proofs.Going.{Going}
-use Rattle.marks.proofs.mark_tokens.Given as goal
+use Rattle.marks.proofs.mark_source.Given as goal
 
 abbrev pub invariant-loop-token : goal.invariant-loop-token
 invariant-loop-token l =
@@ -9,4 +9,6 @@ invariant-loop-token l =
     × (goal.iterator-loop-token).is_finite l.token-iterator
     × (l.token-iterator.source.now ≡ l.source)
     × (l.token-iterator.offset ≡ l.start)
-    × Going l.source l.initial.kinds l.initial.ends l.kinds l.ends l.refusal l.start l.n
+    × (l.tokens.kinds.ghost_name ≡ l.initial.tokens.kinds.ghost_name)
+    × (l.tokens.ends.ghost_name ≡ l.initial.tokens.ends.ghost_name)
+    × Going l.source l.fn.kinds l.fn.ends l.tokens l.refusal l.start
