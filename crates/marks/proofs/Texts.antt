@@ -1,43 +1,92 @@
--- The number of a text, by its first byte. Assumes nothing.
-use Prim.Native.Nat.{ℕ, ◌<◌}
-use mathlib.Core.Path.{◌≡◌, sym, ap, subst}
+-- The number of a text, by its length and its bytes. Assumes nothing.
+use Prim.Native.Nat.{ℕ, suc, ◌+◌}
+use mathlib.Core.Path.{◌≡◌, refl, sym, ap, ◌∙◌}
 use mathlib.Core.Bool.{Bool, true, false, cond}
-use Rattle.std.specs.Prelude.{Option, None, Some}
-use Rattle.grammar.specs.declared.words.Word.{Word}
-use mathlib.Core.List.{List, [], ◌∷◌}
+use mathlib.Core.List.{List, [], ◌∷◌, ◌++◌, map}
+use native.Mathlib.Nat.{add-zero}
 use native.Mathlib.Omega.{arith}
-use borrow.Author.Tests.{ne_eqb}
-use lib.ListN.{length, get_or}
+use lib.ListN.{length, get_or, drop}
+use lib.Seq.{drop-drop, get_or-drop}
+use Rattle.std.proofs.lemmas.Slice.Eq.{HasBytesAt, text_from_reads}
+use Rattle.lexer.specs.Chars.{tabulate}
 use Rattle.lexer.specs.Lexer.{same}
-use Rattle.grammar.specs.Words.{words, number_in, word_number}
-use Rattle.marks.specs.Code.{text_number, found_number}
+use Rattle.lexer.specs.Laws.{same_equal}
+use Rattle.grammar.specs.Words.{words, number_in}
+use Rattle.marks.specs.Code.{refused_texts, text_number}
 
--- a comparison in the code, as the definition makes it
-pub compared : {r : Bool} (w t : List ℕ) (m n : ℕ) → r ≡ same w t → cond r m n ≡ cond (same w t) m n
-compared w t m n e = ap (λ (u : Bool). cond u m n) e
+-- the texts that have a number, in its order
+abbrev pub letters : List (List ℕ)
+letters =
+    (97 ∷ 100 ∷ 118 ∷ 95 ∷ 109 ∷ 97 ∷ 112 ∷ []) ∷
+    (98 ∷ 101 ∷ 103 ∷ 105 ∷ 110 ∷ []) ∷
+    (99 ∷ 111 ∷ 110 ∷ 115 ∷ 116 ∷ []) ∷
+    (100 ∷ 111 ∷ []) ∷
+    (101 ∷ 108 ∷ 115 ∷ 101 ∷ []) ∷
+    (101 ∷ 110 ∷ 100 ∷ []) ∷
+    (101 ∷ 110 ∷ 117 ∷ 109 ∷ []) ∷
+    (105 ∷ 102 ∷ []) ∷
+    (109 ∷ 111 ∷ 100 ∷ []) ∷
+    (110 ∷ 97 ∷ 109 ∷ 101 ∷ 115 ∷ 112 ∷ 97 ∷ 99 ∷ 101 ∷ []) ∷
+    (112 ∷ 97 ∷ 99 ∷ 107 ∷ 97 ∷ 103 ∷ 101 ∷ []) ∷
+    (112 ∷ 114 ∷ 111 ∷ 99 ∷ []) ∷
+    (112 ∷ 117 ∷ 98 ∷ []) ∷
+    (114 ∷ 101 ∷ 112 ∷ 101 ∷ 97 ∷ 116 ∷ []) ∷
+    (116 ∷ 121 ∷ 112 ∷ 101 ∷ []) ∷
+    (119 ∷ 104 ∷ 105 ∷ 108 ∷ 101 ∷ []) ∷
+    (117 ∷ 115 ∷ 101 ∷ []) ∷
+    (101 ∷ 120 ∷ 116 ∷ 101 ∷ 114 ∷ 110 ∷ []) ∷
+    []
 
--- the number of a word that was compared alone
-pub numbered : (b : Bool) (w : Word) {r : Option Word} → r ≡ cond b (Some w) None → found_number r ≡ cond b (word_number w) 0
-numbered true w e = ap found_number e
-numbered false w e = ap found_number e
+-- t has the length and the bytes of w
+abbrev pub Spells : List ℕ → List ℕ → Type 0
+Spells w t = (length t ≡ length w) × HasBytesAt t 0 w
 
--- what holds of each text that starts with a byte holds of this one
-pub led : (P : List ℕ → Type 0) (b : ℕ) (t : List ℕ) → 0 < length t → get_or t 0 0 ≡ b → ((r : List ℕ) → P (b ∷ r)) → P t
-led P b [] h e p = absurd (omega arith)
-led P b (x ∷ t) h e p = subst (λ (y : ℕ). P (y ∷ t)) (sym e) (p t)
+abbrev pub SpellsNone : List (List ℕ) → List ℕ → Type 0
+SpellsNone [] t = Unit {0}
+SpellsNone (w ∷ ws) t = (Spells w t → ⊥) × SpellsNone ws t
 
-abbrev pub Only : ℕ → List ℕ → List ℕ → Type 0
-Only n w t = cond (same w t) n 0 ≡ text_number t
+has_bytes : (p s : List ℕ) (i : ℕ) → drop i s ≡ p → HasBytesAt s i p
+has_bytes [] s i e = tt
+has_bytes (c ∷ p) s i e =
+    let next : suc i ≡ i + 1 = omega arith in (
+      ap (λ (n : ℕ). get_or s n 0) (sym (add-zero i)) ∙ sym (get_or-drop i s 0 0) ∙ ap (λ (l : List ℕ). get_or l 0 0) e,
+      has_bytes p s (suc i) (ap (λ (n : ℕ). drop n s) next ∙ sym (drop-drop 1 i s) ∙ ap (drop 1) e),
+    )
 
--- A byte with which no word starts, in the order of the match.
-abbrev pub Other : ℕ → Type 0
-Other b = (b ≡ 97 → ⊥) × (b ≡ 98 → ⊥) × (b ≡ 99 → ⊥) × (b ≡ 100 → ⊥) × (b ≡ 101 → ⊥) × (b ≡ 105 → ⊥) × (b ≡ 109 → ⊥) × (b ≡ 110 → ⊥) × (b ≡ 112 → ⊥) × (b ≡ 114 → ⊥) × (b ≡ 116 → ⊥) × (b ≡ 117 → ⊥) × (b ≡ 119 → ⊥)
+spells_none : (n : ℕ) (ws : List (List ℕ)) (t : List ℕ) → SpellsNone ws t → number_in n ws t ≡ 0
+unfolding number_in
+spells_none n [] t h = refl
+spells_none n (w ∷ ws) t h = by_test (same w t) refl (spells_none (suc n) ws t h.1)
+  where
+    by_test : (u : Bool) → same w t ≡ u → number_in (suc n) ws t ≡ 0 → cond u n (number_in (suc n) ws t) ≡ 0
+    by_test true e again =
+        let q = same_equal w t e in
+        absurd (h.0 (ap length (sym q), has_bytes w t 0 (sym q)))
+    by_test false e again = again
 
-none_led : (b : ℕ) (r : List ℕ) → Other b → 0 ≡ text_number (b ∷ r)
+same_letters : words ++ refused_texts ≡ letters
+unfolding words
+same_letters = refl
+
+-- what spells the n-th of them, and so on
+abbrev pub Numbered : ℕ → List (List ℕ) → List ℕ → Type 0
+Numbered n [] t = Unit {0}
+Numbered n (w ∷ ws) t = (Spells w t → n ≡ text_number t) × Numbered (suc n) ws t
+
+in_order : (n : ℕ) (ws : List (List ℕ)) (t : List ℕ) → map text_number ws ≡ tabulate (λ k. k) n (length ws) → Numbered n ws t
+in_order n [] t e = tt
+in_order n (w ∷ ws) t e = (
+  λ s. sym (ap (λ (l : List ℕ). get_or l 0 0) e) ∙ ap text_number (sym (text_from_reads t w s.0 s.1)),
+  in_order (suc n) ws t (ap (drop 1) e),
+)
+
+their_numbers : map text_number letters ≡ tabulate (λ k. k) 1 18
 unfolding text_number number_in words same
-none_led b r n =
-    rw (ne_eqb 97 b (λ e. n.0 (sym e)), ne_eqb 98 b (λ e. n.1 (sym e)), ne_eqb 99 b (λ e. n.2 (sym e)), ne_eqb 100 b (λ e. n.3 (sym e)), ne_eqb 101 b (λ e. n.4 (sym e)), ne_eqb 105 b (λ e. n.5 (sym e)), ne_eqb 109 b (λ e. n.6 (sym e)), ne_eqb 110 b (λ e. n.7 (sym e)), ne_eqb 112 b (λ e. n.8 (sym e)), ne_eqb 114 b (λ e. n.9 (sym e)), ne_eqb 116 b (λ e. n.10 (sym e)), ne_eqb 117 b (λ e. n.11 (sym e)), ne_eqb 119 b (λ e. n.12 (sym e)))
+their_numbers = refl
 
-pub other : (t : List ℕ) → 0 < length t → Other (get_or t 0 0) → 0 ≡ text_number t
-other [] h o = absurd (omega arith)
-other (b ∷ r) h o = none_led b r o
+pub spelled : (t : List ℕ) → Numbered 1 letters t
+spelled t = in_order 1 letters t their_numbers
+
+pub none_spelled : (t : List ℕ) → SpellsNone letters t → 0 ≡ text_number t
+unfolding text_number
+none_spelled t h = sym (ap (λ (ws : List (List ℕ)). number_in 1 ws t) same_letters ∙ spells_none 1 letters t h)

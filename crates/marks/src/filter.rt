@@ -1,5 +1,5 @@
 // A filter before the words' comparisons: whether a text may be a word, by its first byte, its last byte and its length.
-ghost use Rattle.std.specs.Prelude.{◌≡◌, ◌<◌, false, length};
+ghost use Rattle.std.specs.Prelude.{◌≡◌, false};
 ghost use Rattle.marks.specs.Code.{text_number};
 
 // For each byte, the lengths of the words that start with it, as bits.
@@ -28,12 +28,13 @@ static LAST: [u16; 256] = [
     0, 0, 0,
 ];
 
-// Whether a text may be a word. Of its length, the last four bits count.
+// Whether a text may be a word: none has fewer than two letters. Of its length, the last four bits count.
 pub fn may_be(text: &[u8]) -> bool
-    requires { 0 < length text.now }
     ensures { result ≡ false → text_number text.now ≡ 0 }
 {
-    let len = text.len();
-    let both = FIRST[text[0] as usize] & LAST[text[len - 1] as usize];
-    (both >> (len % 16)) % 2 == 1
+    let [first, .., last] = text else {
+        return false;
+    };
+    let both = FIRST[*first as usize] & LAST[*last as usize];
+    (both >> (text.len() % 16)) % 2 == 1
 }

@@ -1,7 +1,7 @@
 // The tokens of a source as the grammar reads them: words are marked in the kinds, and the marks are taken off after the grammar.
 #![tactic(auto)]
 
-ghost use Rattle.std.specs.Prelude.{◌≡◌, map, ◌≤◌, ◌<◌, length};
+ghost use Rattle.std.specs.Prelude.{◌≡◌, map, ◌≤◌, length};
 ghost use Rattle.lexer.specs.Syntax.{kind_number};
 ghost use Rattle.lexer.specs.Tokens.{MAX_SOURCE};
 ghost use Rattle.grammar.specs.Words.{kind_of};
@@ -23,7 +23,6 @@ pub struct Read {
 
 // The word that an Ident's text is. Most do not pass the filter, and are compared with nothing.
 fn find_word(text: &[u8]) -> Option<Word>
-    requires { 0 < length text.now }
     ensures { found_number result ≡ text_number text.now }
 {
     if filter::may_be(text) {
@@ -46,7 +45,6 @@ fn or_else(refusal: Option<usize>, kind: u16, start: usize) -> Option<usize>
 
 // The kind of a token with this text, marked where it is an Ident and a word.
 fn mark(kind: SyntaxKind, text: &[u8]) -> u16
-    requires { 0 < length text.now }
     ensures { result ≡ marked (kind_number kind) text.now }
 {
     match kind {

@@ -1,67 +1,61 @@
 // The word that an identifier's text is: one of the grammar's sixteen, in the order of their numbers, or `use` or `extern`.
-ghost use Rattle.std.specs.Prelude.{◌≡◌, cond, ◌<◌, length, get_or};
-ghost use Rattle.lexer.specs.Lexer.{same as same_of};
-ghost use Rattle.marks.specs.Code.{text_number, found_number};
+ghost use Rattle.std.specs.Prelude.{◌≡◌};
+ghost use Rattle.marks.specs.Code.{text_number, word_number, found_number};
 
-use grammar::words::Word;
-use lexer::same;
-
-// The word, where the text is its letters.
-fn only(letters: &[u8], word: Word, text: &[u8]) -> Option<Word>
-    ensures { result ≡ cond (same_of letters.now text.now) (Some word) None }
-{
-    same(letters, text).then_some(word)
+#[derive(Debug, Clone, Copy, PartialEq, Eq, PartialOrd, Ord, Hash)]
+pub enum Word {
+    AdvMap = 1,
+    Begin,
+    Const,
+    Do,
+    Else,
+    End,
+    Enum,
+    If,
+    Mod,
+    Namespace,
+    Package,
+    Proc,
+    Pub,
+    Repeat,
+    Type,
+    While,
+    Use,
+    Extern,
 }
 
-// Words that start with `e`
-fn e_word(text: &[u8]) -> Option<Word>
-    requires { (0 < length text.now) × (get_or text.now 0 0 ≡ 101) }
-    ensures { found_number result ≡ text_number text.now }
-{
-    if same(b"else", text) {
-        Some(Word::Else)
-    } else if same(b"end", text) {
-        Some(Word::End)
-    } else if same(b"enum", text) {
-        Some(Word::Enum)
-    } else {
-        only(b"extern", Word::Extern, text)
+impl From<Word> for u16 {
+    ghost from_gives = { λ word n. n ≡ word_number word };
+
+    fn from(word: Word) -> u16 {
+        word as u16
     }
 }
 
-// Words that start with `p`
-fn p_word(text: &[u8]) -> Option<Word>
-    requires { (0 < length text.now) × (get_or text.now 0 0 ≡ 112) }
-    ensures { found_number result ≡ text_number text.now }
-{
-    if same(b"package", text) {
-        Some(Word::Package)
-    } else if same(b"proc", text) {
-        Some(Word::Proc)
-    } else {
-        only(b"pub", Word::Pub, text)
-    }
-}
-
-// By the first byte, so that most texts are compared with no word.
+// The word that a text is, if it is one.
+#[tactic(auto, using(crate::proofs::Texts::spelled, crate::proofs::Texts::none_spelled))]
 pub fn word_of(text: &[u8]) -> Option<Word>
-    requires { 0 < length text.now }
     ensures { found_number result ≡ text_number text.now }
 {
-    match text[0] {
-        b'a' => only(b"adv_map", Word::AdvMap, text),
-        b'b' => only(b"begin", Word::Begin, text),
-        b'c' => only(b"const", Word::Const, text),
-        b'd' => only(b"do", Word::Do, text),
-        b'e' => e_word(text),
-        b'i' => only(b"if", Word::If, text),
-        b'm' => only(b"mod", Word::Mod, text),
-        b'n' => only(b"namespace", Word::Namespace, text),
-        b'p' => p_word(text),
-        b'r' => only(b"repeat", Word::Repeat, text),
-        b't' => only(b"type", Word::Type, text),
-        b'u' => only(b"use", Word::Use, text),
-        b'w' => only(b"while", Word::While, text),
+    match text {
+        b"adv_map" => Some(Word::AdvMap),
+        b"begin" => Some(Word::Begin),
+        b"const" => Some(Word::Const),
+        b"do" => Some(Word::Do),
+        b"else" => Some(Word::Else),
+        b"end" => Some(Word::End),
+        b"enum" => Some(Word::Enum),
+        b"if" => Some(Word::If),
+        b"mod" => Some(Word::Mod),
+        b"namespace" => Some(Word::Namespace),
+        b"package" => Some(Word::Package),
+        b"proc" => Some(Word::Proc),
+        b"pub" => Some(Word::Pub),
+        b"repeat" => Some(Word::Repeat),
+        b"type" => Some(Word::Type),
+        b"while" => Some(Word::While),
+        b"use" => Some(Word::Use),
+        b"extern" => Some(Word::Extern),
         _ => None,
     }
 }
