@@ -2,4 +2,3 @@
 pub mod Marks
 pub mod Code
 pub mod Laws
-pub mod Filter

@@ -5,13 +5,13 @@ ghost use Rattle.std.specs.Prelude.{◌≡◌, map, ◌≤◌, length};
 ghost use Rattle.lexer.specs.Syntax.{kind_number};
 ghost use Rattle.lexer.specs.Tokens.{MAX_SOURCE};
 ghost use Rattle.grammar.specs.Words.{kind_of};
-ghost use Rattle.marks.specs.Code.{text_number, found_number, marked, or_else, refused_at, MarkSource};
+ghost use Rattle.marks.specs.Code.{marked, or_else, refused_at, MarkSource};
 
-use grammar::words::{MARK, WHILE, Word};
+use crate::word::word_of;
+use grammar::words::{MARK, WHILE};
 use lexer::syntax::{IDENT, SyntaxKind};
 use lexer::{Lexer, TokenSlices};
 
-mod filter;
 mod word;
 
 // How many tokens there are, and where the first Ident `use` or `extern` starts, if there is one.
@@ -19,17 +19,6 @@ mod word;
 pub struct Read {
     pub count: usize,
     pub refusal: Option<usize>,
-}
-
-// The word that an Ident's text is. Most do not pass the filter, and are compared with nothing.
-fn find_word(text: &[u8]) -> Option<Word>
-    ensures { found_number result ≡ text_number text.now }
-{
-    if filter::may_be(text) {
-        word::word_of(text)
-    } else {
-        None
-    }
 }
 
 // The refusal so far, or else that of a token above the last word, `while`: `use` and `extern`.
@@ -48,7 +37,7 @@ fn mark(kind: SyntaxKind, text: &[u8]) -> u16
     ensures { result ≡ marked (kind_number kind) text.now }
 {
     match kind {
-        SyntaxKind::Ident => match find_word(text) {
+        SyntaxKind::Ident => match word_of(text) {
             Some(word) => word.symbol(),
             None => IDENT,
         },

@@ -1,38 +1,10 @@
 // The word that an identifier's text is: one of the grammar's sixteen, in the order of their numbers, or `use` or `extern`.
 ghost use Rattle.std.specs.Prelude.{◌≡◌};
-ghost use Rattle.marks.specs.Code.{text_number, word_number, found_number};
+ghost use Rattle.marks.specs.Code.{text_number, found_number};
 
-#[derive(Debug, Clone, Copy, PartialEq, Eq, PartialOrd, Ord, Hash)]
-pub enum Word {
-    AdvMap = 1,
-    Begin,
-    Const,
-    Do,
-    Else,
-    End,
-    Enum,
-    If,
-    Mod,
-    Namespace,
-    Package,
-    Proc,
-    Pub,
-    Repeat,
-    Type,
-    While,
-    Use,
-    Extern,
-}
+use grammar::words::Word;
 
-impl From<Word> for u16 {
-    ghost from_gives = { λ word n. n ≡ word_number word };
-
-    fn from(word: Word) -> u16 {
-        word as u16
-    }
-}
-
-// The word that a text is, if it is one.
+// The word that a text is, if it is one. A match goes by the length first, and looks at few bytes of most texts.
 #[tactic(auto, using(crate::proofs::Texts::spelled, crate::proofs::Texts::none_spelled))]
 pub fn word_of(text: &[u8]) -> Option<Word>
     ensures { found_number result ≡ text_number text.now }
