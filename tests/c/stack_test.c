@@ -87,5 +87,5 @@ int main(void)
         level = each > level ? each : level;
     }
     printf("stack_test: %zu bytes at most\n", most);
-    return most > 0 && most <= MASM_STACK && level < 300 ? 0 : 1;
+    return most > 0 && most <= MASM_STACK && level <= 240 ? 0 : 1;
 }
