@@ -8,8 +8,8 @@ use Rattle.utf8.specs.Last.{last_char}
 use Rattle.lexer.specs.Lexer.{tokenize}
 use Rattle.lexer.specs.Tokens.{token_ends}
 use Rattle.lexer.specs.Laws.{length_ends}
-use Rattle.grammar.specs.declared.message.BlockMessage.{BlockMessage}
-use Rattle.grammar.specs.Message.{missing_end_number, block_number}
+use Rattle.grammar.specs.declared.message.PlainMessage.{PlainMessage}
+use Rattle.grammar.specs.Message.{missing_end_number, plain_number}
 use Rattle.grammar.specs.Block.{MAX_CONTROL_FLOW_NESTING as limit}
 use Rattle.grammar.specs.Out.{Diag, diags, Place, place, places}
 use Rattle.grammar.specs.Source.{symbols}
@@ -52,8 +52,8 @@ module _ (es : List ℕ) (anchor : ℕ) where
   call_end h Endings.no_ending = CallEnd.no_report
   call_end h (Endings.missing_closer w) = rw (h, place_end (missing_end_number w) es 0 anchor) (CallEnd.at_file_end w)
   call_end h (Endings.past_limit i) =
-      let p = place (block_number BlockMessage.NestingTooDeep) es 0 anchor i in
-      subst (λ m. CallEnd anchor (record { msg = m; start = p.start; stop = p.stop } ∷ [])) (sym (place_msg (block_number BlockMessage.NestingTooDeep) es 0 anchor i)) (CallEnd.at_limit p.start p.stop)
+      let p = place (plain_number PlainMessage.NestingTooDeep) es 0 anchor i in
+      subst (λ m. CallEnd anchor (record { msg = m; start = p.start; stop = p.stop } ∷ [])) (sym (place_msg (plain_number PlainMessage.NestingTooDeep) es 0 anchor i)) (CallEnd.at_limit p.start p.stop)
 
 of_source : (source : List ℕ) → MissingEnds source (reading_slices source)
 of_source source =

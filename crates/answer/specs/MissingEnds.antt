@@ -5,8 +5,8 @@ use Rattle.std.specs.Prelude.{ℕ, cond, get_or}
 use mathlib.Core.List.{List, [], ◌∷◌, tail}
 use Rattle.utf8.specs.Last.{last_char}
 use Rattle.grammar.specs.declared.block.BlockOwner.{BlockOwner}
-use Rattle.grammar.specs.declared.message.BlockMessage.{BlockMessage}
-use Rattle.grammar.specs.Message.{missing_end_number, block_number}
+use Rattle.grammar.specs.declared.message.PlainMessage.{PlainMessage}
+use Rattle.grammar.specs.Message.{missing_end_number, plain_number}
 use Rattle.grammar.specs.Out.{Place}
 use Rattle.grammar.specs.Endings.{ending}
 use Rattle.answer.specs.Answer.{Slices}
@@ -25,7 +25,7 @@ place_endings (p ∷ ps) = cond (ending p.msg) (p ∷ place_endings ps) (place_e
 pub data CallEnd (eof : ℕ) : List Place → Type 0 where
   no_report : CallEnd eof []
   at_file_end : (w : BlockOwner) → CallEnd eof (record { msg = missing_end_number w; start = eof; stop = eof } ∷ [])
-  at_limit : (start stop : ℕ) → CallEnd eof (record { msg = block_number BlockMessage.NestingTooDeep; start = start; stop = stop } ∷ [])
+  at_limit : (start stop : ℕ) → CallEnd eof (record { msg = plain_number PlainMessage.NestingTooDeep; start = start; stop = stop } ∷ [])
 
 abbrev pub MissingEnds : List ℕ → Slices → Type 0
 MissingEnds source g = CallEnd (last_char source) (place_endings (diagnostics_of g.messages g.starts g.stops))

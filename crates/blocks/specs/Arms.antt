@@ -7,7 +7,7 @@ use Rattle.grammar.specs.Words.{Sym}
 use Rattle.grammar.specs.Look.{eof, at_kind, at_regular_trivia, at_terminator, at_stray_else, at_top_level_form_starter_in_block, at_control_flow_operation, can_start_instruction}
 use Rattle.grammar.specs.Run.{Res, P, Block, pure, in_node, pick, ◌>>=◌, ◌>>◌}
 use Rattle.grammar.specs.declared.message.Message.{Message}
-use Rattle.grammar.specs.declared.message.BlockMessage.TheVariants.{DocCommentInBlock, UnexpectedTokenInBlock}
+use Rattle.grammar.specs.declared.message.PlainMessage.TheVariants.{DocCommentInBlock, UnexpectedTokenInBlock}
 use Rattle.grammar.specs.declared.block.BlockOwner.{BlockOwner}
 use Rattle.grammar.specs.declared.block.Terminators.{Terminators}
 use Rattle.grammar.specs.declared.block.BlockRecoveryBoundary.{BlockRecoveryBoundary}
@@ -44,9 +44,9 @@ silent f r = let x = f r in record { rest = x.rest; out = x.out; val = true }
 
 unfoldable pub taking : Taken → P Bool
 taking Taken.Trivia = bump
-taking Taken.Doc = error_token (Message.Block DocCommentInBlock)
+taking Taken.Doc = error_token (Message.Plain DocCommentInBlock)
 taking Taken.Instruction = silent parse_instruction
-taking Taken.Bad = error_token (Message.Block UnexpectedTokenInBlock)
+taking Taken.Bad = error_token (Message.Plain UnexpectedTokenInBlock)
 
 unfoldable pub block_ending : Closing → BlockOwner → P BlockParseOutcome
 block_ending Closing.Eof owner = error_here (Message.MissingEnd owner) >> pure BlockParseOutcome.ReachedEof

@@ -2,7 +2,7 @@
 ghost use Rattle.grammar.specs.Block.{reject_excessive_control_flow_nesting as reject};
 ghost use Rattle.parser.specs.Rep.{entry, exit, Ran};
 
-use grammar::message::{BlockMessage, Message};
+use grammar::message::{Message, PlainMessage};
 use lexer::syntax::SyntaxKind;
 use parser::cursor::Cursor;
 use parser::state::Parser;
@@ -12,7 +12,7 @@ pub fn reject_excessive_control_flow_nesting(parser: &mut Parser, c0: Cursor) ->
     ensures { Ran reject (entry parser c0) (exit parser result) }
 {
     let a = parser.start_node(c0, SyntaxKind::Error);
-    let mut c = parser.error_here(a, Message::Block(BlockMessage::NestingTooDeep));
+    let mut c = parser.error_here(a, Message::Plain(PlainMessage::NestingTooDeep));
     while !parser.eof(c.pos) {
         c = parser.bump(c);
     }

@@ -1,20 +1,20 @@
 // The rounds of parse_block's loop that take tokens and go on.
 ghost use Rattle.grammar.specs.Bump.{error_token};
-ghost use Rattle.grammar.specs.declared.message.Message.TheVariants.{Block as block};
+ghost use Rattle.grammar.specs.declared.message.Message.TheVariants.{Plain as plain};
 ghost use Rattle.parser.specs.Rep.{entry, exit, Ran};
 ghost use Rattle.blocks.specs.Arms.{taking};
 
 use crate::arm::Taken;
 use forms::instruction::parse_instruction;
-use grammar::message::{BlockMessage, Message};
+use grammar::message::{Message, PlainMessage};
 use parser::cursor::Cursor;
 use parser::state::Parser;
 
 // An Error node around a token that has no place in a block.
-fn bad_token(parser: &mut Parser, c0: Cursor, m: BlockMessage) -> Cursor
-    ensures { Ran (error_token (block m)) (entry parser c0) (exit parser result) }
+fn bad_token(parser: &mut Parser, c0: Cursor, m: PlainMessage) -> Cursor
+    ensures { Ran (error_token (plain m)) (entry parser c0) (exit parser result) }
 {
-    parser.error_token(c0, Message::Block(m))
+    parser.error_token(c0, Message::Plain(m))
 }
 
 pub fn take(parser: &mut Parser, c0: Cursor, t: Taken) -> Cursor
@@ -22,8 +22,8 @@ pub fn take(parser: &mut Parser, c0: Cursor, t: Taken) -> Cursor
 {
     match t {
         Taken::Trivia => parser.bump(c0),
-        Taken::Doc => bad_token(parser, c0, BlockMessage::DocCommentInBlock),
+        Taken::Doc => bad_token(parser, c0, PlainMessage::DocCommentInBlock),
         Taken::Instruction => parse_instruction(parser, c0),
-        Taken::Bad => bad_token(parser, c0, BlockMessage::UnexpectedTokenInBlock),
+        Taken::Bad => bad_token(parser, c0, PlainMessage::UnexpectedTokenInBlock),
     }
 }

@@ -6,7 +6,7 @@ ghost use Rattle.grammar.specs.Block.{suffix_operand, suffix_round, parse_struct
 ghost use Rattle.parser.specs.Rep.{entry, exit, Ran, RanTo};
 
 use forms::path::parse_balanced_group;
-use grammar::message::{BlockMessage, Message};
+use grammar::message::{Message, PlainMessage};
 use lexer::syntax::{L_BRACKET, SyntaxKind};
 use parser::cursor::{Cursor, Flow};
 use parser::kinds::{in_set, is_name_like};
@@ -31,7 +31,7 @@ fn suffix_operand(parser: &mut Parser, c0: Cursor) -> Flow
             c0,
             SyntaxKind::LBracket,
             SyntaxKind::RBracket,
-            Message::Block(BlockMessage::ExpectedSuffixEnd),
+            Message::Plain(PlainMessage::ExpectedSuffixEnd),
         );
         return Flow { c: g, ok: true };
     }
@@ -39,7 +39,7 @@ fn suffix_operand(parser: &mut Parser, c0: Cursor) -> Flow
         let d = parser.bump(c0);
         return Flow { c: d, ok: true };
     }
-    let e = parser.error_here(c0, Message::Block(BlockMessage::ExpectedSuffix));
+    let e = parser.error_here(c0, Message::Plain(PlainMessage::ExpectedSuffix));
     Flow { c: e, ok: false }
 }
 

@@ -6,7 +6,7 @@ use Rattle.grammar.specs.Look.{one_of, at, at_kind, line_break_starts_new_top_le
 use Rattle.grammar.specs.Run.{P, ◌>>◌, when◌then◌else◌}
 use Rattle.grammar.specs.declared.nesting.Nesting.{Nesting}
 use Rattle.grammar.specs.declared.message.Message.{Message}
-use Rattle.grammar.specs.declared.message.ItemMessage.TheVariants.{ExpectedTypeOrEnum}
+use Rattle.grammar.specs.declared.message.PlainMessage.TheVariants.{ExpectedTypeOrEnum}
 use Rattle.grammar.specs.Bump.{bump, error_here, nop, bump_regular_trivia, expect_kind, expect_keyword, expect_name}
 use Rattle.grammar.specs.Nesting.{is_root}
 use Rattle.grammar.specs.Path.{parse_balanced_group}
@@ -35,4 +35,4 @@ type_ends n r = at_kind Newline r && (is_root n && line_break_starts_new_top_lev
 
 -- parse_type_decl, behind its visibility and trivia
 abbrev pub type_keyword : P Bool
-type_keyword = when at (one_of (TYPE ∷ ENUM ∷ [])) then (bump >> type_name_and_body) else error_here (Message.Item ExpectedTypeOrEnum)
+type_keyword = when at (one_of (TYPE ∷ ENUM ∷ [])) then (bump >> type_name_and_body) else error_here (Message.Plain ExpectedTypeOrEnum)

@@ -3,7 +3,7 @@ ghost use Rattle.grammar.specs.Item.{parse_advice_map};
 ghost use Rattle.parser.specs.Rep.{entry, exit, Ran};
 
 use crate::parts::{keyword_and_name, optional_parens, value_line};
-use grammar::message::{ItemMessage, Message};
+use grammar::message::{Message, PlainMessage};
 use grammar::words::Word;
 use lexer::syntax::SyntaxKind;
 use parser::cursor::Cursor;
@@ -18,18 +18,18 @@ pub fn parse_advice_map(parser: &mut Parser, c0: Cursor) -> Cursor
         a,
         Word::AdvMap,
         Message::Unreached,
-        Message::Item(ItemMessage::ExpectedAdviceMapName),
+        Message::Plain(PlainMessage::ExpectedAdviceMapName),
     );
     let d = parser.bump_inline_whitespace(b);
     let e = optional_parens(
         parser,
         d,
-        Message::Item(ItemMessage::ExpectedAdviceMapKeyEnd),
+        Message::Plain(PlainMessage::ExpectedAdviceMapKeyEnd),
     );
     let f = value_line(
         parser,
         e,
-        Message::Item(ItemMessage::ExpectedAdviceMapEqual),
+        Message::Plain(PlainMessage::ExpectedAdviceMapEqual),
     );
     parser.finish_node(f)
 }

@@ -4,7 +4,7 @@ ghost use Rattle.grammar.specs.Item.{parse_attribute, attribute_round};
 ghost use Rattle.parser.specs.Rep.{entry, exit, Ran, RanTo};
 
 use crate::parts::{name_behind, optional_parens};
-use grammar::message::{Message, ProcedureMessage};
+use grammar::message::{Message, PlainMessage};
 use lexer::syntax::SyntaxKind;
 use parser::cursor::{Cursor, Flow};
 use parser::state::Parser;
@@ -17,13 +17,13 @@ pub fn parse_attribute(parser: &mut Parser, c0: Cursor) -> Cursor
     let d = name_behind(
         parser,
         b.c,
-        Message::Procedure(ProcedureMessage::ExpectedAttributeName),
+        Message::Plain(PlainMessage::ExpectedAttributeName),
     );
     let e = parser.bump_inline_whitespace(d);
     let f = optional_parens(
         parser,
         e,
-        Message::Procedure(ProcedureMessage::ExpectedAttributeEnd),
+        Message::Plain(PlainMessage::ExpectedAttributeEnd),
     );
     parser.finish_node(f)
 }

@@ -4,7 +4,7 @@ ghost use Rattle.parser.specs.Rep.{entry, exit, Ran};
 
 use crate::parts::{keyword_and_name, value_line};
 use crate::visibility::optional_visibility;
-use grammar::message::{ItemMessage, Message};
+use grammar::message::{Message, PlainMessage};
 use grammar::words::Word;
 use lexer::syntax::SyntaxKind;
 use parser::cursor::Cursor;
@@ -19,9 +19,13 @@ pub fn parse_constant(parser: &mut Parser, c0: Cursor) -> Cursor
         parser,
         b,
         Word::Const,
-        Message::Item(ItemMessage::ExpectedConst),
-        Message::Item(ItemMessage::ExpectedConstantName),
+        Message::Plain(PlainMessage::ExpectedConst),
+        Message::Plain(PlainMessage::ExpectedConstantName),
     );
-    let e = value_line(parser, d, Message::Item(ItemMessage::ExpectedConstantEqual));
+    let e = value_line(
+        parser,
+        d,
+        Message::Plain(PlainMessage::ExpectedConstantEqual),
+    );
     parser.finish_node(e)
 }

@@ -4,7 +4,7 @@ ghost use Rattle.parser.specs.Rep.{entry, exit, Ran};
 
 use forms::line::parse_signature_result_until_line_end;
 use forms::path::parse_balanced_group;
-use grammar::message::{Message, ProcedureMessage};
+use grammar::message::{Message, PlainMessage};
 use lexer::syntax::SyntaxKind;
 use parser::cursor::Cursor;
 use parser::state::Parser;
@@ -22,7 +22,7 @@ fn parse_results(parser: &mut Parser, c0: Cursor) -> Cursor
             d,
             SyntaxKind::LParen,
             SyntaxKind::RParen,
-            Message::Procedure(ProcedureMessage::ExpectedResultsEnd),
+            Message::Plain(PlainMessage::ExpectedResultsEnd),
         );
     }
     parse_signature_result_until_line_end(parser, d)
@@ -37,7 +37,7 @@ pub fn parse_signature(parser: &mut Parser, c0: Cursor) -> Cursor
         a,
         SyntaxKind::LParen,
         SyntaxKind::RParen,
-        Message::Procedure(ProcedureMessage::ExpectedParametersEnd),
+        Message::Plain(PlainMessage::ExpectedParametersEnd),
     );
     let next = parser.peek_after_non_comment_trivia(b.pos);
     if parser.at_kind(next, SyntaxKind::RArrow) {

@@ -5,7 +5,7 @@ ghost use Rattle.parser.specs.Rep.{entry, exit, Ran};
 use crate::parts::keyword_and_name;
 use crate::visibility::optional_visibility;
 use forms::line::parse_line_tail;
-use grammar::message::{ItemMessage, Message};
+use grammar::message::{Message, PlainMessage};
 use grammar::words::Word;
 use lexer::syntax::SyntaxKind;
 use parser::cursor::Cursor;
@@ -20,8 +20,8 @@ pub fn parse_submodule(parser: &mut Parser, c0: Cursor) -> Cursor
         parser,
         b,
         Word::Mod,
-        Message::Item(ItemMessage::ExpectedMod),
-        Message::Item(ItemMessage::ExpectedSubmoduleName),
+        Message::Plain(PlainMessage::ExpectedMod),
+        Message::Plain(PlainMessage::ExpectedSubmoduleName),
     );
     let e = parse_line_tail(parser, d);
     parser.finish_node(e)

@@ -9,7 +9,7 @@ ghost use Rattle.parser.specs.Ahead.{BreakKnown};
 ghost use Rattle.declarations.specs.Parts.{type_keyword, type_ends};
 
 use crate::visibility::optional_visibility;
-use grammar::message::{ItemMessage, Message};
+use grammar::message::{Message, PlainMessage};
 use grammar::nesting::Nesting;
 use lexer::syntax::SyntaxKind;
 use parser::cursor::Cursor;
@@ -73,12 +73,12 @@ fn type_name_and_body(parser: &mut Parser, c0: Cursor) -> Cursor
     ensures { Ran type_name_and_body (entry parser c0) (exit parser result) }
 {
     let a = parser.bump_regular_trivia(c0);
-    let b = parser.expect_name(a, Message::Item(ItemMessage::ExpectedTypeName));
+    let b = parser.expect_name(a, Message::Plain(PlainMessage::ExpectedTypeName));
     let d = parser.bump_regular_trivia(b);
     if in_set(EQUAL_OR_COLON, parser.current(d.pos)) {
         return parse_type_body(parser, d);
     }
-    parser.error_here(d, Message::Item(ItemMessage::ExpectedTypeEqualOrColon))
+    parser.error_here(d, Message::Plain(PlainMessage::ExpectedTypeEqualOrColon))
 }
 
 // The keyword and what stands behind it, or a diagnostic.
@@ -89,7 +89,7 @@ fn type_keyword(parser: &mut Parser, c0: Cursor) -> Cursor
         let a = parser.bump(c0);
         return type_name_and_body(parser, a);
     }
-    parser.error_here(c0, Message::Item(ItemMessage::ExpectedTypeOrEnum))
+    parser.error_here(c0, Message::Plain(PlainMessage::ExpectedTypeOrEnum))
 }
 
 pub fn parse_type_decl(parser: &mut Parser, c0: Cursor) -> Cursor

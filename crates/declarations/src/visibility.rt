@@ -2,7 +2,7 @@
 ghost use Rattle.grammar.specs.Item.{package_in_parens, parse_visibility, optional_visibility};
 ghost use Rattle.parser.specs.Rep.{entry, exit, Ran};
 
-use grammar::message::{Message, ProcedureMessage};
+use grammar::message::{Message, PlainMessage};
 use grammar::words::Word;
 use lexer::syntax::SyntaxKind;
 use parser::cursor::Cursor;
@@ -17,12 +17,12 @@ fn package_in_parens(parser: &mut Parser, c0: Cursor) -> Cursor
     let d = parser.expect_keyword(
         b,
         Word::Package,
-        Message::Procedure(ProcedureMessage::ExpectedPackage),
+        Message::Plain(PlainMessage::ExpectedPackage),
     );
     let e = parser.expect_kind(
         d.c,
         SyntaxKind::RParen,
-        Message::Procedure(ProcedureMessage::ExpectedPackageEnd),
+        Message::Plain(PlainMessage::ExpectedPackageEnd),
     );
     e.c
 }

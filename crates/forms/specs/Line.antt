@@ -5,7 +5,7 @@ use Rattle.grammar.specs.Words.{Sym}
 use Rattle.grammar.specs.Look.{one_of, at, at_kind, space_before_top_level_item}
 use Rattle.grammar.specs.Run.{P, pick}
 use Rattle.grammar.specs.declared.message.Message.{Message}
-use Rattle.grammar.specs.declared.message.ProcedureMessage.{ProcedureMessage}
+use Rattle.grammar.specs.declared.message.PlainMessage.{PlainMessage}
 use Rattle.grammar.specs.declared.nesting.Nesting.{Nesting}
 use Rattle.grammar.specs.Bump.{nop, error_here}
 use Rattle.grammar.specs.Nesting.{is_root}
@@ -18,4 +18,4 @@ expr_ends n saw r = line_ends n r || (is_root n && (saw && (at_kind Whitespace r
 
 -- a result type must have a token
 unfoldable pub result_end : Bool → P Bool
-result_end taken = pick taken nop (error_here (Message.Procedure ProcedureMessage.ExpectedResultType))
+result_end taken = pick taken nop (error_here (Message.Plain PlainMessage.ExpectedResultType))

@@ -8,7 +8,7 @@ ghost use Rattle.grammar.specs.Line.{parse_signature_result_until_line_end};
 ghost use Rattle.parser.specs.Rep.{entry, exit, Ran};
 ghost use Rattle.forms.specs.Line.{line_ends, expr_ends, result_end};
 
-use grammar::message::{Message, ProcedureMessage};
+use grammar::message::{Message, PlainMessage};
 use grammar::nesting::Nesting;
 use lexer::syntax::SyntaxKind;
 use parser::cursor::Cursor;
@@ -91,7 +91,7 @@ fn result_end(parser: &mut Parser, c0: Cursor, taken: bool) -> Cursor
     if taken {
         return c0;
     }
-    parser.error_here(c0, Message::Procedure(ProcedureMessage::ExpectedResultType))
+    parser.error_here(c0, Message::Plain(PlainMessage::ExpectedResultType))
 }
 
 pub fn parse_signature_result_until_line_end(parser: &mut Parser, c0: Cursor) -> Cursor

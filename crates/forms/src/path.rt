@@ -6,7 +6,7 @@ ghost use Rattle.grammar.specs.Path.{path_segment, path_round, parse_path_with_m
 ghost use Rattle.parser.specs.Rep.{entry, exit, Ran, RanTo};
 ghost use Rattle.forms.specs.Path.{path_names, group_step, group_rest};
 
-use grammar::message::{ItemMessage, Message};
+use grammar::message::{Message, PlainMessage};
 use lexer::syntax::SyntaxKind;
 use parser::cursor::{Cursor, Flow};
 use parser::kinds::is_name_like;
@@ -23,7 +23,7 @@ fn path_segment(parser: &mut Parser, c0: Cursor) -> Flow
         let e = parser.bump(d);
         return Flow { c: e, ok: true };
     }
-    let e = parser.error_here(d, Message::Item(ItemMessage::ExpectedPathSegment));
+    let e = parser.error_here(d, Message::Plain(PlainMessage::ExpectedPathSegment));
     Flow { c: e, ok: false }
 }
 

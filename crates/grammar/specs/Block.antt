@@ -25,10 +25,10 @@ MAX_CONTROL_FLOW_NESTING = 256
 -- Behind the dot of a suffix.
 unfoldable pub suffix_operand : P Bool
 suffix_operand =
-    when at_kind LBracket then (parse_balanced_group LBracket RBracket (Message.Block ExpectedSuffixEnd) >> pure true) else
+    when at_kind LBracket then (parse_balanced_group LBracket RBracket (Message.Plain ExpectedSuffixEnd) >> pure true) else
     when at_name_like then (bump >> pure true) else
     when at (one_of (Number ∷ QuotedString ∷ [])) then (bump >> pure true) else
-    (error_here (Message.Block ExpectedSuffix) >> pure false)
+    (error_here (Message.Plain ExpectedSuffix) >> pure false)
 
 unfoldable pub suffix_round : P Bool
 suffix_round = do
@@ -44,7 +44,7 @@ all_round l r = go l
 
 -- reject_excessive_control_flow_nesting, past its test of the depth
 unfoldable pub reject_excessive_control_flow_nesting : P Bool
-reject_excessive_control_flow_nesting = in_node Error (error_here (Message.Block NestingTooDeep) >> scan all_round true)
+reject_excessive_control_flow_nesting = in_node Error (error_here (Message.Plain NestingTooDeep) >> scan all_round true)
 
 abbrev pub found_terminator : BlockParseOutcome → Bool
 found_terminator BlockParseOutcome.FoundTerminator = true
@@ -131,12 +131,12 @@ block_round again limit owner terminators depth =
     when at_regular_trivia then (bump >> again owner terminators depth) else
     when at_stray_else terminators then recover owner BlockRecoveryBoundary.Else else
     when at_top_level_form_starter_in_block then recover owner BlockRecoveryBoundary.TopLevelItem else
-    when at_kind DocComment then (error_token (Message.Block DocCommentInBlock) >> again owner terminators depth) else
+    when at_kind DocComment then (error_token (Message.Plain DocCommentInBlock) >> again owner terminators depth) else
     when at_control_flow_operation then
     pick (leb limit depth) (reject_excessive_control_flow_nesting >> pure BlockParseOutcome.ReachedEof)
     (parse_control_flow (λ o t d. in_node Block (again o t d)) (suc depth) >>= λ ended_here. pick ended_here (pure BlockParseOutcome.ReachedEof) (again owner terminators depth)) else
     when can_start_instruction then (parse_instruction >> again owner terminators depth) else
-    (error_token (Message.Block UnexpectedTokenInBlock) >> again owner terminators depth)
+    (error_token (Message.Plain UnexpectedTokenInBlock) >> again owner terminators depth)
 
 -- The loop by fuel. With more fuel than tokens left it does not run out (Theorems.Rounds), and is the loop without fuel (Theorems.NoFuel).
 unfoldable pub block_loop : ℕ → ℕ → Blocks

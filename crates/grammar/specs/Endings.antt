@@ -3,14 +3,14 @@
 -- Assumes nothing: these are definitions.
 use Rattle.std.specs.Prelude.{ℕ, Bool, cond, ◌&&◌, ◌||◌, List, [], ◌∷◌, eqb, leb}
 use Rattle.grammar.specs.Run.{Kind, Error, BeginBlock, Procedure, Block, IfOp, WhileOp, DoWhileOp, RepeatOp, Forest, nil, node, say, ◌<>◌}
-use Rattle.grammar.specs.Message.{missing_end_number, block_number, NestingTooDeep}
+use Rattle.grammar.specs.Message.{missing_end_number, plain_number, NestingTooDeep}
 use Rattle.grammar.specs.Block.{BlockOwner}
 use Rattle.grammar.specs.Out.{Diag}
 use Rattle.grammar.specs.Laws.Good.{Calm}
 
 -- The number of a missing closer, 1 to 7, or of the depth diagnostic, 49.
 abbrev pub ending : ℕ → Bool
-ending m = (leb 1 m && leb m 7) || eqb (block_number NestingTooDeep) m
+ending m = (leb 1 m && leb m 7) || eqb (plain_number NestingTooDeep) m
 
 -- ---- By the diagnostics.
 -- Those with such a number.
@@ -22,7 +22,7 @@ endings (d ∷ l) = cond (ending d.msg) (d ∷ endings l) (endings l)
 pub data Endings (n : ℕ) : List Diag → Type 0 where
   no_ending : Endings n []
   missing_closer : (w : BlockOwner) → Endings n (record { msg = missing_end_number w; pos = n } ∷ [])
-  past_limit : (i : ℕ) → Endings n (record { msg = block_number NestingTooDeep; pos = i } ∷ [])
+  past_limit : (i : ℕ) → Endings n (record { msg = plain_number NestingTooDeep; pos = i } ∷ [])
 
 -- ---- By the forest.
 -- The node that the owner's blocks stand in.
@@ -39,7 +39,7 @@ holder BlockOwner.Repeat = RepeatOp
 -- past the depth limit; or its last tree is such a tree. Nothing is reported before or behind.
 pub data Unclosed : Forest → Type 0 where
   reports : (w : BlockOwner) (x y : Forest) → Calm ending x → Calm ending y → Unclosed (node (holder w) (x <> node Block (y <> say (missing_end_number w) nil) nil) nil)
-  rest_of_file : (x : Forest) → Calm ending x → Unclosed (node Error (say (block_number NestingTooDeep) x) nil)
+  rest_of_file : (x : Forest) → Calm ending x → Unclosed (node Error (say (plain_number NestingTooDeep) x) nil)
   in_last : (k : Kind) (x y : Forest) → Calm ending x → Unclosed y → Unclosed (node k (x <> y) nil)
 
 -- The whole file: nothing is reported; or its last tree is one that the file ended in, and nothing is reported before it.

@@ -19,8 +19,8 @@ unfoldable pub package_in_parens : P Bool
 package_in_parens = do
   bump_regular_trivia
   bump
-  expect_keyword PACKAGE (Message.Procedure ExpectedPackage)
-  expect_kind RParen (Message.Procedure ExpectedPackageEnd)
+  expect_keyword PACKAGE (Message.Plain ExpectedPackage)
+  expect_kind RParen (Message.Plain ExpectedPackageEnd)
 
 unfoldable pub parse_visibility : P Bool
 parse_visibility = in_node Visibility do
@@ -35,9 +35,9 @@ unfoldable pub parse_attribute : P Bool
 parse_attribute = in_node Attribute do
   expect_kind At Message.Unreached
   bump_regular_trivia
-  expect_name (Message.Procedure ExpectedAttributeName)
+  expect_name (Message.Plain ExpectedAttributeName)
   bump_inline_whitespace
-  when at_kind LParen then parse_balanced_group LParen RParen (Message.Procedure ExpectedAttributeEnd) else nop
+  when at_kind LParen then parse_balanced_group LParen RParen (Message.Plain ExpectedAttributeEnd) else nop
 
 -- parse_signature, behind the arrow
 unfoldable pub parse_results : P Bool
@@ -45,11 +45,11 @@ parse_results = do
   bump_non_comment_trivia
   bump
   bump_non_comment_trivia
-  when at_kind LParen then parse_balanced_group LParen RParen (Message.Procedure ExpectedResultsEnd) else parse_signature_result_until_line_end
+  when at_kind LParen then parse_balanced_group LParen RParen (Message.Plain ExpectedResultsEnd) else parse_signature_result_until_line_end
 
 unfoldable pub parse_signature : P Bool
 parse_signature = in_node Signature do
-  parse_balanced_group LParen RParen (Message.Procedure ExpectedParametersEnd)
+  parse_balanced_group LParen RParen (Message.Plain ExpectedParametersEnd)
   when (λ r. at_kind RArrow (peek_after_non_comment_trivia r)) then parse_results else nop
 
 abbrev pub parse_doc_form : P Bool
@@ -59,15 +59,15 @@ unfoldable pub parse_namespace : P Bool
 parse_namespace = in_node Namespace do
   expect_keyword NAMESPACE Message.Unreached
   bump_regular_trivia
-  parse_path_with_message (Message.Item ExpectedNamespacePath)
+  parse_path_with_message (Message.Plain ExpectedNamespacePath)
   parse_line_tail
 
 unfoldable pub parse_submodule : P Bool
 parse_submodule = in_node Submodule do
   optional_visibility
-  expect_keyword MOD (Message.Item ExpectedMod)
+  expect_keyword MOD (Message.Plain ExpectedMod)
   bump_regular_trivia
-  expect_name (Message.Item ExpectedSubmoduleName)
+  expect_name (Message.Plain ExpectedSubmoduleName)
   parse_line_tail
 
 unfoldable pub attribute_round : P Bool
@@ -79,7 +79,7 @@ attribute_round = do
 unfoldable pub procedure_body : Blocks → P Bool
 procedure_body block = do
   bump_regular_trivia
-  expect_name (Message.Procedure ExpectedProcedureName)
+  expect_name (Message.Plain ExpectedProcedureName)
   bump_regular_trivia
   when at_kind LParen then parse_signature else nop
   parse_line_tail
@@ -92,7 +92,7 @@ parse_procedure block = in_node Procedure do
   bump_regular_trivia
   optional_visibility
   bump_regular_trivia
-  declared ← expect_keyword PROC (Message.Procedure ExpectedProc)
+  declared ← expect_keyword PROC (Message.Plain ExpectedProc)
   pick (not declared) nop (procedure_body block)
 
 unfoldable pub parse_begin_block : Blocks → P Bool
@@ -105,10 +105,10 @@ parse_begin_block block = in_node BeginBlock do
 unfoldable pub parse_constant : P Bool
 parse_constant = in_node Constant do
   optional_visibility
-  expect_keyword CONST (Message.Item ExpectedConst)
+  expect_keyword CONST (Message.Plain ExpectedConst)
   bump_regular_trivia
-  expect_name (Message.Item ExpectedConstantName)
-  expect_kind Equal (Message.Item ExpectedConstantEqual)
+  expect_name (Message.Plain ExpectedConstantName)
+  expect_kind Equal (Message.Plain ExpectedConstantEqual)
   parse_expr_until_line_end
   parse_line_tail
 
@@ -116,24 +116,24 @@ parse_constant = in_node Constant do
 unfoldable pub type_name_and_body : P Bool
 type_name_and_body = do
   bump_regular_trivia
-  expect_name (Message.Item ExpectedTypeName)
+  expect_name (Message.Plain ExpectedTypeName)
   bump_regular_trivia
-  when at (one_of (Equal ∷ Colon ∷ [])) then (parse_type_body >> nop) else error_here (Message.Item ExpectedTypeEqualOrColon)
+  when at (one_of (Equal ∷ Colon ∷ [])) then (parse_type_body >> nop) else error_here (Message.Plain ExpectedTypeEqualOrColon)
 
 unfoldable pub parse_type_decl : P Bool
 parse_type_decl = in_node TypeDecl do
   optional_visibility
   bump_regular_trivia
-  when at (one_of (TYPE ∷ ENUM ∷ [])) then (bump >> type_name_and_body) else error_here (Message.Item ExpectedTypeOrEnum)
+  when at (one_of (TYPE ∷ ENUM ∷ [])) then (bump >> type_name_and_body) else error_here (Message.Plain ExpectedTypeOrEnum)
 
 unfoldable pub parse_advice_map : P Bool
 parse_advice_map = in_node AdviceMap do
   expect_keyword ADV_MAP Message.Unreached
   bump_regular_trivia
-  expect_name (Message.Item ExpectedAdviceMapName)
+  expect_name (Message.Plain ExpectedAdviceMapName)
   bump_inline_whitespace
-  when at_kind LParen then parse_balanced_group LParen RParen (Message.Item ExpectedAdviceMapKeyEnd) else nop
-  expect_kind Equal (Message.Item ExpectedAdviceMapEqual)
+  when at_kind LParen then parse_balanced_group LParen RParen (Message.Plain ExpectedAdviceMapKeyEnd) else nop
+  expect_kind Equal (Message.Plain ExpectedAdviceMapEqual)
   parse_expr_until_line_end
   parse_line_tail
 
@@ -155,7 +155,7 @@ parse_source_item block =
     when at_declaration (CONST ∷ []) then parse_constant else
     when at_declaration (TYPE ∷ ENUM ∷ []) then parse_type_decl else
     when at_keyword ADV_MAP then parse_advice_map else
-    error_token (Message.Item UnexpectedTopLevelToken)
+    error_token (Message.Plain UnexpectedTopLevelToken)
 
 -- parse's loop, by fuel; its equation without fuel is in Theorems.NoFuel.
 unfoldable pub items : ℕ → ℕ → P Bool

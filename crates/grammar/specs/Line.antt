@@ -57,4 +57,4 @@ result_round l r =
 unfoldable pub parse_signature_result_until_line_end : P Bool
 parse_signature_result_until_line_end = do
   l ← scan result_round (record { nesting = default; taken = false })
-  pick l.taken nop (error_here (Message.Procedure ExpectedResultType))
+  pick l.taken nop (error_here (Message.Plain ExpectedResultType))

@@ -5,47 +5,39 @@ use Rattle.std.specs.Prelude.{ℕ, ◌+◌, ◌*◌}
 use Rattle.grammar.specs.declared.nesting.Closer.{Closer}
 use Rattle.grammar.specs.declared.block.BlockOwner.{BlockOwner}
 use Rattle.grammar.specs.declared.block.BlockRecoveryBoundary.{BlockRecoveryBoundary}
-use Rattle.grammar.specs.declared.message.ItemMessage.{ItemMessage}
-pub use Rattle.grammar.specs.declared.message.ItemMessage.TheVariants.{UnexpectedTopLevelToken, ExpectedNamespacePath, ExpectedMod, ExpectedSubmoduleName, ExpectedConst, ExpectedConstantName, ExpectedConstantEqual, ExpectedTypeOrEnum, ExpectedTypeName, ExpectedTypeEqualOrColon, ExpectedAdviceMapName, ExpectedAdviceMapKeyEnd, ExpectedAdviceMapEqual, ExpectedPathSegment}
-use Rattle.grammar.specs.declared.message.ProcedureMessage.{ProcedureMessage}
-pub use Rattle.grammar.specs.declared.message.ProcedureMessage.TheVariants.{ExpectedProc, ExpectedProcedureName, ExpectedAttributeName, ExpectedAttributeEnd, ExpectedPackage, ExpectedPackageEnd, ExpectedParametersEnd, ExpectedResultsEnd, ExpectedResultType}
-use Rattle.grammar.specs.declared.message.BlockMessage.{BlockMessage}
-pub use Rattle.grammar.specs.declared.message.BlockMessage.TheVariants.{DocCommentInBlock, UnexpectedTokenInBlock, ExpectedSuffixEnd, ExpectedSuffix, NestingTooDeep}
+use Rattle.grammar.specs.declared.message.PlainMessage.{PlainMessage}
+pub use Rattle.grammar.specs.declared.message.PlainMessage.TheVariants.{UnexpectedTopLevelToken, ExpectedNamespacePath, ExpectedMod, ExpectedSubmoduleName, ExpectedConst, ExpectedConstantName, ExpectedConstantEqual, ExpectedTypeOrEnum, ExpectedTypeName, ExpectedTypeEqualOrColon, ExpectedAdviceMapName, ExpectedAdviceMapKeyEnd, ExpectedAdviceMapEqual, ExpectedPathSegment, ExpectedProc, ExpectedProcedureName, ExpectedAttributeName, ExpectedAttributeEnd, ExpectedPackage, ExpectedPackageEnd, ExpectedParametersEnd, ExpectedResultsEnd, ExpectedResultType, DocCommentInBlock, UnexpectedTokenInBlock, ExpectedSuffixEnd, ExpectedSuffix, NestingTooDeep}
 pub use Rattle.grammar.specs.declared.message.Message.{Message}
 
-abbrev pub item_number : ItemMessage → ℕ
-item_number UnexpectedTopLevelToken = 22
-item_number ExpectedNamespacePath = 23
-item_number ExpectedMod = 24
-item_number ExpectedSubmoduleName = 25
-item_number ExpectedConst = 26
-item_number ExpectedConstantName = 27
-item_number ExpectedConstantEqual = 28
-item_number ExpectedTypeOrEnum = 29
-item_number ExpectedTypeName = 30
-item_number ExpectedTypeEqualOrColon = 31
-item_number ExpectedAdviceMapName = 32
-item_number ExpectedAdviceMapKeyEnd = 33
-item_number ExpectedAdviceMapEqual = 34
-item_number ExpectedPathSegment = 35
-
-abbrev pub procedure_number : ProcedureMessage → ℕ
-procedure_number ExpectedProc = 36
-procedure_number ExpectedProcedureName = 37
-procedure_number ExpectedAttributeName = 38
-procedure_number ExpectedAttributeEnd = 39
-procedure_number ExpectedPackage = 40
-procedure_number ExpectedPackageEnd = 41
-procedure_number ExpectedParametersEnd = 42
-procedure_number ExpectedResultsEnd = 43
-procedure_number ExpectedResultType = 44
-
-abbrev pub block_number : BlockMessage → ℕ
-block_number DocCommentInBlock = 45
-block_number UnexpectedTokenInBlock = 46
-block_number ExpectedSuffixEnd = 47
-block_number ExpectedSuffix = 48
-block_number NestingTooDeep = 49
+abbrev pub plain_number : PlainMessage → ℕ
+plain_number UnexpectedTopLevelToken = 22
+plain_number ExpectedNamespacePath = 23
+plain_number ExpectedMod = 24
+plain_number ExpectedSubmoduleName = 25
+plain_number ExpectedConst = 26
+plain_number ExpectedConstantName = 27
+plain_number ExpectedConstantEqual = 28
+plain_number ExpectedTypeOrEnum = 29
+plain_number ExpectedTypeName = 30
+plain_number ExpectedTypeEqualOrColon = 31
+plain_number ExpectedAdviceMapName = 32
+plain_number ExpectedAdviceMapKeyEnd = 33
+plain_number ExpectedAdviceMapEqual = 34
+plain_number ExpectedPathSegment = 35
+plain_number ExpectedProc = 36
+plain_number ExpectedProcedureName = 37
+plain_number ExpectedAttributeName = 38
+plain_number ExpectedAttributeEnd = 39
+plain_number ExpectedPackage = 40
+plain_number ExpectedPackageEnd = 41
+plain_number ExpectedParametersEnd = 42
+plain_number ExpectedResultsEnd = 43
+plain_number ExpectedResultType = 44
+plain_number DocCommentInBlock = 45
+plain_number UnexpectedTokenInBlock = 46
+plain_number ExpectedSuffixEnd = 47
+plain_number ExpectedSuffix = 48
+plain_number NestingTooDeep = 49
 
 abbrev pub closer_number : Closer → ℕ
 closer_number Closer.Paren = 51
@@ -67,9 +59,7 @@ recovery_number o BlockRecoveryBoundary.Else = 6 + 2 * missing_end_number o
 recovery_number o BlockRecoveryBoundary.TopLevelItem = 7 + 2 * missing_end_number o
 
 unfoldable pub number : Message → ℕ
-number (Message.Item m) = item_number m
-number (Message.Procedure m) = procedure_number m
-number (Message.Block m) = block_number m
+number (Message.Plain m) = plain_number m
 number (Message.UnexpectedCloser c) = closer_number c
 number (Message.MissingEnd o) = missing_end_number o
 number (Message.Recovery o b) = recovery_number o b

@@ -15,7 +15,7 @@ path_segment = do
   bump_non_comment_trivia
   bump
   bump_non_comment_trivia
-  when at_name_like then (bump >> pure true) else (error_here (Message.Item ExpectedPathSegment) >> pure false)
+  when at_name_like then (bump >> pure true) else (error_here (Message.Plain ExpectedPathSegment) >> pure false)
 
 unfoldable pub path_round : P Bool
 path_round = when (λ r. at_kind ColonColon (peek_after_non_comment_trivia r)) then path_segment else pure false

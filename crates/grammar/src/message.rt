@@ -1,4 +1,4 @@
-// The texts that the parser can report, in groups of at most 16, each by its number in docs/MESSAGES.md.
+// The texts that the parser can report, each by its number in docs/MESSAGES.md; first those that name nothing.
 ghost use Rattle.std.specs.Prelude.{◌≡◌};
 ghost use Rattle.grammar.specs.Message.{number};
 
@@ -6,7 +6,7 @@ use crate::block::{BlockOwner, BlockRecoveryBoundary};
 use crate::nesting::Closer;
 
 #[derive(Clone, Copy)]
-pub enum ItemMessage {
+pub enum PlainMessage {
     UnexpectedTopLevelToken = 22,
     ExpectedNamespacePath = 23,
     ExpectedMod = 24,
@@ -21,10 +21,6 @@ pub enum ItemMessage {
     ExpectedAdviceMapKeyEnd = 33,
     ExpectedAdviceMapEqual = 34,
     ExpectedPathSegment = 35,
-}
-
-#[derive(Clone, Copy)]
-pub enum ProcedureMessage {
     ExpectedProc = 36,
     ExpectedProcedureName = 37,
     ExpectedAttributeName = 38,
@@ -34,10 +30,6 @@ pub enum ProcedureMessage {
     ExpectedParametersEnd = 42,
     ExpectedResultsEnd = 43,
     ExpectedResultType = 44,
-}
-
-#[derive(Clone, Copy)]
-pub enum BlockMessage {
     DocCommentInBlock = 45,
     UnexpectedTokenInBlock = 46,
     ExpectedSuffixEnd = 47,
@@ -48,9 +40,7 @@ pub enum BlockMessage {
 // Unreached: an expect at a keyword that is always there. It has no text, and is never reported.
 #[derive(Clone, Copy)]
 pub enum Message {
-    Item(ItemMessage),
-    Procedure(ProcedureMessage),
-    Block(BlockMessage),
+    Plain(PlainMessage),
     UnexpectedCloser(Closer),
     MissingEnd(BlockOwner),
     Recovery(BlockOwner, BlockRecoveryBoundary),
@@ -64,9 +54,7 @@ impl From<Message> for u16 {
         ensures { result ≡ number m }
     {
         match m {
-            Message::Item(i) => i as u16,
-            Message::Procedure(p) => p as u16,
-            Message::Block(b) => b as u16,
+            Message::Plain(p) => p as u16,
             Message::UnexpectedCloser(c) => c as u16,
             Message::MissingEnd(o) => o as u16,
             Message::Recovery(o, b) => b as u16 + 2 * o as u16,

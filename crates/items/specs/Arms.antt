@@ -8,7 +8,7 @@ use Rattle.grammar.specs.Words.{Sym, MARK, is, ADV_MAP, BEGIN, CONST, ENUM, MOD,
 use Rattle.grammar.specs.Look.{regular_trivia, at_kind, at_keyword, at_regular_trivia}
 use Rattle.grammar.specs.Run.{Res, P}
 use Rattle.grammar.specs.declared.message.Message.{Message}
-use Rattle.grammar.specs.declared.message.ItemMessage.TheVariants.{UnexpectedTopLevelToken}
+use Rattle.grammar.specs.declared.message.PlainMessage.TheVariants.{UnexpectedTopLevelToken}
 use Rattle.grammar.specs.Bump.{bump, error_token}
 use Rattle.grammar.specs.Block.{Blocks}
 use Rattle.grammar.specs.Item.{parse_doc_form, parse_namespace, parse_submodule, parse_procedure, parse_begin_block, parse_constant, parse_type_decl, parse_advice_map, at_declaration, at_procedure, parse_source_item}
@@ -40,7 +40,7 @@ by_item_arm ItemArm.Begin block = parse_begin_block block
 by_item_arm ItemArm.Constant block = parse_constant
 by_item_arm ItemArm.Type block = parse_type_decl
 by_item_arm ItemArm.AdviceMap block = parse_advice_map
-by_item_arm ItemArm.Bad block = error_token (Message.Item UnexpectedTopLevelToken)
+by_item_arm ItemArm.Bad block = error_token (Message.Plain UnexpectedTopLevelToken)
 
 pub item_is : (block : Blocks) (r : List Sym) → parse_source_item block r ≡ by_item_arm (item_arm r) block r
 unfolding parse_source_item item_arm by_item_arm

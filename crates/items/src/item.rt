@@ -11,7 +11,7 @@ use declarations::constant::parse_constant;
 use declarations::namespace::parse_namespace;
 use declarations::submodule::parse_submodule;
 use declarations::type_decl::parse_type_decl;
-use grammar::message::{ItemMessage, Message};
+use grammar::message::{Message, PlainMessage};
 use lexer::syntax::SyntaxKind;
 use parser::cursor::Cursor;
 use parser::state::Parser;
@@ -39,7 +39,10 @@ fn parse_arm(parser: &mut Parser, c0: Cursor, a: ItemArm) -> Cursor
         ItemArm::Constant => parse_constant(parser, c0),
         ItemArm::Type => parse_type_decl(parser, c0),
         ItemArm::AdviceMap => parse_advice_map(parser, c0),
-        ItemArm::Bad => parser.error_token(c0, Message::Item(ItemMessage::UnexpectedTopLevelToken)),
+        ItemArm::Bad => parser.error_token(
+            c0,
+            Message::Plain(PlainMessage::UnexpectedTopLevelToken),
+        ),
     }
 }
 

@@ -12,7 +12,7 @@ use declarations::signature::parse_signature;
 use declarations::visibility::optional_visibility;
 use forms::line::parse_line_tail;
 use grammar::block::{BlockOwner, Terminators};
-use grammar::message::{Message, ProcedureMessage};
+use grammar::message::{Message, PlainMessage};
 use grammar::words::Word;
 use lexer::syntax::SyntaxKind;
 use parser::cursor::{Cursor, Flow};
@@ -32,10 +32,7 @@ fn procedure_header(parser: &mut Parser, c0: Cursor) -> Cursor
     ensures { Ran procedure_header (entry parser c0) (exit parser result) }
 {
     let a = parser.bump_regular_trivia(c0);
-    let b = parser.expect_name(
-        a,
-        Message::Procedure(ProcedureMessage::ExpectedProcedureName),
-    );
+    let b = parser.expect_name(a, Message::Plain(PlainMessage::ExpectedProcedureName));
     let d = parser.bump_regular_trivia(b);
     let e = optional_signature(parser, d);
     parse_line_tail(parser, e)
@@ -64,11 +61,7 @@ fn procedure_lead(parser: &mut Parser, c0: Cursor) -> Flow
     let b = parser.bump_regular_trivia(a);
     let d = optional_visibility(parser, b);
     let e = parser.bump_regular_trivia(d);
-    parser.expect_keyword(
-        e,
-        Word::Proc,
-        Message::Procedure(ProcedureMessage::ExpectedProc),
-    )
+    parser.expect_keyword(e, Word::Proc, Message::Plain(PlainMessage::ExpectedProc))
 }
 
 pub fn parse_procedure(parser: &mut Parser, c0: Cursor) -> Cursor

@@ -315,7 +315,7 @@ abbrev pub constant_value : P Bool
 constant_value = parse_expr_until_line_end >> parse_line_tail
 
 abbrev pub constant_equal : P Bool
-constant_equal = expect_kind Equal (Message.Item ExpectedConstantEqual) >> constant_value
+constant_equal = expect_kind Equal (Message.Plain ExpectedConstantEqual) >> constant_value
 
 abbrev pub constant_name : P Bool
-constant_name = bump_while regular_trivia >> expect_name (Message.Item ExpectedConstantName) >> constant_equal
+constant_name = bump_while regular_trivia >> expect_name (Message.Plain ExpectedConstantName) >> constant_equal

@@ -176,14 +176,14 @@ owes_equal = owes_expect Equal _ refl (λ a. owes_cost cost_value) (λ a. owes_v
 owes_constant_name : Owes left 1 0 constant_name
 owes_constant_name = owes_trivia (λ a. owes_name _ (λ a. owes_cost cost_equal) (λ a. owes_equal) (lit≤ tt) (lit≤ tt))
 
-owes_const : Owes left 2 0 (expect_kind CONST (Message.Item ExpectedConst) >> constant_name)
+owes_const : Owes left 2 0 (expect_kind CONST (Message.Plain ExpectedConst) >> constant_name)
 owes_const = owes_expect CONST _ refl (λ a. owes_cost cost_constant_name) (λ a. owes_constant_name) (lit≤ tt) (lit≤ tt)
 
 prefixed_pub : (ks r : List Sym) → at_prefixed_keyword ks r ≡ true → at (is PUB) r ≡ true
 unfolding at_prefixed_keyword
 prefixed_pub ks r e = (and_parts (at (is PUB) r) _ e).0
 
-owes_visible : Owes (at_prefixed_keyword (CONST ∷ [])) 0 0 (parse_visibility >> expect_kind CONST (Message.Item ExpectedConst) >> constant_name)
+owes_visible : Owes (at_prefixed_keyword (CONST ∷ [])) 0 0 (parse_visibility >> expect_kind CONST (Message.Plain ExpectedConst) >> constant_name)
 owes_visible = owes_le (owes_bind left {c = 0} {e = 2} (cost_weak cost_visibility (prefixed_pub (CONST ∷ [])) (lit≤ tt)) (visible (CONST ∷ [])) (λ a. owes_const)) (lit≤ tt)
 
 pub owes_constant : Owes (at_declaration (CONST ∷ [])) 0 0 parse_constant
@@ -191,7 +191,7 @@ unfolding at_declaration parse_constant optional_visibility in_node ◌>>=◌ pe
 owes_constant = record { owes = λ r k. c (at (one_of (CONST ∷ [])) r) r refl k }
   where
     K : P Bool
-    K = expect_kind CONST (Message.Item ExpectedConst) >> constant_name
+    K = expect_kind CONST (Message.Plain ExpectedConst) >> constant_name
 
     pub_case : (u : Bool) (r : List Sym) → u ≡ true → at_prefixed_keyword (CONST ∷ []) r ≡ true → weigh diags_price ((pick u parse_visibility (pure true) >> K) r).out + 2 * length ((pick u parse_visibility (pure true) >> K) r).rest + 0 ≤ 2 * length r + 0 + credit ((pick u parse_visibility (pure true) >> K) r).rest
     pub_case true r i e = owes_visible.owes r e

@@ -109,13 +109,13 @@ module _ {blk : Blocks} (h : (w : BlockOwner) (t : Terminators) (d : ℕ) → Co
   unfolding procedure_body
   cost_body = cost_then (cost_while _) (λ a. cost_any (cost_bind (cost_name _) (λ a. cost_then (cost_while _) (λ a. cost_then (cost_case (at (is LParen)) cost_signature (cost_pure true)) (λ a. cost_then cost_tail (λ a. cost_closed h s BlockOwner.Procedure 0))))) (lit≤ tt))
 
-  cost_proc : Cost2 anywhere 1 0 (expect_kind PROC (Message.Procedure ExpectedProc) >>= λ declared. pick (not declared) (pure true) (procedure_body blk))
+  cost_proc : Cost2 anywhere 1 0 (expect_kind PROC (Message.Plain ExpectedProc) >>= λ declared. pick (not declared) (pure true) (procedure_body blk))
   cost_proc = cost_ok PROC _ 2 (no_error (is PROC) refl) (cost_pure true) cost_body (lit≤ tt) (lit≤ tt)
 
   cost_after_attributes : Cost2 anywhere 1 0 (after_attributes blk)
   cost_after_attributes = cost_then (cost_while _) (λ a. cost_then cost_optional (λ a. cost_then (cost_while _) (λ a. cost_proc)))
 
-  cost_at_proc : Cost2 (at (one_of (PROC ∷ []))) 0 0 (bump_while regular_trivia >> expect_kind PROC (Message.Procedure ExpectedProc) >>= λ declared. pick (not declared) (pure true) (procedure_body blk))
+  cost_at_proc : Cost2 (at (one_of (PROC ∷ []))) 0 0 (bump_while regular_trivia >> expect_kind PROC (Message.Plain ExpectedProc) >>= λ declared. pick (not declared) (pure true) (procedure_body blk))
   unfolding none one_of
   cost_at_proc = cost_trivia (one_of (PROC ∷ [])) refl _ (cost_weak (cost_bind (expects_at PROC _ refl refl) (λ ok. cost_pick (not ok) (cost_any (cost_pure true) (lit≤ tt)) cost_body)) (one_of_one PROC) (lit≤ tt))
 

@@ -191,7 +191,7 @@ module _ (b : List Sym) (side : at (is RParen) (next_relevant_top_level_token b)
       (ends_bind (good_while _) (λ a. ends
       (ends_bind (good_expect _ _) (λ declared. behind declared))))))))))
     where
-      behind : (u : Bool) → Then b (expect_kind PROC (Message.Procedure ExpectedProc)) u (pick (not u) nop (procedure_body (parse_block lim))) (pick (not u) nop (procedure_body (parse_block lim)))
+      behind : (u : Bool) → Then b (expect_kind PROC (Message.Plain ExpectedProc)) u (pick (not u) nop (procedure_body (parse_block lim))) (pick (not u) nop (procedure_body (parse_block lim)))
       behind true = ends ends_body
       behind false = never (good_pure true) (λ r e q. expect_fails _ _ r refl e q)
 

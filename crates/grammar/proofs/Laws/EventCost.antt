@@ -245,13 +245,13 @@ module _ {blk : Blocks} (h : (w : BlockOwner) (t : Terminators) (d : ℕ) → Co
   unfolding procedure_body
   cost_body = cost_then (cost_while _) (λ a. cost_then (cost_name _) (λ a. cost_then (cost_while _) (λ a. cost_then (cost_case (at (is LParen)) (cost_le cost_signature (lit≤ tt)) (cost_pure true)) (λ a. cost_then cost_tail (λ a. cost_after (h _ _ 0) (cost_closing _))))))
 
-  cost_proc : Cost7 anywhere 0 0 (expect_kind PROC (Message.Procedure ExpectedProc) >>= λ declared. pick (not declared) (pure true) (procedure_body blk))
+  cost_proc : Cost7 anywhere 0 0 (expect_kind PROC (Message.Plain ExpectedProc) >>= λ declared. pick (not declared) (pure true) (procedure_body blk))
   cost_proc = cost_ok PROC _ 6 (λ s e. lit≤ tt) (cost_pure true) cost_body (lit≤ tt) (lit≤ tt)
 
   cost_after_attributes : Cost7 anywhere 0 0 (after_attributes blk)
   cost_after_attributes = cost_then (cost_while _) (λ a. cost_then cost_optional (λ a. cost_then (cost_while _) (λ a. cost_proc)))
 
-  cost_at_proc : Cost7 (at (one_of (PROC ∷ []))) 0 2 (bump_while regular_trivia >> expect_kind PROC (Message.Procedure ExpectedProc) >>= λ declared. pick (not declared) (pure true) (procedure_body blk))
+  cost_at_proc : Cost7 (at (one_of (PROC ∷ []))) 0 2 (bump_while regular_trivia >> expect_kind PROC (Message.Plain ExpectedProc) >>= λ declared. pick (not declared) (pure true) (procedure_body blk))
   unfolding none one_of
   cost_at_proc = cost_trivia (one_of (PROC ∷ [])) refl _ (cost_weak (cost_bind (expects_at PROC _ refl) (λ ok. cost_pick (not ok) (cost_any (cost_pure true) (lit≤ tt)) cost_body)) (one_of_one PROC) (lit≤ tt))
 

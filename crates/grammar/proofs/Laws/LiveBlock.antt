@@ -12,7 +12,7 @@ use Rattle.grammar.specs.Run.{Block, P, pure, in_node, pick, ◌>>=◌, err}
 use Rattle.grammar.specs.Message.{Message}
 use Rattle.grammar.specs.Block.{BlockOwner, Terminators, BlockRecoveryBoundary, BlockParseOutcome, Blocks, all_round, reject_excessive_control_flow_nesting, closing, ended, parse_if, parse_while, do_condition, parse_do_while, parse_repeat, parse_control_flow, recover, block_round, block_loop, block_in, parse_block}
 use Rattle.grammar.specs.Laws.Good.{Calm}
-use Rattle.grammar.specs.Laws.Numbers.{no_message, quiet_block}
+use Rattle.grammar.specs.Laws.Numbers.{no_message, quiet_plain}
 use Rattle.std.proofs.lemmas.Bool.{and_parts}
 use Rattle.grammar.specs.Laws.Stops.{Stops, stops_node, stops_loop}
 use Rattle.grammar.specs.Laws.Live.{Live, Eats, anywhere, calm_join, live_pure, live_take, live_pick, live_node, live_weak, live_all, live_bind, live_if, live_case, live_cases, live_eof, live_eat, eats_weak, at_some, eats_cases, live_scan}
@@ -112,10 +112,10 @@ module _ {n : ℕ} {again : Blocks} (h : (w : BlockOwner) (t : Terminators) (d :
       (live_case (at regular_trivia) (live_eat (live_all live_take) (eats_at regular_trivia) (λ a. h w t d))
       (live_if (at_stray_else t) (live_all (live_recover w _))
       (live_if at_top_level_form_starter_in_block (live_all (live_recover w _))
-      (live_case (at (is DocComment)) (live_eat (live_all (live_error_token _ (quiet_block _))) (eats_weak (at_some (is DocComment)) (eats_error_token _)) (λ a. h w t d))
+      (live_case (at (is DocComment)) (live_eat (live_all (live_error_token _ (quiet_plain _))) (eats_weak (at_some (is DocComment)) (eats_error_token _)) (λ a. h w t d))
       (live_case (at control_flow) (live_pick (leb lim d) (live_all (search (live·rules, live_reject))) (live_eat (live_control_flow inside stop _) (eats_control_flow inside stop _) next))
       (live_case (at starts_instruction) (live_eat (live_all live_instruction) eats_instruction (λ a. h w t d))
-      (live_eat (live_all (live_error_token _ (quiet_block _))) (eats_error_token _) (λ a. h w t d)))))))))
+      (live_eat (live_all (live_error_token _ (quiet_plain _))) (eats_error_token _) (λ a. h w t d)))))))))
     where
       inside : (w : BlockOwner) (t : Terminators) (d : ℕ) → Live anywhere n (in_node Block (again w t d))
       inside w t d = live_node Block (h w t d)

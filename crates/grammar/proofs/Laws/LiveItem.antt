@@ -15,7 +15,7 @@ use Rattle.grammar.specs.Message.{Message, ExpectedProc}
 use Rattle.grammar.specs.Bump.{bump_while, expect_kind}
 use Rattle.grammar.specs.Block.{BlockOwner, Terminators, Blocks, parse_block}
 use Rattle.grammar.specs.Item.{package_in_parens, parse_visibility, optional_visibility, parse_attribute, parse_results, parse_signature, parse_namespace, parse_submodule, attribute_round, procedure_body, parse_procedure, parse_begin_block, parse_constant, type_name_and_body, parse_type_decl, parse_advice_map, at_declaration, at_procedure, parse_source_item, items}
-use Rattle.grammar.specs.Laws.Numbers.{quiet_item}
+use Rattle.grammar.specs.Laws.Numbers.{quiet_plain}
 use Rattle.grammar.specs.Laws.Here.{bind_nothing, while_no, at_not, at_not_one, none, one_of_one}
 use Rattle.grammar.specs.Laws.Live.{Live, Eats, Truly, anywhere, some, live_pure, live_take, live_all, live_bind, live_if, live_case, live_eof, live_eat, eats_bind, eats_node, eats_take, eats_weak, at_some, eats_case, truly_bind, truly_case, truly_false, live_loop, eats_loop}
 use Rattle.grammar.specs.Laws.LiveLine.{live·rules, live_while, live_expect, live_name, live_error_token, live_group, live_expr, live_type_body, live_result, live_path, eats_error_token, eats_expect, live_key, eats_key}
@@ -107,7 +107,7 @@ module _ {n : ℕ} {blk : Blocks} (h : (w : BlockOwner) (t : Terminators) (d : �
       (live_if (at_declaration (CONST ∷ [])) (live_all live_constant)
       (live_if (at_declaration (TYPE ∷ ENUM ∷ [])) (live_all live_type)
       (live_case (at (is ADV_MAP)) live_advice_map
-      (live_all (live_error_token _ (quiet_item _)))))))))))
+      (live_all (live_error_token _ (quiet_plain _)))))))))))
 
 -- ---- Eats.
 eats_nothing : {q : List Sym → Bool} {A B : Type 0} {f : P A} (g : A → P B) (a : A) → ((r : List Sym) → q r ≡ true → f r ≡ pure a r) → Eats q (g a) → Eats q (f >>= g)
@@ -187,7 +187,7 @@ after_attributes blk =
     bump_while regular_trivia >>
     optional_visibility >>
     bump_while regular_trivia >>
-    expect_kind PROC (Message.Procedure ExpectedProc) >>= λ declared.
+    expect_kind PROC (Message.Plain ExpectedProc) >>= λ declared.
     pick (not declared) (pure true) (procedure_body blk)
 
 module _ {n : ℕ} {blk : Blocks} (h : (w : BlockOwner) (t : Terminators) (d : ℕ) → Live anywhere n (blk w t d)) where

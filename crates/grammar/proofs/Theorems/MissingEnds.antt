@@ -6,7 +6,7 @@ use Rattle.std.proofs.Math.Nat.{add-zero, zero-add}
 use Rattle.lexer.specs.Syntax
 use Rattle.grammar.specs.Words.{Sym, is}
 use Rattle.grammar.specs.Run.{Kind, Error, Block, Forest, nil, leaf, node, say, ◌<>◌, leaves, Res}
-use Rattle.grammar.specs.Message.{number, missing_end_number, block_number, NestingTooDeep}
+use Rattle.grammar.specs.Message.{number, missing_end_number, plain_number, NestingTooDeep}
 use Rattle.grammar.specs.Block.{BlockOwner}
 use Rattle.grammar.specs.Item.{items_in, parse}
 use Rattle.grammar.specs.Out.{Diag, noted, dg, diags}
@@ -72,7 +72,7 @@ unclosed_endings : {x : Forest} → Unclosed x → (i : ℕ) → Endings (i + le
 unclosed_endings (Unclosed.reports w x y c d) i =
     let m = say (missing_end_number w) nil in
     tree i (holder w) x (node Block (y <> m) nil) c (λ j. tree j Block y m d (report w))
-unclosed_endings (Unclosed.rest_of_file x c) i = in_node_lem i Error (say (block_number NestingTooDeep) x) (rw (calm_endings i x c) (Endings.past_limit i))
+unclosed_endings (Unclosed.rest_of_file x c) i = in_node_lem i Error (say (plain_number NestingTooDeep) x) (rw (calm_endings i x c) (Endings.past_limit i))
 unclosed_endings (Unclosed.in_last k x y c u) i = tree i k x y c (λ j. unclosed_endings u j)
 
 file_endings : {x : Forest} → FileEnd x → Endings (0 + length (leaves x)) (endings (dg 0 x))

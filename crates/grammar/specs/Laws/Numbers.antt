@@ -4,51 +4,43 @@ use Rattle.std.specs.Prelude.{ℕ, ◌≡◌, refl, Bool, false, not, ◌&&◌, 
 use Rattle.grammar.specs.declared.nesting.Closer.{Closer}
 use Rattle.grammar.specs.declared.block.BlockOwner.{BlockOwner}
 use Rattle.grammar.specs.declared.block.BlockRecoveryBoundary.{BlockRecoveryBoundary}
-use Rattle.grammar.specs.declared.message.ItemMessage.{ItemMessage}
-use Rattle.grammar.specs.declared.message.ProcedureMessage.{ProcedureMessage}
-use Rattle.grammar.specs.declared.message.BlockMessage.{BlockMessage}
+use Rattle.grammar.specs.declared.message.PlainMessage.{PlainMessage}
 use Rattle.grammar.specs.Message.{Message, number, UnexpectedTopLevelToken, ExpectedNamespacePath, ExpectedMod, ExpectedSubmoduleName, ExpectedConst, ExpectedConstantName, ExpectedConstantEqual, ExpectedTypeOrEnum, ExpectedTypeName, ExpectedTypeEqualOrColon, ExpectedAdviceMapName, ExpectedAdviceMapKeyEnd, ExpectedAdviceMapEqual, ExpectedPathSegment, ExpectedProc, ExpectedProcedureName, ExpectedAttributeName, ExpectedAttributeEnd, ExpectedPackage, ExpectedPackageEnd, ExpectedParametersEnd, ExpectedResultsEnd, ExpectedResultType, DocCommentInBlock, UnexpectedTokenInBlock, ExpectedSuffixEnd, ExpectedSuffix, NestingTooDeep}
 
 -- No message's number.
 abbrev pub no_message : ℕ → Bool
 no_message m = not (leb 1 m && leb m 53)
 
-pub quiet_item : (m : ItemMessage) → no_message (number (Message.Item m)) ≡ false
+pub quiet_plain : (m : PlainMessage) → no_message (number (Message.Plain m)) ≡ false
 unfolding number
-quiet_item UnexpectedTopLevelToken = refl
-quiet_item ExpectedNamespacePath = refl
-quiet_item ExpectedMod = refl
-quiet_item ExpectedSubmoduleName = refl
-quiet_item ExpectedConst = refl
-quiet_item ExpectedConstantName = refl
-quiet_item ExpectedConstantEqual = refl
-quiet_item ExpectedTypeOrEnum = refl
-quiet_item ExpectedTypeName = refl
-quiet_item ExpectedTypeEqualOrColon = refl
-quiet_item ExpectedAdviceMapName = refl
-quiet_item ExpectedAdviceMapKeyEnd = refl
-quiet_item ExpectedAdviceMapEqual = refl
-quiet_item ExpectedPathSegment = refl
-
-pub quiet_procedure : (m : ProcedureMessage) → no_message (number (Message.Procedure m)) ≡ false
-unfolding number
-quiet_procedure ExpectedProc = refl
-quiet_procedure ExpectedProcedureName = refl
-quiet_procedure ExpectedAttributeName = refl
-quiet_procedure ExpectedAttributeEnd = refl
-quiet_procedure ExpectedPackage = refl
-quiet_procedure ExpectedPackageEnd = refl
-quiet_procedure ExpectedParametersEnd = refl
-quiet_procedure ExpectedResultsEnd = refl
-quiet_procedure ExpectedResultType = refl
-
-pub quiet_block : (m : BlockMessage) → no_message (number (Message.Block m)) ≡ false
-unfolding number
-quiet_block DocCommentInBlock = refl
-quiet_block UnexpectedTokenInBlock = refl
-quiet_block ExpectedSuffixEnd = refl
-quiet_block ExpectedSuffix = refl
-quiet_block NestingTooDeep = refl
+quiet_plain UnexpectedTopLevelToken = refl
+quiet_plain ExpectedNamespacePath = refl
+quiet_plain ExpectedMod = refl
+quiet_plain ExpectedSubmoduleName = refl
+quiet_plain ExpectedConst = refl
+quiet_plain ExpectedConstantName = refl
+quiet_plain ExpectedConstantEqual = refl
+quiet_plain ExpectedTypeOrEnum = refl
+quiet_plain ExpectedTypeName = refl
+quiet_plain ExpectedTypeEqualOrColon = refl
+quiet_plain ExpectedAdviceMapName = refl
+quiet_plain ExpectedAdviceMapKeyEnd = refl
+quiet_plain ExpectedAdviceMapEqual = refl
+quiet_plain ExpectedPathSegment = refl
+quiet_plain ExpectedProc = refl
+quiet_plain ExpectedProcedureName = refl
+quiet_plain ExpectedAttributeName = refl
+quiet_plain ExpectedAttributeEnd = refl
+quiet_plain ExpectedPackage = refl
+quiet_plain ExpectedPackageEnd = refl
+quiet_plain ExpectedParametersEnd = refl
+quiet_plain ExpectedResultsEnd = refl
+quiet_plain ExpectedResultType = refl
+quiet_plain DocCommentInBlock = refl
+quiet_plain UnexpectedTokenInBlock = refl
+quiet_plain ExpectedSuffixEnd = refl
+quiet_plain ExpectedSuffix = refl
+quiet_plain NestingTooDeep = refl
 
 pub quiet_closer : (c : Closer) → no_message (number (Message.UnexpectedCloser c)) ≡ false
 unfolding number
@@ -83,4 +75,4 @@ quiet_recovery BlockOwner.DoWhile BlockRecoveryBoundary.TopLevelItem = refl
 quiet_recovery BlockOwner.Repeat BlockRecoveryBoundary.Else = refl
 quiet_recovery BlockOwner.Repeat BlockRecoveryBoundary.TopLevelItem = refl
 
-pub ruleset quiet·rules = (quiet_item, quiet_procedure, quiet_block, quiet_closer, quiet_missing, quiet_recovery)
+pub ruleset quiet·rules = (quiet_plain, quiet_closer, quiet_missing, quiet_recovery)

@@ -5,4 +5,4 @@ use Rattle.grammar.specs.Message.{Message, NestingTooDeep, number}
 
 -- The depth diagnostic.
 abbrev pub m_depth : ℕ
-m_depth = number (Message.Block NestingTooDeep)
+m_depth = number (Message.Plain NestingTooDeep)
