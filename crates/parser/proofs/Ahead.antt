@@ -9,11 +9,13 @@ use native.Mathlib.Omega.{arith}
 use lib.ListN.{length, drop}
 use borrow.Author.Tests.{eqb-true, eq-eqb, ne_eqb}
 use Rattle.lexer.specs.Syntax
-use Rattle.grammar.specs.Words.{Sym, File, from, is, ELSE, END, PUB}
-use Rattle.grammar.specs.Look.{one_of, current, at, skip, past, next_token_after_visibility, at_prefixed_keyword}
+use Rattle.lexer.specs.Syntax.{Newline, DocComment}
+use Rattle.parser.specs.Sets.{word_bit, word_bits_are}
+use Rattle.grammar.specs.Words.{Sym, File, from, is, CONST, ELSE, END, ENUM, MOD, PROC, PUB, TYPE}
+use Rattle.grammar.specs.Look.{one_of, regular_trivia, is_trivia, current, at, skip, past, next_token_after_visibility, at_prefixed_keyword, is_top_level_starter, line_break_starts_new_top_level_item, at_top_level_form_starter_in_block}
 use Rattle.grammar.specs.Item.{at_declaration}
 use Rattle.parser.specs.declared.look.Remembered.{Remembered}
-use Rattle.parser.specs.Ahead.{Found, declared, Remembers}
+use Rattle.parser.specs.Ahead.{Found, declared, starter, ends_or_starts, Remembers, BreakKnown, DocKnown}
 use Rattle.parser.proofs.Laws.{rest_cons, rest_nil, at_within, at_current, skip_on, skip_off, skip_end, tokens_left}
 
 -- ---- the list behind the token that stands at c, where l is what is left there
@@ -135,3 +137,39 @@ module _ {t : Sym → Bool} {question : List Sym → Bool} {F : File} {p : ℕ} 
   -- the answer at p, where k reaches behind it: of the list behind the token that stands there
   pub remembered : (s : Sym → Bool) → at s (drop p F) ≡ true → p < k.next → Remembers t question F p k → k.starts ≡ question (skip t (past s (drop p F)))
   remembered s e h m = m.answer p (omega arith) h ∙ ap (λ (l : List Sym). question (skip t l)) (sym (past_on F p s refl refl e))
+
+-- the answer at a newline and at a doc comment, where k reaches behind it
+module _ (F : File) (p : ℕ) {k : Remembered} (h : p < k.next) where
+  pub break_known : at (is Newline) (drop p F) ≡ true → BreakKnown F p k → k.starts ≡ line_break_starts_new_top_level_item (drop p F)
+  unfolding ends_or_starts line_break_starts_new_top_level_item
+  break_known e m = remembered (is Newline) e h m
+
+  pub doc_known : at (is DocComment) (drop p F) ≡ true → DocKnown F p k → k.starts ≡ at_top_level_form_starter_in_block (drop p F)
+  unfolding at_top_level_form_starter_in_block
+  doc_known e m = remembered (is DocComment) e h m ∙ rw (at_top_level_form_starter_in_block, e)
+
+  pub break_new : at (is Newline) (drop p F) ≡ true → from F k.next ≡ skip regular_trivia (from F (p + 1)) → k.starts ≡ ends_or_starts (from F k.next)
+      → (k.starts ≡ line_break_starts_new_top_level_item (drop p F)) × BreakKnown F p k
+  break_new e f q = let m = remembers_new f q in (break_known e m, m)
+
+  pub doc_new : at (is DocComment) (drop p F) ≡ true → from F k.next ≡ skip is_trivia (from F (p + 1)) → k.starts ≡ is_top_level_starter (from F k.next)
+      → (k.starts ≡ at_top_level_form_starter_in_block (drop p F)) × DocKnown F p k
+  doc_new e f q = let m = remembers_new f q in (doc_known e m, m)
+
+pub ruleset remembers = (next_within, break_known, doc_known)
+
+-- the token here or, at `pub`, the word behind the visibility says whether an item starts
+module _ {x : Bool} {k : Sym} (r : List Sym) where
+  pub starts_behind : at (is PUB) r ≡ true → x ≡ word_bit 0x9288 k → k ≡ declared r → x ≡ is_top_level_starter r
+  unfolding is_top_level_starter one_of
+  starts_behind e b d =
+      let words = CONST ∷ ENUM ∷ MOD ∷ PROC ∷ TYPE ∷ [] in
+      b ∙ word_bits_are _ (3 ∷ 7 ∷ 9 ∷ 12 ∷ 15 ∷ []) k tt tt ∙ ap (one_of words) d ∙ sym (ap₂ ◌||◌ (at_other starter PUB r refl e) (prefixed_is r words refl e))
+
+  pub starts_here : at (is PUB) r ≡ false → x ≡ starter k → k ≡ current r → x ≡ is_top_level_starter r
+  unfolding is_top_level_starter one_of
+  starts_here e b c =
+      let words = CONST ∷ ENUM ∷ MOD ∷ PROC ∷ TYPE ∷ [] in
+      b ∙ ap starter c ∙ at_current starter r refl ∙ sym (or-false _) ∙ ap (λ u. at starter r || u) (sym (prefixed_none r words e))
+
+pub ruleset starts = (at_here, at_not, starts_behind, starts_here)

@@ -127,6 +127,7 @@ impl Parser<'_> {
     }
 
     // Of the list behind `pub`, which starts at p.
+    #[tactic(auto, using(crate::proofs::Ahead::one_on), unfolding(grammar::specs::Look::next_token_after_visibility))]
     pub fn next_token_after_visibility(&self, p: usize) -> usize
         ensures { Found self.now.kinds.now p result (after_visibility (drop p self.now.kinds.now)) }
     {
@@ -150,6 +151,7 @@ impl Parser<'_> {
         k
     }
 
+    #[tactic(auto, using(crate::proofs::Ahead::starts))]
     pub fn is_top_level_starter(&self, p: usize) -> bool
         ensures { result ≡ starter_of (drop p self.now.kinds.now) }
     {
@@ -191,6 +193,7 @@ impl Parser<'_> {
     }
 
     // At a newline. A run of trivia is looked through once: what is known is handed back.
+    #[tactic(auto, using(crate::proofs::Ahead::remembers))]
     pub fn line_break_starts_new_top_level_item(&self, p: usize, known: Remembered) -> Remembered
         requires { (at (is Newline) (drop p self.now.kinds.now) ≡ true) × BreakKnown self.now.kinds.now p known }
         ensures { (result.starts ≡ line_break_starts (drop p self.now.kinds.now)) × BreakKnown self.now.kinds.now p result }
@@ -204,6 +207,7 @@ impl Parser<'_> {
     }
 
     // at_top_level_form_starter_in_block at a doc comment, in the same way.
+    #[tactic(auto, using(crate::proofs::Ahead::remembers))]
     pub fn starts_behind_doc(&self, p: usize, known: Remembered) -> Remembered
         requires { (at (is DocComment) (drop p self.now.kinds.now) ≡ true) × DocKnown self.now.kinds.now p known }
         ensures { (result.starts ≡ starter_in_block (drop p self.now.kinds.now)) × DocKnown self.now.kinds.now p result }
