@@ -12,11 +12,11 @@ use Rattle.lexer.specs.Syntax
 use Rattle.lexer.specs.Syntax.{Newline, DocComment}
 use Rattle.parser.specs.Sets.{word_bit, word_bits_are}
 use Rattle.grammar.specs.Words.{Sym, File, from, is, CONST, ELSE, END, ENUM, MOD, PROC, PUB, TYPE}
-use Rattle.grammar.specs.Look.{one_of, regular_trivia, is_trivia, current, at, skip, past, next_token_after_visibility, at_prefixed_keyword, is_top_level_starter, line_break_starts_new_top_level_item, at_top_level_form_starter_in_block}
+use Rattle.grammar.specs.Look.{one_of, regular_trivia, is_trivia, current, at, skip, past, anyone, next_token_after_visibility, at_prefixed_keyword, is_top_level_starter, line_break_starts_new_top_level_item, at_top_level_form_starter_in_block}
 use Rattle.grammar.specs.Item.{at_declaration}
 use Rattle.parser.specs.declared.look.Remembered.{Remembered}
 use Rattle.parser.specs.Ahead.{Found, declared, starter, ends_or_starts, Remembers, BreakKnown, DocKnown}
-use Rattle.parser.proofs.Laws.{rest_cons, rest_nil, at_within, at_current, skip_on, skip_off, skip_end, tokens_left}
+use Rattle.parser.proofs.Laws.{at_in, rest_cons, rest_nil, at_within, at_current, skip_on, skip_off, skip_end, tokens_left}
 
 -- ---- the list behind the token that stands at c, where l is what is left there
 past_none : (t : Sym → Bool) (r : List Sym) → at t r ≡ false → past t r ≡ []
@@ -173,3 +173,18 @@ module _ {x : Bool} {k : Sym} (r : List Sym) where
       b ∙ ap starter c ∙ at_current starter r refl ∙ sym (or-false _) ∙ ap (λ u. at starter r || u) (sym (prefixed_none r words e))
 
 pub ruleset starts = (at_here, at_not, starts_behind, starts_here)
+
+-- ---- inside the parentheses of a visibility
+module _ (F : File) (p : ℕ) where
+  pub past_any : p < length F → past anyone (drop p F) ≡ drop (p + 1) F
+  past_any h = past_on F p anyone refl (at_in F anyone p h) refl
+
+  pub past_all : length F ≤ p → drop p F ≡ skip regular_trivia (past (is Syntax.RParen) (skip regular_trivia (past anyone (drop p F))))
+  unfolding skip past
+  past_all h = rw (rest_nil F p h)
+
+pub all_passed : (F : File) (l : List Sym) → past (is Syntax.RParen) l ≡ [] → drop (length F) F ≡ skip regular_trivia (past (is Syntax.RParen) l)
+unfolding skip
+all_passed F l e = rest_nil F (length F) (omega arith) ∙ sym (ap (skip regular_trivia) e)
+
+pub ruleset inside = (next_within, past_on, past_off, past_any, past_all, all_passed)

@@ -112,6 +112,7 @@ impl Parser<'_> {
     }
 
     // Inside the parentheses of a visibility: any one token, the closer, and then the token after it.
+    #[tactic(auto, using(crate::proofs::Ahead::inside))]
     fn after_inside(&self, p: usize) -> usize
         ensures { Found self.now.kinds.now p result (skip_of regular_trivia
             (past (is RParen) (skip_of regular_trivia (past anyone (drop p self.now.kinds.now))))) }
