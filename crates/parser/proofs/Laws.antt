@@ -309,3 +309,5 @@ pub at_token : (t : Sym → Bool) (r : List Sym) → Look.eof r ≡ false → at
 unfolding current at Look.eof
 at_token t [] e = absurd (false≢true (sym e))
 at_token t (s ∷ r) e = refl
+
+pub ruleset skips = (at_in, skip_on, skip_off, skip_end)

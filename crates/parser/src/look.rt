@@ -69,6 +69,7 @@ impl Parser<'_> {
     }
 
     // The first token from p on that is not trivia up to `last`.
+    #[tactic(auto, using(crate::proofs::Laws::skips))]
     pub fn skip(&self, last: SyntaxKind, p: usize) -> usize
         ensures { Found self.now.kinds.now p result (skip_of (trivia_to (kind_number last)) (drop p self.now.kinds.now)) }
     {
