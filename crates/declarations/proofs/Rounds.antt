@@ -22,8 +22,3 @@ module _ (n : Nesting) (r : List Sym) where
   pub type_counts : type_ends n r ≡ false → type_round n r ≡ goes
   unfolding type_round type_ends
   type_counts e = ap (λ t. cond t stop goes) e
-
-  -- inside delimiters it goes on
-  pub type_inside : is_root n ≡ false → type_ends n r ≡ false
-  unfolding type_ends
-  type_inside e = rw e (and-false (at_kind Newline r))

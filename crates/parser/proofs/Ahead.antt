@@ -2,7 +2,7 @@
 -- Assumes nothing.
 use mathlib.Core.Bool.{Bool, true, false, ◌||◌, or-false}
 use mathlib.Core.List.{List, [], ◌∷◌}
-use mathlib.Core.Path.{◌≡◌, refl, sym, ap, ap₂, subst, fun_ext, ◌∙◌}
+use mathlib.Core.Path.{◌≡◌, refl, sym, ap, ap₂, subst, ◌∙◌}
 use Prim.Native.Nat.{ℕ, zero, suc, ◌+◌, ◌-◌, ◌≤◌, ◌<◌}
 use native.Mathlib.Nat.{add-zero}
 use native.Mathlib.Omega.{arith}
@@ -15,7 +15,7 @@ use Rattle.grammar.specs.Words.{Sym, File, from, is, CONST, ELSE, END, ENUM, MOD
 use Rattle.grammar.specs.Look.{one_of, regular_trivia, is_trivia, current, at, skip, past, anyone, next_token_after_visibility, at_prefixed_keyword, is_top_level_starter, line_break_starts_new_top_level_item, at_top_level_form_starter_in_block}
 use Rattle.grammar.specs.Item.{at_declaration}
 use Rattle.parser.specs.declared.look.Remembered.{Remembered}
-use Rattle.parser.specs.Ahead.{Found, declared, starter, ends_or_starts, Remembers, BreakKnown, DocKnown}
+use Rattle.parser.specs.Ahead.{declared, starter, ends_or_starts, Remembers, BreakKnown, DocKnown}
 use Rattle.parser.proofs.Laws.{at_in, rest_cons, rest_nil, at_within, at_current, skip_on, skip_off, skip_end, tokens_left}
 
 -- ---- the list behind the token that stands at c, where l is what is left there

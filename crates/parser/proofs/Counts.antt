@@ -2,7 +2,7 @@
 use mathlib.Core.Bool.{Bool, false, true, cond}
 use mathlib.Core.List.{List}
 use mathlib.Core.Path.{◌≡◌, refl, sym, ap, subst, ◌∙◌}
-use Prim.Native.Nat.{ℕ, pred, ◌+◌, ◌≤◌, ◌<◌}
+use Prim.Native.Nat.{ℕ, pred, ◌+◌, ◌≤◌}
 use native.Mathlib.Nat.{pred-le}
 use native.Mathlib.Omega.{arith}
 use lib.Dec.{eqb}

@@ -1,7 +1,7 @@
 -- The kit: how what the callees do is put together, once for each way in which the definition puts functions together. Assumes nothing.
 use mathlib.Core.Bool.{Bool, true, false, false≢true}
 use mathlib.Core.List.{List, [], ◌∷◌}
-use mathlib.Core.Path.{◌≡◌, refl, sym, ap, ap₂, subst, fun_ext, ◌∙◌}
+use mathlib.Core.Path.{◌≡◌, refl, sym, ap, ap₂, subst, ◌∙◌}
 use Prim.Native.Nat.{ℕ}
 use native.Mathlib.Omega.{arith}
 use lib.ListN.{length-append}
@@ -9,7 +9,6 @@ use Rattle.grammar.specs.Words.{Sym, from}
 use Rattle.grammar.specs.Look
 use Rattle.grammar.specs.Run
 use Rattle.grammar.specs.Run.{Kind, num, P, pure, peek, in_node, pick, ◌>>=◌, ◌>>◌, when◌then◌else◌, take_token, scan, Round, stop, go, warn, turn}
-use Rattle.grammar.specs.Bump.{bump_while}
 use Rattle.grammar.specs.Out.{ev, dg}
 use Rattle.grammar.specs.State.{State, after, run, write}
 use Rattle.grammar.specs.Laws.Code.{run_bind, run_node, run_pure}
