@@ -1,12 +1,11 @@
 -- What a round of the loop over a type's body decides, by the test that the code makes. Assumes nothing.
-use mathlib.Core.Bool.{Bool, true, false, cond, and-false}
+use mathlib.Core.Bool.{true, false, cond}
 use mathlib.Core.List.{List}
 use mathlib.Core.Path.{◌≡◌, ap}
-use Rattle.lexer.specs.Syntax.{Newline}
 use Rattle.grammar.specs.Words.{Sym}
-use Rattle.grammar.specs.Look.{current, at_kind}
+use Rattle.grammar.specs.Look.{current}
 use Rattle.grammar.specs.Run.{Round, stop}
-use Rattle.grammar.specs.Nesting.{is_root, bump_nesting}
+use Rattle.grammar.specs.Nesting.{bump_nesting}
 use Rattle.grammar.specs.Line.{type_round}
 use Rattle.grammar.specs.declared.nesting.Nesting.{Nesting}
 use Rattle.declarations.specs.Parts.{type_ends}
