@@ -58,14 +58,6 @@ module _ {p : ℕ → Bool} {s : List ℕ} {a at : ℕ} (g : Reaches p s a at) (
   pub reaches_end : p (get_or s at 0) ≡ false → at ≡ a + advance_while p (drop a s)
   reaches_end e = omega (arith, run_stop p s at h e)
 
--- two and three bytes further
-module _ {p : ℕ → Bool} {s : List ℕ} {a at : ℕ} (g : Reaches p s a at) (h : at + 2 < length s) where
-  pub reaches_two : p (get_or s at 0) ≡ true → p (get_or s (at + 1) 0) ≡ true → Reaches p s a (at + 2)
-  reaches_two e f = reaches_next (reaches_next g (omega arith) refl e) (omega arith) (omega arith) f
-
-  pub reaches_three : p (get_or s at 0) ≡ true → p (get_or s (at + 1) 0) ≡ true → p (get_or s (at + 2) 0) ≡ true → Reaches p s a (at + 3)
-  reaches_three e f i = reaches_next (reaches_two e f) h (omega arith) i
-
 -- what `get` gives of the source: the byte there, or nothing behind the end
 module _ (s : List ℕ) (at : ℕ) where
   pub got_some : (r : Option (Bor ℕ)) (v : Bor ℕ) → is_some r ≡ ltb at (length s) → unwrap_or (option_map (λ w. w.now) r) 0 ≡ get_or s at 0

@@ -32,19 +32,19 @@ impl Lexer<'_> {
             if !goes_on(self.source[self.offset]) {
                 return;
             }
-            if !goes_on(self.source[self.offset + 1]) {
-                self.offset += 1;
+            self.offset += 1;
+            if !goes_on(self.source[self.offset]) {
                 return;
             }
-            if !goes_on(self.source[self.offset + 2]) {
-                self.offset += 2;
+            self.offset += 1;
+            if !goes_on(self.source[self.offset]) {
                 return;
             }
-            if !goes_on(self.source[self.offset + 3]) {
-                self.offset += 3;
+            self.offset += 1;
+            if !goes_on(self.source[self.offset]) {
                 return;
             }
-            self.offset += 4;
+            self.offset += 1;
         }
         self.advance_tail(goes_on);
     }
