@@ -54,8 +54,7 @@ unfolding encode bytes Last.last_from Width.width Chars.class Chars.punctuation 
     Line.parse_signature_result_until_line_end Line.result_round Line.parse_line_tail Line.tail_round Line.parse_type_body Line.type_round
     Line.parse_expr_until_line_end Line.expr_round Path.parse_balanced_group Path.group_round Path.parse_path_with_message Path.path_round
     Path.path_segment Bump.error_token Bump.expect_name Bump.expect_kind Bump.bump_while Bump.while_round Nesting.bump_nesting
-    Nesting.counted Look.current Nesting.bump_by Nesting.close_brace Nesting.close_bracket Nesting.close_paren Nesting.open_brace
-    Nesting.open_bracket Nesting.open_paren Nesting.is_root Message.number Look.space_before_top_level_item
+    Nesting.counted Look.current Nesting.bump_by Nesting.is_root Message.number Look.space_before_top_level_item
     Look.line_break_starts_new_top_level_item Look.at_block_recovery_boundary Look.at_stray_else Look.at_terminator Look.at_bare_while
     Look.at_top_level_form_starter_in_block Look.is_top_level_starter Look.at_prefixed_keyword Look.next_token_after_visibility Look.past
     Look.skip Look.can_start_operation Look.starts_instruction Look.eof Look.at Look.name_like Look.one_of Run.◌>>=◌ Run.peek Run.pure

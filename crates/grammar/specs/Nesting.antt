@@ -15,22 +15,22 @@ default = record { parens = 0; brackets = 0; braces = 0 }
 unfoldable pub is_root : Nesting → Bool
 is_root n = eqb 0 n.parens && (eqb 0 n.brackets && eqb 0 n.braces)
 
-unfoldable pub open_paren : Nesting → Nesting
+abbrev pub open_paren : Nesting → Nesting
 open_paren n = record { parens = suc n.parens; brackets = n.brackets; braces = n.braces }
 
-unfoldable pub open_bracket : Nesting → Nesting
+abbrev pub open_bracket : Nesting → Nesting
 open_bracket n = record { parens = n.parens; brackets = suc n.brackets; braces = n.braces }
 
-unfoldable pub open_brace : Nesting → Nesting
+abbrev pub open_brace : Nesting → Nesting
 open_brace n = record { parens = n.parens; brackets = n.brackets; braces = suc n.braces }
 
-unfoldable pub close_paren : Nesting → Result Nesting Closer
+abbrev pub close_paren : Nesting → Result Nesting Closer
 close_paren n = cond (eqb 0 n.parens) (Err Closer.Paren) (Ok (record { parens = pred n.parens; brackets = n.brackets; braces = n.braces }))
 
-unfoldable pub close_bracket : Nesting → Result Nesting Closer
+abbrev pub close_bracket : Nesting → Result Nesting Closer
 close_bracket n = cond (eqb 0 n.brackets) (Err Closer.Bracket) (Ok (record { parens = n.parens; brackets = pred n.brackets; braces = n.braces }))
 
-unfoldable pub close_brace : Nesting → Result Nesting Closer
+abbrev pub close_brace : Nesting → Result Nesting Closer
 close_brace n = cond (eqb 0 n.braces) (Err Closer.Brace) (Ok (record { parens = n.parens; brackets = n.brackets; braces = pred n.braces }))
 
 -- Nesting::bump

@@ -1,6 +1,6 @@
 // Whose a block is, what closes it, what cuts it short, and how it ended.
 // An owner is numbered as the message of its missing end in docs/MESSAGES.md.
-#[derive(Clone, Copy)]
+#[derive(Debug, Clone, Copy, PartialEq, Eq)]
 pub enum BlockOwner {
     Begin = 1,
     Procedure = 2,
@@ -12,7 +12,7 @@ pub enum BlockOwner {
 }
 
 // The terminator lists of parse_block: `end`; `else` and `end`; a bare `while`.
-#[derive(Clone, Copy)]
+#[derive(Debug, Clone, Copy, PartialEq, Eq)]
 pub enum Terminators {
     End,
     ElseEnd,
@@ -20,13 +20,13 @@ pub enum Terminators {
 }
 
 // The message of a recovery has the boundary's number, and twice the owner's more.
-#[derive(Clone, Copy)]
+#[derive(Debug, Clone, Copy, PartialEq, Eq)]
 pub enum BlockRecoveryBoundary {
     Else = 6,
     TopLevelItem = 7,
 }
 
-#[derive(Clone, Copy, PartialEq, Eq)]
+#[derive(Debug, Clone, Copy, PartialEq, Eq)]
 pub enum BlockParseOutcome {
     FoundTerminator,
     RecoveredImplicitEnd,

@@ -5,7 +5,7 @@ ghost use Rattle.grammar.specs.Message.{number};
 use crate::block::{BlockOwner, BlockRecoveryBoundary};
 use crate::nesting::Closer;
 
-#[derive(Clone, Copy)]
+#[derive(Debug, Clone, Copy, PartialEq, Eq)]
 pub enum PlainMessage {
     UnexpectedTopLevelToken = 22,
     ExpectedNamespacePath = 23,
@@ -38,7 +38,7 @@ pub enum PlainMessage {
 }
 
 // Unreached: an expect at a keyword that is always there. It has no text, and is never reported.
-#[derive(Clone, Copy)]
+#[derive(Debug, Clone, Copy, PartialEq, Eq)]
 pub enum Message {
     Plain(PlainMessage),
     UnexpectedCloser(Closer),
@@ -50,9 +50,9 @@ pub enum Message {
 
 #[tactic(auto, unfolding(crate::specs::Message::number))]
 impl From<Message> for u16 {
-    fn from(m: Message) -> u16
-        ensures { result ≡ number m }
-    {
+    ghost from_gives = { λ m n. n ≡ number m };
+
+    fn from(m: Message) -> u16 {
         match m {
             Message::Plain(p) => p as u16,
             Message::UnexpectedCloser(c) => c as u16,

@@ -30,36 +30,41 @@ pub enum Word {
     Extern,
 }
 
+// A word's mark on Ident.
+macro_rules! symbol {
+    ($word:expr) => { IDENT + MARK * $word as u16 };
+}
+
 impl Word {
     // An Ident that is this word, as the grammar reads it.
     pub fn symbol(self) -> u16
         ensures { result ≡ key (word_number self) }
     {
-        IDENT + MARK * self as u16
+        symbol!(self)
     }
 }
 
 // The words that a token's number is compared with: constants, since the token is a u16 of the kinds' slice, which C lends.
-pub const ADV_MAP: u16 = IDENT + MARK * Word::AdvMap as u16;
+pub const ADV_MAP: u16 = symbol!(Word::AdvMap);
 
-pub const BEGIN: u16 = IDENT + MARK * Word::Begin as u16;
+pub const BEGIN: u16 = symbol!(Word::Begin);
 
-pub const CONST: u16 = IDENT + MARK * Word::Const as u16;
+pub const CONST: u16 = symbol!(Word::Const);
 
-pub const DO: u16 = IDENT + MARK * Word::Do as u16;
+pub const DO: u16 = symbol!(Word::Do);
 
-pub const ENUM: u16 = IDENT + MARK * Word::Enum as u16;
+pub const ENUM: u16 = symbol!(Word::Enum);
 
-pub const IF: u16 = IDENT + MARK * Word::If as u16;
+pub const IF: u16 = symbol!(Word::If);
 
-pub const MOD: u16 = IDENT + MARK * Word::Mod as u16;
+pub const MOD: u16 = symbol!(Word::Mod);
 
-pub const NAMESPACE_WORD: u16 = IDENT + MARK * Word::Namespace as u16;
+pub const NAMESPACE_WORD: u16 = symbol!(Word::Namespace);
 
-pub const PROC: u16 = IDENT + MARK * Word::Proc as u16;
+pub const PROC: u16 = symbol!(Word::Proc);
 
-pub const PUB: u16 = IDENT + MARK * Word::Pub as u16;
+pub const PUB: u16 = symbol!(Word::Pub);
 
-pub const TYPE: u16 = IDENT + MARK * Word::Type as u16;
+pub const TYPE: u16 = symbol!(Word::Type);
 
-pub const WHILE: u16 = IDENT + MARK * Word::While as u16;
+pub const WHILE: u16 = symbol!(Word::While);

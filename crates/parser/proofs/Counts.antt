@@ -43,7 +43,7 @@ module _ (b : ℕ) (n : Nesting) (h : NestingBelow b n) where
   refused c = record { below = record { parens = omega (arith, h); brackets = omega (arith, h); braces = omega (arith, h) } }
 
   pub bump_below : (k : Sym) → NestingBelow (b + 1) (counts n (bump_by n k))
-  unfolding bump_by open_paren open_bracket open_brace close_paren close_bracket close_brace
+  unfolding bump_by
   bump_below k =
       let p : Nesting = record { parens = pred n.parens; brackets = n.brackets; braces = n.braces } in
       let q : Nesting = record { parens = n.parens; brackets = pred n.brackets; braces = n.braces } in
