@@ -13,7 +13,7 @@ use lexer::syntax::{ERROR, IDENT, SyntaxKind, WHITESPACE};
 use room::set_in_room;
 
 // By value, as docs/DECISIONS.md has it: each step hands back the next. So the loops over tokens go by it, and no iterator does.
-#[derive(Clone, Copy)]
+#[derive(Clone, Copy, Default)]
 pub struct Cursor {
     pub pos: usize,
     pub events: usize,
@@ -51,9 +51,8 @@ impl Parser<'_> {
     {
         set_in_room(self.events, c.events, v);
         Cursor {
-            pos: c.pos,
             events: one_more(c.events),
-            diags: c.diags,
+            ..c
         }
     }
 
@@ -76,9 +75,8 @@ impl Parser<'_> {
         set_in_room(self.messages, c.diags, u16::from(m));
         set_in_room(self.starts, c.diags, low_half(c.pos));
         Cursor {
-            pos: c.pos,
-            events: c.events,
             diags: one_more(c.diags),
+            ..c
         }
     }
 }
@@ -104,11 +102,7 @@ impl Parser<'_> {
     {
         let next = c.pos + 1;
         let b = self.put(c, v);
-        Cursor {
-            pos: next,
-            events: b.events,
-            diags: b.diags,
-        }
+        Cursor { pos: next, ..b }
     }
 
     pub fn bump(&mut self, c: Cursor) -> Cursor
@@ -121,11 +115,7 @@ impl Parser<'_> {
             if k == ERROR {
                 let a = self.error_here(c, Message::UnrecognizedToken);
                 let b = self.put(a, ERROR_TOKEN);
-                return Cursor {
-                    pos: next,
-                    events: b.events,
-                    diags: b.diags,
-                };
+                return Cursor { pos: next, ..b };
             }
             return self.bump_plain(c, event_of(k));
         }
