@@ -117,8 +117,8 @@ kinds_stay source s = kept_by_rows _ _ _ source s
 module _
     (s F ends : List ℕ) (anchor : ℕ) (b w : ParserSlices) (de ds' de' : List ℕ)
     (symbols_are : F ≡ symbols s) (ends_are : ends ≡ token_ends s) (anchor_is : anchor ≡ last_char s)
-    (same_de : length b.ds ≡ length de) (parsed : Parse F b w)
-    (placed : Places ends anchor w.c.diags w.ds de ds' de')
+    (same_de : length b.starts ≡ length de) (parsed : Parse F b w)
+    (placed : Places ends anchor w.c.diags w.starts de ds' de')
   where
     p : Parse (symbols s) b w
     p = rw symbols_are at parsed
@@ -126,15 +126,15 @@ module _
     abbrev said : List Diag
     said = diags limit (symbols s)
 
-    written : (ds' ≡ over b.ds 0 (map (λ p. p.start) (places_of s))) × (de' ≡ over de 0 (map (λ p. p.stop) (places_of s)))
-    written = places_over (token_ends s) (last_char s) said b.ds de ds' de' same_de (rw (ends_are, anchor_is, p.diags, p.ds) at placed)
+    written : (ds' ≡ over b.starts 0 (map (λ p. p.start) (places_of s))) × (de' ≡ over de 0 (map (λ p. p.stop) (places_of s)))
+    written = places_over (token_ends s) (last_char s) said b.starts de ds' de' same_de (rw (ends_are, anchor_is, p.diagnostic_count, p.starts_are) at placed)
 
-    pub reading_is : WriteReading s b.ev b.dm b.ds de w.c.events w.c.diags w.ev w.dm ds' de'
+    pub reading_is : WriteReading s b.events b.messages b.starts de w.c.events w.c.diags w.events w.messages ds' de'
     reading_is = record {
-      event_count = p.events;
-      diagnostic_count = p.diags ∙ sym (length-map said _);
-      events_are = p.ev;
-      messages_are = p.dm ∙ ap (over b.dm 0) (sym (messages_of_places (token_ends s) (last_char s) said));
+      event_count = p.event_count;
+      diagnostic_count = p.diagnostic_count ∙ sym (length-map said _);
+      events_are = p.events_are;
+      messages_are = p.messages_are ∙ ap (over b.messages 0) (sym (messages_of_places (token_ends s) (last_char s) said));
       starts_are = written.0;
       stops_are = written.1;
     }

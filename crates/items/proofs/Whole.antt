@@ -2,7 +2,7 @@
 -- Assumes nothing.
 use mathlib.Core.Bool.{Bool}
 use mathlib.Core.List.{List, [], append-nil, map}
-use mathlib.Core.Path.{◌≡◌, refl, sym, ap, ◌∙◌}
+use mathlib.Core.Path.{◌≡◌, refl, sym, ap, subst, ◌∙◌}
 use Prim.Native.Nat.{ℕ, ◌+◌, ◌≤◌}
 use native.Mathlib.Omega.{arith}
 use lib.ListN.{length}
@@ -17,6 +17,7 @@ use Rattle.grammar.proofs.Theorems.AllTokens.{all_tokens}
 use Rattle.grammar.proofs.Theorems.FewEvents.{few_events}
 use Rattle.grammar.proofs.Theorems.FewDiagnostics.{few_diagnostics}
 use Rattle.grammar.specs.Block.{MAX_CONTROL_FLOW_NESTING as limit}
+use Rattle.parser.specs.declared.cursor.Cursor.{Cursor}
 use Rattle.parser.specs.declared.state.Parser.{Parser}
 use Rattle.parser.specs.Rep.{World, world, Rep, Small, Ran}
 use Rattle.items.specs.Entry.{start, ParserSlices, parser_slices, Parse}
@@ -52,6 +53,10 @@ small F h = record {
   diags = omega (arith, ap length (root_diags F), few_diagnostics limit F);
 }
 
+-- Cursor::default, which says its numbers one by one, is where the parser starts.
+pub from_start : {p : Parser} {c : Cursor} {w : World} → (c.pos ≡ 0) × ((c.events ≡ 0) × (c.diags ≡ 0)) → Ran root (world p c) w → Ran root (world p start) w
+from_start {p} {c} {w} z h = subst (λ (d : Cursor). Ran root (world p d) w) (rw (z.0, z.1.0, z.1.1) refl) h
+
 -- e, m and t are what the parser left
 pub whole : (p : Parser) → length p.kinds.now ≤ MAX_SOURCE → {w : World} {e m t : List ℕ} → e ≡ w.p.events.now → m ≡ w.p.messages.now → t ≡ w.p.starts.now → Ran root (world p start) w
     → Parse p.kinds.now (parser_slices p.events.now p.messages.now p.starts.now start) (parser_slices e m t w.c)
@@ -61,13 +66,13 @@ whole p few e-is m-is t-is h =
     let r = h.sim (world p start) (begun F) (starts p) (small F few) in
     record {
       pos = sym r.pos ∙ ap (λ (t : File). 0 + length t) (root_leaves F) ∙ omega arith;
-      events = sym r.evs ∙ ap length (root_events F);
-      diags = sym r.dgs ∙ ap length (root_diags F);
-      ev = e-is ∙ r.events ∙ ap (over p.events.now 0) (root_events F);
-      dm = m-is ∙ r.messages ∙ ap (λ (l : List Diag). over p.messages.now 0 (map (λ d. d.msg) l)) (root_diags F);
-      ds = t-is ∙ r.starts ∙ ap (λ (l : List Diag). over p.starts.now 0 (map (λ d. d.pos) l)) (root_diags F);
+      event_count = sym r.evs ∙ ap length (root_events F);
+      diagnostic_count = sym r.dgs ∙ ap length (root_diags F);
+      events_are = e-is ∙ r.events ∙ ap (over p.events.now 0) (root_events F);
+      messages_are = m-is ∙ r.messages ∙ ap (λ (l : List Diag). over p.messages.now 0 (map (λ d. d.msg) l)) (root_diags F);
+      starts_are = t-is ∙ r.starts ∙ ap (λ (l : List Diag). over p.starts.now 0 (map (λ d. d.pos) l)) (root_diags F);
     }
 
 -- the slices keep their lengths
-pub kept : {F : File} {b w : ParserSlices} → Parse F b w → (length w.ev ≡ length b.ev) × (length w.dm ≡ length b.dm) × (length w.ds ≡ length b.ds)
-kept p = (ap length p.ev ∙ simp length_over, ap length p.dm ∙ simp length_over, ap length p.ds ∙ simp length_over)
+pub kept : {F : File} {b w : ParserSlices} → Parse F b w → (length w.events ≡ length b.events) × (length w.messages ≡ length b.messages) × (length w.starts ≡ length b.starts)
+kept p = (ap length p.events_are ∙ simp length_over, ap length p.messages_are ∙ simp length_over, ap length p.starts_are ∙ simp length_over)

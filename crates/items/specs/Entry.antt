@@ -13,19 +13,19 @@ start = record { pos = 0; events = 0; diags = 0 }
 
 -- what stands in the slices, and the cursor
 pub record ParserSlices : Type 0 where
-  pub ev : List ℕ
-  pub dm : List ℕ
-  pub ds : List ℕ
+  pub events : List ℕ
+  pub messages : List ℕ
+  pub starts : List ℕ
   pub c : Cursor
 
 abbrev pub parser_slices : List ℕ → List ℕ → List ℕ → Cursor → ParserSlices
-parser_slices ev dm ds c = record { ev = ev; dm = dm; ds = ds; c = c }
+parser_slices events messages starts c = record { events = events; messages = messages; starts = starts; c = c }
 
 -- w is what is left after the file F, where the slices were b's
 pub record Parse (F : File) (b w : ParserSlices) : Type 0 where
   pub pos : w.c.pos ≡ length F
-  pub events : w.c.events ≡ length (events_of limit F)
-  pub diags : w.c.diags ≡ length (diags_of limit F)
-  pub ev : w.ev ≡ over b.ev 0 (events_of limit F)
-  pub dm : w.dm ≡ over b.dm 0 (map (λ d. d.msg) (diags_of limit F))
-  pub ds : w.ds ≡ over b.ds 0 (map (λ d. d.pos) (diags_of limit F))
+  pub event_count : w.c.events ≡ length (events_of limit F)
+  pub diagnostic_count : w.c.diags ≡ length (diags_of limit F)
+  pub events_are : w.events ≡ over b.events 0 (events_of limit F)
+  pub messages_are : w.messages ≡ over b.messages 0 (map (λ d. d.msg) (diags_of limit F))
+  pub starts_are : w.starts ≡ over b.starts 0 (map (λ d. d.pos) (diags_of limit F))

@@ -70,7 +70,7 @@ pub fn item_arm_here(parser: &Parser, p: usize) -> ItemArm
     if k < MARK {
         return plain_arm(k);
     }
-    if PUB == k {
+    if k == PUB {
         return declaration_arm(parser.declared(p));
     }
     word_arm(k)

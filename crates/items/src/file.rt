@@ -36,12 +36,7 @@ pub fn parse(kinds: &[u16], events: &mut [u16], messages: &mut [u16], starts: &m
         messages,
         starts,
     };
-    let start = Cursor {
-        pos: 0,
-        events: 0,
-        diags: 0,
-    };
-    let a = parser.start_node(start, SyntaxKind::SourceFile);
+    let a = parser.start_node(Cursor::default(), SyntaxKind::SourceFile);
     let b = source_items(&mut parser, a);
     parser.finish_node(b)
 }

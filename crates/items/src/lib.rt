@@ -1,7 +1,7 @@
 // The items, and the whole file.
 #![tactic(auto)]
 
-pub mod arm;
+mod arm;
 pub mod file;
-pub mod item;
-pub mod procedure;
+mod item;
+mod procedure;

@@ -8,6 +8,7 @@ use blocks::block::parse_block;
 use blocks::close::closing;
 use blocks::place::Depth;
 use declarations::attribute::attributes;
+use declarations::parts::name_behind;
 use declarations::signature::parse_signature;
 use declarations::visibility::optional_visibility;
 use forms::line::parse_line_tail;
@@ -31,11 +32,14 @@ fn optional_signature(parser: &mut Parser, c0: Cursor) -> Cursor
 fn procedure_header(parser: &mut Parser, c0: Cursor) -> Cursor
     ensures { Ran procedure_header (entry parser c0) (exit parser result) }
 {
-    let a = parser.bump_regular_trivia(c0);
-    let b = parser.expect_name(a, Message::Plain(PlainMessage::ExpectedProcedureName));
-    let d = parser.bump_regular_trivia(b);
-    let e = optional_signature(parser, d);
-    parse_line_tail(parser, e)
+    let a = name_behind(
+        parser,
+        c0,
+        Message::Plain(PlainMessage::ExpectedProcedureName),
+    );
+    let b = parser.bump_regular_trivia(a);
+    let d = optional_signature(parser, b);
+    parse_line_tail(parser, d)
 }
 
 // parse_procedure, behind `proc`

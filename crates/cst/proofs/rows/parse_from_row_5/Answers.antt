@@ -37,10 +37,10 @@ written_room n l' l vs e h = ap length e ∙ length_over (take n l) 0 vs ∙ len
 module _
     (source kinds ends dm ds de : List ℕ) (t n anchor : ℕ) (b w : ParserSlices) (ds' de' : List ℕ)
     (fits : t ≤ length kinds) (kinds_are : take t kinds ≡ symbols source) (ends_are : take t ends ≡ token_ends source)
-    (anchor_is : anchor ≡ last_char source) (room_is : n ≡ diagnostic_room (slices kinds ends b.ev dm ds de))
-    (messages_are : b.dm ≡ take n dm) (starts_are : b.ds ≡ take n ds)
+    (anchor_is : anchor ≡ last_char source) (room_is : n ≡ diagnostic_room (slices kinds ends b.events dm ds de))
+    (messages_are : b.messages ≡ take n dm) (starts_are : b.starts ≡ take n ds)
     (parsed : Parse (take t kinds) b w)
-    (placed : Places (take t ends) anchor w.c.diags (take n (w.ds ++ drop n ds)) (take n de) ds' de')
+    (placed : Places (take t ends) anchor w.c.diags (take n (w.starts ++ drop n ds)) (take n de) ds' de')
   where
     abbrev e : ℕ
     e = w.c.events
@@ -48,31 +48,31 @@ module _
     abbrev d : ℕ
     d = w.c.diags
 
-    starts-room : length w.ds ≡ n
+    starts-room : length w.starts ≡ n
     starts-room =
-        written_room n w.ds ds (map (λ d. d.pos) (diags limit (take t kinds)))
-        (parsed.ds ∙ ap (λ l. over l 0 (map (λ d. d.pos) (diags limit (take t kinds)))) starts_are) (omega (arith, room_is))
+        written_room n w.starts ds (map (λ d. d.pos) (diags limit (take t kinds)))
+        (parsed.starts_are ∙ ap (λ l. over l 0 (map (λ d. d.pos) (diags limit (take t kinds)))) starts_are) (omega (arith, room_is))
 
-    reading : WriteReading source b.ev (take n dm) (take n ds) (take n de) e d w.ev w.dm ds' de'
+    reading : WriteReading source b.events (take n dm) (take n ds) (take n de) e d w.events w.messages ds' de'
     reading =
         rw (sym messages_are, sym starts_are)
         (reading_is source _ _ _ b w _ _ _ kinds_are ends_are anchor_is
         (ap length starts_are ∙ length-take-le n ds (omega (arith, room_is)) ∙ sym (length-take-le n de (omega (arith, room_is))))
-        parsed (rw (take_at w.ds (drop n ds) n starts-room) at placed))
+        parsed (rw (take_at w.starts (drop n ds) n starts-room) at placed))
 
-    whole : (r : Answer) → r ≡ cond (ltb (length w.ev) e || ltb n d) OutputRoom Accepted t e d
-        → outcome r (slices kinds ends w.ev (w.dm ++ drop n dm) (ds' ++ drop n (w.ds ++ drop n ds)) (de' ++ drop n de))
-        ≡ from_row_5 source (slices kinds ends b.ev dm ds de)
+    whole : (r : Answer) → r ≡ cond (ltb (length w.events) e || ltb n d) OutputRoom Accepted t e d
+        → outcome r (slices kinds ends w.events (w.messages ++ drop n dm) (ds' ++ drop n (w.starts ++ drop n ds)) (de' ++ drop n de))
+        ≡ from_row_5 source (slices kinds ends b.events dm ds de)
     unfolding from_row_5
     whole r a =
-        let event-room : length w.ev ≡ length b.ev = ap length reading.events_are ∙ length_over b.ev 0 (events_of source) in
-        let answer-is : r ≡ (from_row_5 source (slices kinds ends b.ev dm ds de)).answer =
+        let event-room : length w.events ≡ length b.events = ap length reading.events_are ∙ length_over b.events 0 (events_of source) in
+        let answer-is : r ≡ (from_row_5 source (slices kinds ends b.events dm ds de)).answer =
         a ∙ rw (count_is source kinds t fits kinds_are, event-room, room_is, reading.event_count, reading.diagnostic_count) refl in
         rw (
-          drop_at w.ds (drop n ds) n starts-room,
+          drop_at w.starts (drop n ds) n starts-room,
           answer-is,
-          reading.events_are ∙ over_fit b.ev (events_of source),
-          given_back dm w.dm (map (λ p. p.msg) (places_of source)) n n reading.messages_are refl (omega arith),
+          reading.events_are ∙ over_fit b.events (events_of source),
+          given_back dm w.messages (map (λ p. p.msg) (places_of source)) n n reading.messages_are refl (omega arith),
           given_back ds ds' (map (λ p. p.start) (places_of source)) n n reading.starts_are refl (omega arith),
           given_back de de' (map (λ p. p.stop) (places_of source)) n n reading.stops_are refl (omega arith),
           room_is,
@@ -94,7 +94,7 @@ places-requires c =
     let a = c.args in
     let n = c.min-room.result in
     let few : n ≤ length a.slices.starts.now = omega arith in
-    let starts-room = written_room n c.parse-end.new.starts a.slices.starts.now (map (λ d. d.pos) (diags limit (take a.t a.slices.kinds.now))) c.parse-end.ensures.ds few in (
+    let starts-room = written_room n c.parse-end.new.starts a.slices.starts.now (map (λ d. d.pos) (diags limit (take a.t a.slices.kinds.now))) c.parse-end.ensures.starts_are few in (
       omega (arith, a.text.within_limit, last_within a.text.bytes.now, c.last_char-anchor.ensures),
       ap length (take_at c.parse-end.new.starts _ n starts-room) ∙ starts-room ∙ sym (length-take-le n a.slices.stops.now (omega arith)),
     )

@@ -1,6 +1,6 @@
 -- `items::arm::item_arm_here`: by the token here and the declaration that it starts. Assumes nothing.
 use mathlib.Core.List.{List}
-use mathlib.Core.Path.{◌≡◌, refl, ap₂, ◌∙◌}
+use mathlib.Core.Path.{◌≡◌, refl, sym, ap₂, ◌∙◌}
 use borrow.Author.Tests.{eq-eqb, ne_eqb, lt-ltb, le-ltb}
 use Rattle.grammar.specs.Look.{current}
 use Rattle.grammar.specs.Words.{Sym}
@@ -21,9 +21,9 @@ returns-then-k-lt-MARK c = found _ (rw (lt-ltb _ _ c.if-k-lt-MARK.true) c.plain_
 pub returns-then-k-eq-PUB : goal.returns-then-k-eq-PUB
 unfolding arm_by
 returns-then-k-eq-PUB c =
-    found _ (rw (le-ltb _ _ c.if-k-lt-MARK.false, eq-eqb _ _ c.if-k-eq-PUB.true) c.declaration_arm.ensures) c.current-k.ensures c.declared.ensures
+    found _ (rw (le-ltb _ _ c.if-k-lt-MARK.false, eq-eqb _ _ (sym c.if-k-eq-PUB.true)) c.declaration_arm.ensures) c.current-k.ensures c.declared.ensures
 
 pub returns : goal.returns
 unfolding arm_by
 returns c =
-    found _ (rw (le-ltb _ _ c.if-k-lt-MARK.false, ne_eqb _ _ c.if-k-eq-PUB.false) c.word_arm.ensures) c.current-k.ensures refl
+    found _ (rw (le-ltb _ _ c.if-k-lt-MARK.false, ne_eqb _ _ (λ e. c.if-k-eq-PUB.false (sym e))) c.word_arm.ensures) c.current-k.ensures refl

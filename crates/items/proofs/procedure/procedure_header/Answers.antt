@@ -1,7 +1,8 @@
 -- `items::procedure::procedure_header`: the steps of its callees. Assumes nothing.
+use Rattle.declarations.proofs.Steps.{two, steps}
 use Rattle.parser.proofs.Kit.{◌then◌}
 use Rattle.items.proofs.procedure.procedure_header.Goals as goal
 
 pub returns : goal.returns
 returns c =
-    c.bump_regular_trivia-a.ensures then c.expect_name-b.ensures then c.bump_regular_trivia-d.ensures then c.optional_signature-e.ensures then c.parse_line_tail.ensures
+    steps (two _ _ _) (c.name_behind-a.ensures then c.bump_regular_trivia-b.ensures then c.optional_signature-d.ensures then c.parse_line_tail.ensures)
