@@ -7,6 +7,7 @@ use Rattle.std.proofs.Math.Seq.{get_or-append_seam}
 use Rattle.utf8.specs.Table.{table_3_7}
 use Rattle.utf8.specs.TableLaws.{char_some}
 use Rattle.utf8.specs.FirstByte.{char_width, tail_bytes}
+pub use Rattle.utf8.specs.FirstByte.{Continuation}
 use Rattle.utf8.specs.Rows.{no_row}
 use Rattle.utf8.specs.Width.{width, width_pos}
 use Rattle.utf8.specs.WellFormed.{Character, WellFormed, empty, more}
@@ -66,9 +67,6 @@ last_append (more {c} {s} k w) b h =
     ap last_char (append_assoc c s b)
     ∙ past k (s ++ b) (omega (arith, length-append s b))
     ∙ omega (arith, last_append w b h, length-append c s)
-
-abbrev pub Continuation : ℕ → Type 0
-Continuation b = (0x80 ≤ b) × (b ≤ 0xBF)
 
 -- a well-formed text does not start with a continuation byte
 lead : (b : ℕ) (bs : List ℕ) → WellFormed (b ∷ bs) → Continuation b → ⊥

@@ -1,6 +1,5 @@
 -- What the loops over a text keep.
-use Rattle.std.specs.Prelude.{◌≡◌, List, ℕ, ◌≤◌, ◌<◌, length, drop}
-use Rattle.utf8.specs.Table.{char_length}
+use Rattle.std.specs.Prelude.{◌≡◌, List, ℕ, ◌≤◌, length, drop}
 use Rattle.utf8.specs.Validate.{validate_from}
 
 -- what is left at `at` comes to the same as what was left at `start`
@@ -8,8 +7,3 @@ pub record Passes (s : List ℕ) (start at : ℕ) : Type 0 where
   pub forth : start ≤ at
   pub within : at ≤ length s
   pub same : validate_from 0 start (drop start s) ≡ validate_from 0 at (drop at s)
-
--- the same, and before `to` only where no character stands
-pub record Walk (s : List ℕ) (start to at : ℕ) : Type 0 where
-  pub passes : Passes s start at
-  pub stopped : at < to → char_length (drop at s) ≡ 0

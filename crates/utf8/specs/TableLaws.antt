@@ -2,20 +2,12 @@
 use Rattle.std.specs.Prelude.{◌≡◌, refl, List, [], ◌∷◌, ◌++◌, Bool, true, false, cond, ◌&&◌, ℕ, zero, suc, ◌≤◌, ◌<◌, leb, length, take}
 use Rattle.std.proofs.Common.{sym, ap, ◌∙◌, true≢false, arith, le-leb, leb-true}
 use Rattle.std.proofs.Math.Dec.{eqb-zero-suc, eqb-suc-suc}
-use Rattle.std.proofs.lemmas.Bool.{lt-leb}
+use Rattle.std.proofs.Math.Bool.{and-false}
+use Rattle.std.proofs.lemmas.Bool.{lt-leb, and_parts}
 use Rattle.utf8.specs.Table.{Range, ◌⋯◌, Row, table_3_7, in_range, agree, row_fits, length_in, char_length}
 use Rattle.utf8.specs.WellFormed.{Sequence, done, byte, Character, here, there}
 
 -- a byte against a range
-and_false : (x : Bool) → x && false ≡ false
-and_false true = refl
-and_false false = refl
-
-pub both : (x y : Bool) → x && y ≡ true → (x ≡ true) × (y ≡ true)
-both true true e = (refl, refl)
-both true false e = (refl, e)
-both false y e = (e, absurd (let z : ◌≡◌ {A = ℕ} 0 1 = cc in omega arith))
-
 module _ (low high b : ℕ) where
   pub in_range_yes : low ≤ b → b ≤ high → in_range (low ⋯ high) b ≡ true
   in_range_yes l h = rw (le-leb low b l, le-leb b high h)
@@ -24,10 +16,10 @@ module _ (low high b : ℕ) where
   in_range_under l = rw (lt-leb low b l)
 
   pub in_range_over : high < b → in_range (low ⋯ high) b ≡ false
-  in_range_over h = rw (lt-leb b high h) (and_false (leb low b))
+  in_range_over h = rw (lt-leb b high h) (and-false (leb low b))
 
   pub bounds : in_range (low ⋯ high) b ≡ true → (low ≤ b) × (b ≤ high)
-  bounds e = let w = both (leb low b) (leb b high) e in (leb-true low b w.0, leb-true b high w.1)
+  bounds e = let w = and_parts (leb low b) (leb b high) e in (leb-true low b w.0, leb-true b high w.1)
 
 -- a row by its first byte
 module _ (r : Range) (row : Row) (b : ℕ) (bs : List ℕ) where

@@ -1,17 +1,17 @@
 // Runs of ASCII, a block of 64 bytes at a time.
-ghost use Rattle.std.specs.Prelude.{ℕ, ◌≤◌, ◌<◌, length, get_or};
+ghost use Rattle.std.specs.Prelude.{ℕ, ◌≤◌, ◌<◌, ◌↔◌, IsTrue, length, get_or};
 ghost use Rattle.utf8.specs.Passes.{Passes};
 
-// A number that no byte of the block exceeds; the compiler makes one wide comparison of it.
+// With no early end, so that the compiler makes wide comparisons of it.
 // The library's `is_ascii` looks through a block with other bytes twice: an eighth more instructions on mixed text.
-fn most(block: &[u8; 64]) -> u8
-    ensures { (k : ℕ) → k < 64 → get_or block.now k 0 ≤ result }
+fn is_ascii(block: &[u8; 64]) -> bool
+    ensures { IsTrue result ↔ ((k : ℕ) → k < 64 → get_or block.now k 0 < 0x80) }
 {
-    let mut most = 0;
+    let mut ascii = true;
     for b in block {
-        most = most.max(*b);
+        ascii &= *b < 0x80;
     }
-    most
+    ascii
 }
 
 // Past the blocks of ASCII from `from` on.
@@ -21,7 +21,7 @@ pub fn ascii_end(source: &[u8], from: usize) -> usize
 {
     let (blocks, _) = source[from..].as_chunks::<64>();
     for (i, block) in blocks.iter().enumerate() {
-        if 128 <= most(block) {
+        if !is_ascii(block) {
             return from + 64 * i;
         }
     }

@@ -7,8 +7,8 @@ use Rattle.utf8.proofs.validate.Goals as goal
 pub returns-in_err-at : goal.returns-in_err-at
 returns-in_err-at c =
     let w = c.in_err-at.ensures in
-    let p = passes_both c.loop-at.invariant (passes_both c.ascii_end-from.ensures w.walk.passes) in
-    let e = p.same ∙ stops_at _ _ (omega arith) (w.walk.stopped w.end) in
+    let p = passes_both c.loop-at.invariant (passes_both c.ascii_end-from.ensures w.err.1) in
+    let e = p.same ∙ stops_at _ _ (omega arith) w.err.2 in
     grind arith
 
 pub returns : goal.returns
