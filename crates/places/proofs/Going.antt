@@ -6,9 +6,9 @@ use native.Mathlib.Omega.{arith}
 use native.Mathlib.Numerals.{add-one}
 use lib.ListN.{length, get_or, take, drop, set, length-set, length-take, length-map, drop_of_length-le}
 use lib.Seq.{drop-cons, drop-set-lt, take-set-lt, get_or-take, length-take-le}
+use Rattle.std.proofs.lemmas.List.{take_min, drop_min}
 use Rattle.room.specs.Over.{over, written}
 use Rattle.places.specs.Places.{start_of, stop_of, Places}
-use Rattle.places.proofs.Laws.{less}
 
 pub record Going (ends : List ℕ) (anchor n : ℕ) (starts₀ stops₀ starts stops : List ℕ) (i : ℕ) : Type 0 where
   pub room : n ≤ length starts₀
@@ -53,8 +53,8 @@ whole : (f : ℕ → ℕ) (count n : ℕ) (l₀ vs l : List ℕ) → length vs �
     → over l₀ 0 (map f (take n vs)) ≡ l → l ≡ map f (take count vs) ++ drop count l₀
 whole f count n l₀ vs l same e d =
     let k : n ≤ length vs = omega arith in
-    let t : take n vs ≡ take count vs = ap (λ (m : ℕ). take m vs) (e ∙ ap (min count) (sym same)) ∙ (less count vs).0 in
-    let r : drop n l₀ ≡ drop count l₀ = ap (λ (m : ℕ). drop m l₀) e ∙ (less count l₀).1 in
+    let t : take n vs ≡ take count vs = ap (λ (m : ℕ). take m vs) (e ∙ ap (min count) (sym same)) ∙ take_min count vs in
+    let r : drop n l₀ ≡ drop count l₀ = ap (λ (m : ℕ). drop m l₀) e ∙ drop_min count l₀ in
     sym d
     ∙ written l₀ (map f (take n vs)) n (omega arith) (length-map (take n vs) f ∙ length-take-le n vs k)
     ∙ rw (t, r)

@@ -1,7 +1,7 @@
--- Laws of places: they are grammar's; an index as the code reads it; a count that is beyond the list's end.
+-- Laws of places: they are grammar's; an index as the code reads it.
 -- Assumes nothing.
-use Rattle.std.specs.Prelude.{ℕ, zero, suc, ◌-◌, ◌≤◌, ◌<◌, min, ◌≡◌, refl, Bool, true, false, List, [], ◌∷◌, map, leb, length, get_or, take, drop}
-use Rattle.std.proofs.Common.{sym, ap₂, ◌∙◌, arith, leb-true, leb-false, drop_of_length-le, take_all}
+use Rattle.std.specs.Prelude.{ℕ, zero, suc, ◌-◌, ◌≤◌, ◌<◌, ◌≡◌, refl, List, [], ◌∷◌, map, length, get_or}
+use Rattle.std.proofs.Common.{ap₂, ◌∙◌, arith}
 use Rattle.std.proofs.Math.Path.{ap}
 use Rattle.grammar.specs.Out.{Diag, Place, place, places}
 use Rattle.places.specs.Places.{start_of, stop_of}
@@ -66,16 +66,3 @@ module _ (ends : List ℕ) (anchor i : ℕ) where
     where
       one_less : i ≡ suc (i - 1)
       one_less = omega arith
-
--- `count`, or fewer where the list is shorter
-pub less : (count : ℕ) (l : List ℕ) → (take (min count (length l)) l ≡ take count l) × (drop (min count (length l)) l ≡ drop count l)
-less count l = by_size (leb count (length l)) refl
-  where
-    by_size : (t : Bool) → leb count (length l) ≡ t → (take (min count (length l)) l ≡ take count l) × (drop (min count (length l)) l ≡ drop count l)
-    by_size true e =
-        let h : min count (length l) ≡ count = omega (arith, leb-true count (length l) e) in
-        (ap (λ (n : ℕ). take n l) h, ap (λ (n : ℕ). drop n l) h)
-    by_size false e =
-        let k : length l ≤ count = omega (arith, leb-false count (length l) e) in
-        let h : length l ≤ min count (length l) = omega arith in
-        (take_all (min count (length l)) l h ∙ sym (take_all count l k), drop_of_length-le l h ∙ sym (drop_of_length-le l k))

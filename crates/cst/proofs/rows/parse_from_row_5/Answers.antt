@@ -94,10 +94,11 @@ places-requires c =
     let a = c.args in
     let n = c.min-room.result in
     let few : n ≤ length a.slices.starts.now = omega arith in
-    let starts-room = written_room n c.parse-end.new.starts a.slices.starts.now (map (λ d. d.pos) (diags limit (take a.t a.slices.kinds.now))) c.parse-end.ensures.starts_are few in (
-      omega (arith, a.text.within_limit, last_within a.text.bytes.now, c.last_char-anchor.ensures),
-      ap length (take_at c.parse-end.new.starts _ n starts-room) ∙ starts-room ∙ sym (length-take-le n a.slices.stops.now (omega arith)),
-    )
+    let starts-room = written_room n c.parse-end.new.starts a.slices.starts.now (map (λ d. d.pos) (diags limit (take a.t a.slices.kinds.now))) c.parse-end.ensures.starts_are few in
+    record {
+      anchor = omega (arith, a.text.within_limit, last_within a.text.bytes.now, c.last_char-anchor.ensures);
+      same_length = ap length (take_at c.parse-end.new.starts _ n starts-room) ∙ starts-room ∙ sym (length-take-le n a.slices.stops.now (omega arith));
+    }
 
 pub returns-then-events-end : goal.returns-then-events-end
 returns-then-events-end c =
