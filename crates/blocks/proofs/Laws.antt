@@ -31,7 +31,7 @@ use Rattle.blocks.specs.declared.arm.BlockArm.{BlockArm}
 use Rattle.blocks.specs.declared.close.Form.{Form}
 use Rattle.blocks.specs.declared.place.BlockPlace.{BlockPlace}
 use Rattle.blocks.specs.declared.rounds.Stopped.{Stopped}
-use Rattle.blocks.specs.Arms.{block_arm, inner_arm, by_block_arm, block_by, silent, taking, block_ending}
+use Rattle.blocks.specs.Arms.{block_arm, inner_arm, by_block_arm, block_by, silent, taking}
 use Rattle.blocks.specs.Shapes.{else_line, else_part, KeywordLine, FormHeader, ItemAt, Finish, rest_at, BlockRounds, ParseForm}
 
 -- ---- tests of the token here
@@ -307,7 +307,7 @@ module _ {p : BlockPlace} {m w v w' : World} {s₀ s : Stopped} where
       let a = r₀.form e₀ in
       record {
         onward = r₀.onward farther o farther r.onward;
-        form = λ e. let b = r.form e in record { on = λ u x h. a.on u x (f u x (b.on u x h)); arm = b.arm; first = b.first; below = b.below };
+        form = λ e. let b = r.form e in record { on = λ u x h. a.on u x (f u x (b.on u x h)); arm = b.arm; below = b.below };
         over = λ e. let b = r.over e in record { mid = b.mid; ran = a.on _ _ (f _ _ b.ran); wrote = b.wrote; here = b.here };
       }
 
@@ -315,7 +315,7 @@ module _ {p : BlockPlace} {m w v w' : World} {s₀ s : Stopped} where
 pub from_here : {p : BlockPlace} {m w w' : World} {s : Stopped} → Leads (rest_at p) m (rest_at p) w → Onward m w → BlockRounds p w w' s → BlockRounds p m w' s
 from_here l o r = record {
   onward = o farther r.onward;
-  form = λ e. let b = r.form e in record { on = λ u x h. l.on u x (b.on u x h); arm = b.arm; first = b.first; below = b.below };
+  form = λ e. let b = r.form e in record { on = λ u x h. l.on u x (b.on u x h); arm = b.arm; below = b.below };
   over = λ e. let b = r.over e in record { mid = b.mid; ran = l.on _ _ b.ran; wrote = b.wrote; here = b.here };
 }
 

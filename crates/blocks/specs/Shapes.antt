@@ -1,7 +1,7 @@
 -- What the functions around a block do, as parts of a form: an opening, what leads up to a block, an end. Assumes nothing: these are definitions.
 use Rattle.std.specs.Prelude.{◌≡◌, Bool, true, false, ℕ, ◌<◌}
 use Rattle.grammar.specs.Words.{Sym, File, from, ELSE}
-use Rattle.grammar.specs.Look.{at_keyword, current, at_top_level_form_starter_in_block}
+use Rattle.grammar.specs.Look.{at_keyword, at_top_level_form_starter_in_block}
 use Rattle.grammar.specs.Run.{Kind, num, Error, P, pure, in_node, pick, ◌>>◌, ◌>>=◌, when◌then◌else◌}
 use Rattle.grammar.specs.declared.message.Message.{Message}
 use Rattle.grammar.specs.declared.block.BlockOwner.{BlockOwner}
@@ -96,10 +96,9 @@ abbrev pub block_at : BlockPlace → P BlockParseOutcome
 block_at p = parse_block limit p.owner p.terminators p.depth.forms
 
 -- They come to a form below the limit: what is left of the block from there is what was left of it before.
-pub record AtForm (p : BlockPlace) (w w' : World) (word : Sym) : Type 0 where
+pub record AtForm (p : BlockPlace) (w w' : World) : Type 0 where
   pub on : (v : World) (r : BlockParseOutcome) → RanTo (rest_at p) w' v r → RanTo (rest_at p) w v r
   pub arm : block_arm p.terminators (remaining w') ≡ BlockArm.Control
-  pub first : word ≡ current (remaining w')
   pub below : p.depth.forms < limit
 
 -- Or they end the block, and its closing event is written.
@@ -111,13 +110,8 @@ pub record Over (p : BlockPlace) (w w' : World) (outcome : BlockParseOutcome) (i
 
 pub record BlockRounds (p : BlockPlace) (w w' : World) (s : Stopped) : Type 0 where
   pub onward : Onward w w'
-  pub form : s.control ≡ true → AtForm p w w' s.word
-  pub over : s.control ≡ false → Over p w w' s.outcome s.item
-
--- at a form, in whatever block of this depth
-pub record FormHere (depth : ℕ) (w w' : World) (s : Stopped) : Type 0 where
-  pub onward : Onward w w'
-  pub of : (p : BlockPlace) → depth ≡ p.depth.forms → block_arm p.terminators (remaining w) ≡ BlockArm.Control → BlockRounds p w w' s
+  pub form : s.control ≡ true → AtForm p w w'
+  pub over : s.control ≡ false → Over p w w' s.end.outcome s.end.item
 
 -- the same behind the block's opening event
 pub record FirstRounds (p : BlockPlace) (w w' : World) (s : Stopped) : Type 0 where

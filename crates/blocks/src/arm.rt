@@ -13,6 +13,7 @@ use parser::sets::CONTROL_FLOW;
 use parser::state::Parser;
 
 // The arms are values, and no closures: what arm a round takes is proved of the definition's tests, in another order than the code's.
+
 // Tokens are taken, and there is another round.
 #[derive(Clone, Copy)]
 pub enum Taken {
@@ -46,9 +47,12 @@ fn is_control_flow(k: u16) -> bool
 
 // The tests behind those of `block_arm_here`. Where `item` holds, a block inside ended at an item that starts here. `known` is what is
 // remembered of the lookahead behind doc comments.
+#[tactic(auto, using(crate::proofs::Tests::inner), unfolding(crate::specs::Arms::inner_arm))]
 fn inner_arm(parser: &Parser, p: usize, known: &mut Remembered, item: bool) -> BlockArm
-    requires { (DocKnown parser.now.kinds.now p known.old) × (ItemAt parser.now.kinds.now p item) }
-    ensures { (result ≡ inner_arm (drop p parser.now.kinds.now)) × (DocKnown parser.now.kinds.now p known.new) }
+    requires known { DocKnown parser.now.kinds.now p known.old }
+    requires item { ItemAt parser.now.kinds.now p item }
+    ensures arm { result ≡ inner_arm (drop p parser.now.kinds.now) }
+    ensures known { DocKnown parser.now.kinds.now p known.new }
 {
     if item {
         return BlockArm::Closes(Closing::Item);
@@ -75,6 +79,7 @@ fn inner_arm(parser: &Parser, p: usize, known: &mut Remembered, item: bool) -> B
 
 // The tests of a round. Trivia and identifiers that are no words are met most, and are neither the end of the file nor a
 // terminator nor a form's or an item's start, so they are tested first.
+#[tactic(auto, using(crate::proofs::Tests::outer), unfolding(crate::specs::Arms::block_arm))]
 pub fn block_arm_here(
     parser: &Parser,
     p: usize,
@@ -82,8 +87,10 @@ pub fn block_arm_here(
     known: &mut Remembered,
     item: bool,
 ) -> BlockArm
-    requires { (DocKnown parser.now.kinds.now p known.old) × (ItemAt parser.now.kinds.now p item) }
-    ensures { (result ≡ block_arm terminators (drop p parser.now.kinds.now)) × (DocKnown parser.now.kinds.now p known.new) }
+    requires known { DocKnown parser.now.kinds.now p known.old }
+    requires item { ItemAt parser.now.kinds.now p item }
+    ensures arm { result ≡ block_arm terminators (drop p parser.now.kinds.now) }
+    ensures known { DocKnown parser.now.kinds.now p known.new }
 {
     let k = parser.current(p);
     if is_regular_trivia(k) {

@@ -3,7 +3,7 @@
 // their places, and a form's second block takes the place of its first.
 ghost use Rattle.std.specs.Prelude.{◌≡◌, true, drop};
 ghost use Rattle.grammar.specs.Words.{is, DO as do_word, IF as if_word, REPEAT as repeat_word, WHILE as while_word};
-ghost use Rattle.grammar.specs.Look.{at, current, control_flow};
+ghost use Rattle.grammar.specs.Look.{at, control_flow};
 ghost use Rattle.grammar.specs.Block.{MAX_CONTROL_FLOW_NESTING as limit, parse_block, parse_if, parse_while, parse_do_while, parse_repeat};
 ghost use Rattle.grammar.specs.Block.{parse_control_flow};
 ghost use Rattle.parser.specs.Rep.{entry, exit};
@@ -51,26 +51,22 @@ fn block_from(parser: &mut Parser, start: Start) -> BlockEnd
     let place = start.place;
     let mut s = first_rounds(parser, start.c, place);
     while s.control {
-        let f = parse_control_flow(parser, s.c, s.word, place.depth.deeper());
+        let f = parse_control_flow(parser, s.end.c, place.depth.deeper());
         if f.eof {
             return ended_file(parser, f.c);
         }
         s = next_rounds(parser, f.c, place, f.item);
     }
-    BlockEnd {
-        c: s.c,
-        outcome: s.outcome,
-        item: s.item,
-    }
+    s.end
 }
 
-// The form that starts here; k is its keyword.
+// The form that starts here.
 #[cycle(forms)]
-fn parse_control_flow(parser: &mut Parser, c0: Cursor, k: u16, depth: Depth) -> Form
-    requires { (k ≡ current (drop c0.pos parser.old.kinds.now)) × (at control_flow (drop c0.pos parser.old.kinds.now) ≡ true) }
+fn parse_control_flow(parser: &mut Parser, c0: Cursor, depth: Depth) -> Form
+    requires { at control_flow (drop c0.pos parser.old.kinds.now) ≡ true }
     ensures { ParseForm (parse_control_flow (parse_block limit) depth.forms) (entry parser c0) (exit parser result.c) result }
 {
-    match k {
+    match parser.current(c0.pos) {
         IF => parse_if(parser, c0, depth),
         DO => parse_do_while(parser, c0, depth),
         WHILE => parse_while(parser, c0, depth),

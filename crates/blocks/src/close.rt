@@ -85,7 +85,9 @@ pub fn close(parser: &mut Parser, c0: Cursor, owner: BlockOwner, k: Closing) -> 
 
 // The closing event of a block in which the file ended.
 pub fn ended_file(parser: &mut Parser, c0: Cursor) -> BlockEnd
-    ensures { (Wrote 0 (entry parser c0) (exit parser result.c)) × (result.outcome ≡ ReachedEof) × (result.item ≡ false) }
+    ensures wrote { Wrote 0 (entry parser c0) (exit parser result.c) }
+    ensures outcome { result.outcome ≡ ReachedEof }
+    ensures item { result.item ≡ false }
 {
     BlockEnd {
         c: parser.finish_node(c0),

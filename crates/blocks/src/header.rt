@@ -1,7 +1,7 @@
 // What stands before a block: a keyword, for some forms its suffixes, and the rest of the line.
 ghost use Rattle.std.specs.Prelude.{◌≡◌, true, drop};
-ghost use Rattle.lexer.specs.Syntax.{kind_number, IfOp, WhileOp, DoWhileOp, RepeatOp};
-ghost use Rattle.grammar.specs.Words.{is, key, word_number, DO as do_word, IF as if_word, REPEAT as repeat_word, WHILE as while_word};
+ghost use Rattle.lexer.specs.Syntax.{kind_number, DoWhileOp};
+ghost use Rattle.grammar.specs.Words.{is, key, word_number, DO as do_word};
 ghost use Rattle.grammar.specs.Look.{at};
 ghost use Rattle.parser.specs.Rep.{entry, exit};
 ghost use Rattle.blocks.specs.Shapes.{header as header_of, keyword_line, FormHeader, KeywordLine};
@@ -23,8 +23,7 @@ pub fn header(parser: &mut Parser, c0: Cursor, node: SyntaxKind, keyword: Word) 
 {
     let a = parser.start_node(c0, node);
     let b = parser.expect_keyword(a, keyword, Message::Unreached);
-    let bc = b.c;
-    let s = parse_structured_header_suffixes(parser, bc);
+    let s = parse_structured_header_suffixes(parser, b.c);
     parse_line_tail(parser, s)
 }
 
@@ -35,8 +34,7 @@ pub fn keyword_line(parser: &mut Parser, c0: Cursor, keyword: Word) -> Cursor
     ensures { KeywordLine (key (word_number keyword)) (entry parser c0) (exit parser result) }
 {
     let b = parser.expect_keyword(c0, keyword, Message::Unreached);
-    let bc = b.c;
-    parse_line_tail(parser, bc)
+    parse_line_tail(parser, b.c)
 }
 
 // The opening event of a `do` form, and its first line.

@@ -4,7 +4,7 @@ ghost use Rattle.grammar.specs.Block.{MAX_CONTROL_FLOW_NESTING as limit};
 
 use grammar::block::{BlockOwner, Terminators};
 
-// Control-flow nodes in one another.
+// At most this many control-flow nodes stand in one another.
 pub const MAX_CONTROL_FLOW_NESTING: u16 = 256;
 
 // How many control forms stand around something.

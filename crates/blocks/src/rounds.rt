@@ -1,10 +1,13 @@
 // The rounds of parse_block's loop up to its next form. They make no call into the cycle, so their locals stand in none of its frames.
+ghost use Rattle.std.specs.Prelude.{◌≡◌, drop};
 ghost use Rattle.parser.specs.Rep.{entry, exit};
-ghost use Rattle.blocks.specs.Shapes.{ItemAt, FormHere, BlockRounds, FirstRounds};
+ghost use Rattle.blocks.specs.declared.arm.BlockArm.TheVariants.{Control};
+ghost use Rattle.blocks.specs.Arms.{block_arm};
+ghost use Rattle.blocks.specs.Shapes.{ItemAt, BlockRounds, FirstRounds};
 
 use crate::arm::{BlockArm, block_arm_here};
-use crate::close::close;
-use crate::place::{BlockPlace, Depth, MAX_CONTROL_FLOW_NESTING};
+use crate::close::{BlockEnd, close, ended_file};
+use crate::place::{BlockPlace, MAX_CONTROL_FLOW_NESTING};
 use crate::reject::reject_excessive_control_flow_nesting;
 use crate::step::take;
 use grammar::block::BlockParseOutcome;
@@ -13,38 +16,33 @@ use parser::cursor::Cursor;
 use parser::look::Remembered;
 use parser::state::Parser;
 
-// Where the rounds stop: at a form, whose keyword is `word`, or behind the block's closing event. A flag, and no enum of the two: with
+// Where the rounds stop: at a form, or behind the block's closing event. A flag, and no enum of the two: with
 // that each level of the cycle takes 64 bytes more.
 #[derive(Clone, Copy)]
 pub struct Stopped {
-    pub c: Cursor,
+    pub end: BlockEnd,
     pub control: bool,
-    pub word: u16,
-    pub outcome: BlockParseOutcome,
-    pub item: bool,
 }
 
 // At a form. Past the limit the rest of the file is rejected, and the block has ended.
-fn form_here(parser: &mut Parser, c0: Cursor, depth: Depth) -> Stopped
-    ensures { FormHere depth.forms (entry parser c0) (exit parser result.c) result }
+fn form_here(parser: &mut Parser, c0: Cursor, place: BlockPlace) -> Stopped
+    requires { block_arm place.terminators (drop c0.pos parser.old.kinds.now) ≡ Control }
+    ensures { BlockRounds place (entry parser c0) (exit parser result.end.c) result }
 {
-    if MAX_CONTROL_FLOW_NESTING <= depth.forms {
+    if MAX_CONTROL_FLOW_NESTING <= place.depth.forms {
         let d = reject_excessive_control_flow_nesting(parser, c0);
-        let e = parser.finish_node(d);
         return Stopped {
-            c: e,
+            end: ended_file(parser, d),
             control: false,
-            word: 0,
-            outcome: BlockParseOutcome::ReachedEof,
-            item: false,
         };
     }
     Stopped {
-        c: c0,
+        end: BlockEnd {
+            c: c0,
+            outcome: BlockParseOutcome::ReachedEof,
+            item: false,
+        },
         control: true,
-        word: parser.current(c0.pos),
-        outcome: BlockParseOutcome::ReachedEof,
-        item: false,
     }
 }
 
@@ -53,7 +51,7 @@ fn form_here(parser: &mut Parser, c0: Cursor, depth: Depth) -> Stopped
 // of trivia before it, so nothing is remembered over a form.
 fn rounds(parser: &mut Parser, c0: Cursor, place: BlockPlace, item0: bool) -> Stopped
     requires { ItemAt parser.old.kinds.now c0.pos item0 }
-    ensures { BlockRounds place (entry parser c0) (exit parser result.c) result }
+    ensures { BlockRounds place (entry parser c0) (exit parser result.end.c) result }
 {
     let mut c = c0;
     let mut item = item0;
@@ -69,23 +67,19 @@ fn rounds(parser: &mut Parser, c0: Cursor, place: BlockPlace, item0: bool) -> St
                 item = false;
             }
             BlockArm::Closes(k) => {
-                let e = close(parser, c, place.owner, k);
                 return Stopped {
-                    c: e.c,
+                    end: close(parser, c, place.owner, k),
                     control: false,
-                    word: 0,
-                    outcome: e.outcome,
-                    item: e.item,
                 };
             }
-            BlockArm::Control => return form_here(parser, c, place.depth),
+            BlockArm::Control => return form_here(parser, c, place),
         }
     }
 }
 
 // The block's opening event, and its rounds up to the first form.
 pub fn first_rounds(parser: &mut Parser, c0: Cursor, place: BlockPlace) -> Stopped
-    ensures { FirstRounds place (entry parser c0) (exit parser result.c) result }
+    ensures { FirstRounds place (entry parser c0) (exit parser result.end.c) result }
 {
     let c = parser.start_node(c0, SyntaxKind::Block);
     rounds(parser, c, place, false)
@@ -94,7 +88,7 @@ pub fn first_rounds(parser: &mut Parser, c0: Cursor, place: BlockPlace) -> Stopp
 // The rounds behind a form.
 pub fn next_rounds(parser: &mut Parser, c0: Cursor, place: BlockPlace, item0: bool) -> Stopped
     requires { ItemAt parser.old.kinds.now c0.pos item0 }
-    ensures { BlockRounds place (entry parser c0) (exit parser result.c) result }
+    ensures { BlockRounds place (entry parser c0) (exit parser result.end.c) result }
 {
     rounds(parser, c0, place, item0)
 }

@@ -26,21 +26,27 @@ fn suffix_operand(parser: &mut Parser, c0: Cursor) -> Flow
 {
     let k = parser.current(c0.pos);
     if k == L_BRACKET {
-        let g = parse_balanced_group(
-            parser,
-            c0,
-            SyntaxKind::LBracket,
-            SyntaxKind::RBracket,
-            Message::Plain(PlainMessage::ExpectedSuffixEnd),
-        );
-        return Flow { c: g, ok: true };
+        return Flow {
+            c: parse_balanced_group(
+                parser,
+                c0,
+                SyntaxKind::LBracket,
+                SyntaxKind::RBracket,
+                Message::Plain(PlainMessage::ExpectedSuffixEnd),
+            ),
+            ok: true,
+        };
     }
     if is_operand(k) {
-        let d = parser.bump(c0);
-        return Flow { c: d, ok: true };
+        return Flow {
+            c: parser.bump(c0),
+            ok: true,
+        };
     }
-    let e = parser.error_here(c0, Message::Plain(PlainMessage::ExpectedSuffix));
-    Flow { c: e, ok: false }
+    Flow {
+        c: parser.error_here(c0, Message::Plain(PlainMessage::ExpectedSuffix)),
+        ok: false,
+    }
 }
 
 // Whether there is a further suffix.

@@ -1,17 +1,14 @@
 -- Blocks and the four forms call each other. Assumes nothing.
-use mathlib.Core.Path.{refl, sym, ◌∙◌}
+use mathlib.Core.Path.{refl, sym}
 use native.Mathlib.Omega.{arith}
 use borrow.Author.Tests.{lt-leb}
 use Rattle.blocks.specs.declared.arm.BlockArm.{BlockArm}
 use Rattle.blocks.specs.Arms.{by_block_arm}
 use Rattle.blocks.proofs.Laws.{meant, deeper, round, said_no_item, gives, from_form, repeat_here, formed, no_condition, condition, no_else, with_else}
 use Rattle.parser.proofs.Kit.{on_to, off_to, node_to, bind_to, yes_to, no_to}
-use Rattle.grammar.specs.Block.{MAX_CONTROL_FLOW_NESTING as limit, parse_block, parse_control_flow, do_condition, found_terminator, parse_do_while, parse_if, reached_eof, ended, parse_repeat, parse_while}
+use Rattle.grammar.specs.Block.{MAX_CONTROL_FLOW_NESTING as limit, parse_block, parse_control_flow, do_condition, parse_do_while, parse_if, ended, parse_repeat, parse_while}
 use Rattle.grammar.specs.Words.{is, DO, IF, WHILE}
 use Rattle.parser.proofs.Ahead.{at_here, at_not, at_other}
-use Rattle.grammar.specs.Look.{one_of}
-use Rattle.std.proofs.lemmas.Bool.{and_parts}
-use mathlib.Core.Bool.{not}
 use Rattle.blocks.specs.Shapes.{else_part}
 use Rattle.grammar.specs.declared.block.BlockOwner.{BlockOwner}
 use borrow.Author.Rules.{rules}
@@ -23,7 +20,7 @@ block_from-parse_control_flow-f-requires t c =
     let rounds = c.loop-s.invariant.on _ begun.rounds in
     let here = rounds.form c.loop-s-test.true in
     let control = meant c.args.start.place.terminators _ BlockArm.Control refl here.arm in
-    (omega (arith, begun.wrote.pos, rounds.onward), (here.first, control))
+    (omega (arith, begun.wrote.pos, rounds.onward), control)
 
 pub block_from-returns-then-f : goal.block_from-returns-then-f
 unfolding parse_block by_block_arm
@@ -31,9 +28,9 @@ block_from-returns-then-f t c =
     let begun = c.first_rounds-s.ensures in
     let here = (c.loop-s.invariant.on _ begun.rounds).form c.loop-s-test.true in
     let form = deeper c.args.start.place.depth.forms c.deeper.ensures c.parse_control_flow-f.ensures.ran in
-    let rest = bind_to _ form (on_to _ c.if-f.true (gives c.ended_file.ensures.1)) in
+    let rest = bind_to _ form (on_to _ c.if-f.true (gives c.ended_file.ensures.outcome)) in
     let inside = here.on _ _ (round c.args.start.place BlockArm.Control (sym here.arm) refl (off_to _ (lt-leb limit c.args.start.place.depth.forms here.below) rest)) in
-    record { ran = node_to _ begun.wrote inside c.ended_file.ensures.0; here = said_no_item c.ended_file.ensures.2 }
+    record { ran = node_to _ begun.wrote inside c.ended_file.ensures.wrote; here = said_no_item c.ended_file.ensures.item }
 
 pub block_from-loop-s-preserved : goal.block_from-loop-s-preserved
 unfolding by_block_arm
@@ -57,54 +54,54 @@ block_from-returns t c =
 
 -- parse_control_flow's cases are the words' numbers: 2079 is `if`, 1055 `do`, 4127 `while`
 pub parse_control_flow-parse_if-requires : goal.parse_control_flow-parse_if-requires
-parse_control_flow-parse_if-requires t c = (omega arith, at_here IF _ refl c.requires.0 c.in-2079.is)
+parse_control_flow-parse_if-requires t c = (omega arith, at_here IF _ refl c.current.ensures c.in-2079.is)
 
 pub parse_control_flow-returns-in-2079 : goal.parse_control_flow-returns-in-2079
 unfolding parse_control_flow
 parse_control_flow-returns-in-2079 t c =
     record {
-      ran = yes_to _ _ refl (at_here IF _ refl c.requires.0 c.in-2079.is) c.parse_if.ensures.ran;
+      ran = yes_to _ _ refl (at_here IF _ refl c.current.ensures c.in-2079.is) c.parse_if.ensures.ran;
       past = c.parse_if.ensures.past;
       here = c.parse_if.ensures.here;
     }
 
 pub parse_control_flow-parse_do_while-requires : goal.parse_control_flow-parse_do_while-requires
-parse_control_flow-parse_do_while-requires t c = (omega arith, at_here DO _ refl c.requires.0 c.in-1055.is)
+parse_control_flow-parse_do_while-requires t c = (omega arith, at_here DO _ refl c.current.ensures c.in-1055.is)
 
 pub parse_control_flow-returns-in-1055 : goal.parse_control_flow-returns-in-1055
 unfolding parse_control_flow
 parse_control_flow-returns-in-1055 t c =
     record {
-      ran = no_to _ _ refl (at_other (is IF) DO _ refl (at_here DO _ refl c.requires.0 c.in-1055.is)) (yes_to _ _ refl (at_here DO _ refl c.requires.0 c.in-1055.is) c.parse_do_while.ensures.ran);
+      ran = no_to _ _ refl (at_other (is IF) DO _ refl (at_here DO _ refl c.current.ensures c.in-1055.is)) (yes_to _ _ refl (at_here DO _ refl c.current.ensures c.in-1055.is) c.parse_do_while.ensures.ran);
       past = c.parse_do_while.ensures.past;
       here = c.parse_do_while.ensures.here;
     }
 
 pub parse_control_flow-parse_while-requires : goal.parse_control_flow-parse_while-requires
-parse_control_flow-parse_while-requires t c = (omega arith, at_here WHILE _ refl c.requires.0 c.in-4127.is)
+parse_control_flow-parse_while-requires t c = (omega arith, at_here WHILE _ refl c.current.ensures c.in-4127.is)
 
 pub parse_control_flow-returns-in-4127 : goal.parse_control_flow-returns-in-4127
 unfolding parse_control_flow
 parse_control_flow-returns-in-4127 t c =
     record {
-      ran = no_to _ _ refl (at_other (is IF) WHILE _ refl (at_here WHILE _ refl c.requires.0 c.in-4127.is)) (no_to _ _ refl (at_other (is DO) WHILE _ refl (at_here WHILE _ refl c.requires.0 c.in-4127.is)) (yes_to _ _ refl (at_here WHILE _ refl c.requires.0 c.in-4127.is) c.parse_while.ensures.ran));
+      ran = no_to _ _ refl (at_other (is IF) WHILE _ refl (at_here WHILE _ refl c.current.ensures c.in-4127.is)) (no_to _ _ refl (at_other (is DO) WHILE _ refl (at_here WHILE _ refl c.current.ensures c.in-4127.is)) (yes_to _ _ refl (at_here WHILE _ refl c.current.ensures c.in-4127.is) c.parse_while.ensures.ran));
       past = c.parse_while.ensures.past;
       here = c.parse_while.ensures.here;
     }
 
 pub parse_control_flow-parse_repeat-requires : goal.parse_control_flow-parse_repeat-requires
 parse_control_flow-parse_repeat-requires t c =
-    let no-if = at_not IF _ refl c.requires.0 (search rules) in
-    let no-do = at_not DO _ refl c.requires.0 (search rules) in
-    let no-while = at_not WHILE _ refl c.requires.0 (search rules) in
-    (omega arith, repeat_here _ c.requires.1 no-if no-do no-while)
+    let no-if = at_not IF _ refl c.current.ensures (search rules) in
+    let no-do = at_not DO _ refl c.current.ensures (search rules) in
+    let no-while = at_not WHILE _ refl c.current.ensures (search rules) in
+    (omega arith, repeat_here _ c.requires no-if no-do no-while)
 
 pub parse_control_flow-returns-in_default : goal.parse_control_flow-returns-in_default
 unfolding parse_control_flow
 parse_control_flow-returns-in_default t c =
-    let no-if = at_not IF _ refl c.requires.0 (search rules) in
-    let no-do = at_not DO _ refl c.requires.0 (search rules) in
-    let no-while = at_not WHILE _ refl c.requires.0 (search rules) in
+    let no-if = at_not IF _ refl c.current.ensures (search rules) in
+    let no-do = at_not DO _ refl c.current.ensures (search rules) in
+    let no-while = at_not WHILE _ refl c.current.ensures (search rules) in
     record {
       ran = no_to _ _ refl no-if (no_to _ _ refl no-do (no_to _ _ refl no-while c.parse_repeat.ensures.ran));
       past = c.parse_repeat.ensures.past;

@@ -28,7 +28,7 @@ decreases-parse_while l = 4 * (length l.parser.now.kinds.now - l.c0.pos)
 
 abbrev pub invariant-block_from-loop-s : goal.invariant-block_from-loop-s
 invariant-block_from-loop-s l =
-    Going l.place (world l.initial.parser l.initial.s.c) l.initial.s (world l.parser l.s.c) l.s
+    Going l.place (world l.initial.parser l.initial.s.end.c) l.initial.s (world l.parser l.s.end.c) l.s
 
 abbrev pub decreases-block_from-loop-s : goal.decreases-block_from-loop-s
-decreases-block_from-loop-s l = length l.parser.kinds.now - l.s.c.pos
+decreases-block_from-loop-s l = length l.parser.kinds.now - l.s.end.c.pos

@@ -1,6 +1,6 @@
 -- `blocks::close::finish`: the form's `end` where its block was closed, and the closing event. Assumes nothing.
 use mathlib.Core.Bool.{not}
-use mathlib.Core.Path.{sym, ap, ◌∙◌}
+use mathlib.Core.Path.{ap}
 use Rattle.blocks.proofs.Laws.{finished}
 use Rattle.blocks.proofs.close.finish.Goals as goal
 

@@ -1,7 +1,4 @@
 -- `blocks::header::do_header`: the opening event, and the line. Assumes nothing.
-use mathlib.Core.Path.{refl, ap, ◌∙◌}
-use Rattle.grammar.specs.Words.{is, DO}
-use Rattle.grammar.specs.Look.{at, one_of}
 use Rattle.blocks.proofs.Laws.{opened}
 use Rattle.parser.proofs.Kit.{◌then_to◌}
 use Rattle.blocks.proofs.header.do_header.Goals as goal

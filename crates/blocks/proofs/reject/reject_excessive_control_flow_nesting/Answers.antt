@@ -3,7 +3,7 @@ use mathlib.Core.Bool.{true}
 use mathlib.Core.Path.{refl, sym, ◌∙◌}
 use native.Mathlib.Omega.{arith}
 use Rattle.grammar.specs.Block.{all_round, reject_excessive_control_flow_nesting}
-use Rattle.parser.proofs.Kit.{node, ◌then◌, begins, goes_on, scan_end, scan_go}
+use Rattle.parser.proofs.Kit.{node, ◌then◌, goes_on, scan_end, scan_go}
 use Rattle.parser.proofs.Laws.{eof_within}
 use Rattle.blocks.proofs.reject.reject_excessive_control_flow_nesting.Goals as goal
 

@@ -1,6 +1,5 @@
 -- `blocks::rounds::first_rounds`: the event, and the rounds. Assumes nothing.
 use Rattle.parser.proofs.Kit.{◌farther◌}
-use Rattle.blocks.proofs.Laws.{no_item}
 use Rattle.blocks.proofs.rounds.first_rounds.Goals as goal
 
 pub returns : goal.returns

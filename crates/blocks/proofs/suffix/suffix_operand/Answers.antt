@@ -14,7 +14,7 @@ pub returns-then-k-eq-L_BRACKET : goal.returns-then-k-eq-L_BRACKET
 unfolding suffix_operand
 returns-then-k-eq-L_BRACKET c =
     let group = at_here LBracket _ refl c.current-k.ensures c.if-k-eq-L_BRACKET.true in
-    yes_to _ _ refl group (c.parse_balanced_group-g.ensures then_to done_to true)
+    yes_to _ _ refl group (c.parse_balanced_group.ensures then_to done_to true)
 
 pub returns-then-is_operand : goal.returns-then-is_operand
 unfolding suffix_operand name_like one_of
@@ -23,7 +23,7 @@ returns-then-is_operand c =
     let test = sym (at_or name_like (one_of (Number ∷ QuotedString ∷ [])) _) ∙ operand in
     let no-group = at_not LBracket _ refl c.current-k.ensures c.if-k-eq-L_BRACKET.false in
     no_to _ _ refl no-group
-    (like_to _ (either (at name_like) (at (one_of (Number ∷ QuotedString ∷ []))) _ _ _ test) (c.bump-d.ensures.ran then_to done_to true))
+    (like_to _ (either (at name_like) (at (one_of (Number ∷ QuotedString ∷ []))) _ _ _ test) (c.bump.ensures.ran then_to done_to true))
 
 pub returns : goal.returns
 unfolding suffix_operand name_like one_of
@@ -32,4 +32,4 @@ returns c =
     let test = sym (at_or name_like (one_of (Number ∷ QuotedString ∷ [])) _) ∙ operand in
     let no-group = at_not LBracket _ refl c.current-k.ensures c.if-k-eq-L_BRACKET.false in
     no_to _ _ refl no-group
-    (like_to _ (neither (at name_like) (at (one_of (Number ∷ QuotedString ∷ []))) _ _ _ test) (c.error_here-e.ensures.ran then_to done_to false))
+    (like_to _ (neither (at name_like) (at (one_of (Number ∷ QuotedString ∷ []))) _ _ _ test) (c.error_here.ensures.ran then_to done_to false))
