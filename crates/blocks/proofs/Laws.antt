@@ -24,7 +24,7 @@ use Rattle.grammar.specs.Laws.Stops.{stops_block}
 use Rattle.parser.specs.Rep.{World, file, remaining, Onward, Past, Wrote, Ran, RanTo}
 use Rattle.parser.proofs.Kit.{Leads, ◌farther◌, answers, like_to, yes_to, no_to, done_to, bind_to, node_to, ◌then_to◌}
 use Rattle.parser.proofs.Expect.{take_expected}
-use Rattle.parser.proofs.Laws.{at_current, at_some}
+use Rattle.parser.proofs.Laws.{at_by, at_some}
 use Rattle.blocks.specs.declared.arm.Taken.{Taken}
 use Rattle.blocks.specs.declared.arm.Closing.{Closing}
 use Rattle.blocks.specs.declared.arm.BlockArm.{BlockArm}
@@ -35,10 +35,6 @@ use Rattle.blocks.specs.Arms.{block_arm, inner_arm, by_block_arm, block_by, sile
 use Rattle.blocks.specs.Shapes.{else_line, else_part, KeywordLine, FormHeader, ItemAt, Finish, rest_at, BlockRounds, ParseForm}
 
 -- ---- tests of the token here
--- a test of its number
-pub at_number : (t : Sym → Bool) (r : List Sym) → t Syntax.Tombstone ≡ false → {k : Sym} {x b : Bool} → k ≡ current r → x ≡ t k → x ≡ b → at t r ≡ b
-at_number t r n e f h = sym (at_current t r n) ∙ ap t (sym e) ∙ sym f ∙ h
-
 -- at an Ident that is no word
 ident_here : (terminators : Terminators) (r : List Sym) → block_arm terminators (Syntax.Ident ∷ r) ≡ BlockArm.Takes Taken.Instruction
 unfolding block_arm inner_arm one_of at eof name_like starts_instruction is_top_level_starter at_prefixed_keyword at_top_level_form_starter_in_block at_bare_while at_terminator at_stray_else
@@ -51,32 +47,33 @@ unfolding current
 ident_arm terminators [] c e = absurd (omega (arith, c, e))
 ident_arm terminators (s ∷ r) c e = sym (ident_here terminators r) ∙ ap (λ i. block_arm terminators (i ∷ r)) (sym e ∙ c)
 
-pub at_or : (s t : Sym → Bool) (r : List Sym) → at (λ k. s k || t k) r ≡ (at s r || at t r)
+at_or : (s t : Sym → Bool) (r : List Sym) → at (λ k. s k || t k) r ≡ (at s r || at t r)
 unfolding at
 at_or s t [] = refl
 at_or s t (x ∷ r) = refl
 
-if_of : {A : Type 0} (t : List Sym → Bool) (f g : P A) (r : List Sym) {b : Bool} → t r ≡ b → (when t then f else g) r ≡ pick b f g r
-unfolding ◌>>=◌ peek
-if_of t f g r e = ap (λ u. pick u f g r) e
+-- at the operand of a suffix
+pub operand_here : {x : Bool} {k : Sym} (r : List Sym) → x ≡ (name_like k || one_of (Syntax.Number ∷ Syntax.QuotedString ∷ []) k) → k ≡ current r
+    → x ≡ (at name_like r || at (one_of (Syntax.Number ∷ Syntax.QuotedString ∷ [])) r)
+unfolding one_of name_like
+operand_here r e c =
+    at_by (λ k. name_like k || one_of (Syntax.Number ∷ Syntax.QuotedString ∷ []) k) r refl e c ∙ at_or name_like (one_of (Syntax.Number ∷ Syntax.QuotedString ∷ [])) r
 
--- two tests with the same answer
-module _ {A : Type 0} (s t : List Sym → Bool) (f g : P A) (r : List Sym) where
-  pub either : (s r || t r) ≡ true → (when s then f else when t then f else g) r ≡ f r
-  either = go (s r) (t r) refl refl
+-- two tests with the same answer, which the code asks together
+module _ {A : Type 0} {w w' : World} {a : A} (s t : List Sym → Bool) {x : Bool} (e : x ≡ (s (remaining w) || t (remaining w))) where
+  pub either : {f : P A} (g : P A) → x ≡ true → RanTo f w w' a → RanTo (when s then f else when t then f else g) w w' a
+  either {f} g k h = by_test (s (remaining w)) refl (sym e ∙ k)
     where
-      go : (u v : Bool) → s r ≡ u → t r ≡ v → (u || v) ≡ true → (when s then f else when t then f else g) r ≡ f r
-      go true v p q e = if_of s f (when t then f else g) r p
-      go false true p q e = if_of s f (when t then f else g) r p ∙ if_of t f g r q
-      go false false p q e = absurd (false≢true e)
+      by_test : (u : Bool) → s (remaining w) ≡ u → (u || t (remaining w)) ≡ true → RanTo (when s then f else when t then f else g) w w' a
+      by_test true p q = yes_to s _ refl p h
+      by_test false p q = no_to s _ refl p (yes_to t _ refl q h)
 
-  pub neither : (s r || t r) ≡ false → (when s then f else when t then f else g) r ≡ g r
-  neither = go (s r) (t r) refl refl
+  pub neither : (f : P A) {g : P A} → x ≡ false → RanTo g w w' a → RanTo (when s then f else when t then f else g) w w' a
+  neither f {g} k h = by_test (s (remaining w)) refl (sym e ∙ k)
     where
-      go : (u v : Bool) → s r ≡ u → t r ≡ v → (u || v) ≡ false → (when s then f else when t then f else g) r ≡ g r
-      go true v p q e = absurd (false≢true (sym e))
-      go false true p q e = absurd (false≢true (sym e))
-      go false false p q e = if_of s f (when t then f else g) r p ∙ if_of t f g r q
+      by_test : (u : Bool) → s (remaining w) ≡ u → (u || t (remaining w)) ≡ false → RanTo (when s then f else when t then f else g) w w' a
+      by_test true p q = absurd (false≢true (sym q))
+      by_test false p q = no_to s _ refl p (no_to t _ refl q h)
 
 -- trivia closes no block
 pub trivia_no_end : (t : Terminators) (r : List Sym) → at regular_trivia r ≡ true → at_terminator t r ≡ false

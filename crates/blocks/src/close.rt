@@ -72,7 +72,7 @@ fn block_ending(
 }
 
 // A round that ends the loop, and the block's closing event.
-pub fn close(parser: &mut Parser, c0: Cursor, owner: BlockOwner, k: Closing) -> BlockEnd
+pub(crate) fn close(parser: &mut Parser, c0: Cursor, owner: BlockOwner, k: Closing) -> BlockEnd
     ensures { Close k owner (entry parser c0) (exit parser result.c) result }
 {
     let (c, outcome) = block_ending(parser, c0, owner, k);
@@ -84,7 +84,7 @@ pub fn close(parser: &mut Parser, c0: Cursor, owner: BlockOwner, k: Closing) -> 
 }
 
 // The closing event of a block in which the file ended.
-pub fn ended_file(parser: &mut Parser, c0: Cursor) -> BlockEnd
+pub(crate) fn ended_file(parser: &mut Parser, c0: Cursor) -> BlockEnd
     ensures wrote { Wrote 0 (entry parser c0) (exit parser result.c) }
     ensures outcome { result.outcome ≡ ReachedEof }
     ensures item { result.item ≡ false }
@@ -114,7 +114,7 @@ pub fn closing(
 }
 
 // After a form's last block: its `end` where there is one, and the form's closing event.
-pub fn finish(parser: &mut Parser, b: BlockEnd, owner: BlockOwner) -> Form
+pub(crate) fn finish(parser: &mut Parser, b: BlockEnd, owner: BlockOwner) -> Form
     requires { ItemAt parser.old.kinds.now b.c.pos b.item }
     ensures { Finish owner b.outcome (entry parser b.c) (exit parser result.c) result }
 {
@@ -139,7 +139,7 @@ fn reached_eof(outcome: BlockParseOutcome) -> bool
 }
 
 // Whether an `else` follows the block of an `if`.
-pub fn goes_to_else(parser: &Parser, p: usize, outcome: BlockParseOutcome) -> bool
+pub(crate) fn goes_to_else(parser: &Parser, p: usize, outcome: BlockParseOutcome) -> bool
     ensures { result ≡ (not (reached_eof outcome) && at (is else_word) (drop p parser.now.kinds.now)) }
 {
     !reached_eof(outcome) && parser.at_keyword(p, Word::Else)
@@ -147,7 +147,7 @@ pub fn goes_to_else(parser: &Parser, p: usize, outcome: BlockParseOutcome) -> bo
 
 // Whether the `while` follows the body of a `do`. The outcome alone tells; with the token looked at too, as for an `else`, the cycle's
 // frame is 16 bytes smaller.
-pub fn goes_to_while(parser: &Parser, p: usize, outcome: BlockParseOutcome) -> bool
+pub(crate) fn goes_to_while(parser: &Parser, p: usize, outcome: BlockParseOutcome) -> bool
     ensures { result ≡ (found_terminator outcome && at (is while_word) (drop p parser.now.kinds.now)) }
 {
     found_terminator(outcome) && parser.at_keyword(p, Word::While)

@@ -1,12 +1,12 @@
 // Blocks and the four control forms.
 #![tactic(auto)]
 
-pub mod arm;
+mod arm;
 pub mod block;
 pub mod close;
-pub mod header;
+mod header;
 pub mod place;
-pub mod reject;
-pub mod rounds;
-pub mod step;
-pub mod suffix;
+mod reject;
+mod rounds;
+mod step;
+mod suffix;

@@ -5,7 +5,7 @@ ghost use Rattle.grammar.specs.Block.{MAX_CONTROL_FLOW_NESTING as limit};
 use grammar::block::{BlockOwner, Terminators};
 
 // At most this many control-flow nodes stand in one another.
-pub const MAX_CONTROL_FLOW_NESTING: u16 = 256;
+pub(crate) const MAX_CONTROL_FLOW_NESTING: u16 = 256;
 
 // How many control forms stand around something.
 #[derive(Clone, Copy)]
@@ -17,7 +17,7 @@ pub struct Depth {
 impl Depth {
     pub const TOP: Depth = Depth { forms: 0 };
 
-    pub fn deeper(self) -> Depth
+    pub(crate) fn deeper(self) -> Depth
         requires { self.forms < limit }
         ensures { result.forms ≡ self.forms + 1 }
     {
