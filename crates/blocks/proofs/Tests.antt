@@ -6,14 +6,10 @@ use Rattle.grammar.specs.Words.{Sym}
 use Rattle.grammar.specs.Look.{one_of, at, eof, current, regular_trivia, control_flow, at_regular_trivia}
 use Rattle.parser.proofs.Ahead.{at_here, at_not}
 use Rattle.parser.proofs.Laws.{at_by, at_some}
-use Rattle.forms.proofs.At.{starts}
+use Rattle.forms.proofs.At.{starts, controls}
 use Rattle.blocks.proofs.Laws.{trivia_no_end, ident_arm, plain_starter}
 
 module _ {x : Bool} {k : Sym} (r : List Sym) where
-  pub controls : x ≡ control_flow k → k ≡ current r → x ≡ at control_flow r
-  unfolding one_of
-  controls e c = at_by control_flow r refl e c
-
   pub trivia : x ≡ regular_trivia k → k ≡ current r → x ≡ at_regular_trivia r
   unfolding one_of
   trivia e c = at_by regular_trivia r refl e c

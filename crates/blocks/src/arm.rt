@@ -1,15 +1,13 @@
 // What a round of parse_block's loop does, by the token here.
 ghost use Rattle.std.specs.Prelude.{◌≡◌, drop};
-ghost use Rattle.grammar.specs.Look.{control_flow};
 ghost use Rattle.parser.specs.Ahead.{DocKnown};
 ghost use Rattle.blocks.specs.Arms.{block_arm, inner_arm};
 ghost use Rattle.blocks.specs.Shapes.{ItemAt};
 
 use grammar::block::Terminators;
 use lexer::syntax::{DOC_COMMENT, IDENT};
-use parser::kinds::{in_words, is_regular_trivia, starts_instruction};
+use parser::kinds::{is_control_flow, is_regular_trivia, starts_instruction};
 use parser::look::Remembered;
-use parser::sets::CONTROL_FLOW;
 use parser::state::Parser;
 
 // The arms are values, and no closures: what arm a round takes is proved of the definition's tests, in another order than the code's.
@@ -37,12 +35,6 @@ pub enum BlockArm {
     Takes(Taken),
     Closes(Closing),
     Control,
-}
-
-fn is_control_flow(k: u16) -> bool
-    ensures { result ≡ control_flow k }
-{
-    in_words(CONTROL_FLOW, k)
 }
 
 // The tests behind those of `block_arm_here`. Where `item` holds, a block inside ended at an item that starts here. `known` is what is

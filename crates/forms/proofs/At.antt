@@ -7,7 +7,7 @@ use Rattle.lexer.specs.Syntax.{Whitespace, Newline, Comment, DocComment}
 use Rattle.grammar.specs.Words.{Sym, is, ELSE}
 use Rattle.grammar.specs.Look.{one_of, name_like, starts_instruction, control_flow, punctuation_continues_instruction, is_trivia, current, at, skip, past, is_top_level_starter, at_top_level_form_starter_in_block, at_terminator, at_block_recovery_boundary}
 use Rattle.grammar.specs.declared.block.Terminators.{Terminators}
-use Rattle.parser.specs.Sets.{bit, bits_are, word_bit, word_bits_are}
+use Rattle.parser.specs.Sets.{bit, bits_are}
 use Rattle.parser.proofs.Ahead.{at_here, at_not}
 use Rattle.parser.proofs.Laws.{at_by}
 
@@ -20,9 +20,9 @@ module _ {x : Bool} {k : Sym} (r : List Sym) where
   unfolding one_of name_like starts_instruction
   starts e c = at_by starts_instruction r refl e c
 
-  pub controls : x ≡ word_bit 0x14110 k → k ≡ current r → x ≡ at control_flow r
+  pub controls : x ≡ control_flow k → k ≡ current r → x ≡ at control_flow r
   unfolding one_of
-  controls e c = at_by control_flow r refl (e ∙ word_bits_are _ (8 ∷ 4 ∷ 16 ∷ 14 ∷ []) _ tt tt) c
+  controls e c = at_by control_flow r refl e c
 
 -- the kinds that end a line, as the code asks for them
 pub line_end : {x : Bool} {k : Sym} (r : List Sym) → x ≡ bit 0x70000000 k → k ≡ current r → x ≡ at (one_of (Newline ∷ Comment ∷ DocComment ∷ [])) r

@@ -16,11 +16,11 @@ use grammar::nesting::Nesting;
 use lexer::syntax::{SyntaxKind, WHITESPACE};
 use parser::cursor::Cursor;
 use parser::kinds::{
-    expects_continuation_operand, in_set, in_words, is_trivia, punctuation_continues_instruction,
-    starts_instruction,
+    expects_continuation_operand, in_set, is_control_flow, is_trivia,
+    punctuation_continues_instruction, starts_instruction,
 };
 use parser::nest::Nested;
-use parser::sets::{CONTROL_FLOW, GOES_ON, LINE_END, PLAIN, PLAIN_PUNCTUATION};
+use parser::sets::{GOES_ON, LINE_END, PLAIN, PLAIN_PUNCTUATION};
 use parser::state::Parser;
 
 // Whether the last token that an instruction took, trivia aside, expects an operand.
@@ -58,7 +58,7 @@ fn at_next(parser: &Parser, p: usize) -> bool
     let k = parser.current(p);
     parser.at_terminator(p, Terminators::ElseEnd)
         || starts_instruction(k)
-        || in_words(CONTROL_FLOW, k)
+        || is_control_flow(k)
         || parser.is_top_level_starter(p)
 }
 

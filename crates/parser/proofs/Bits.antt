@@ -6,7 +6,7 @@ use Prim.Native.Nat.{◌<◌}
 use borrow.Author.Tests.{lt-ltb}
 use Rattle.lexer.specs.Syntax.{Whitespace, Newline, Comment, DocComment, Ident, SpecialIdent, QuotedIdent, Number, QuotedString, At, Dot, Equal, Comma, DotDot, DotDotDot, Colon, ColonColon, RArrow, Plus, Minus, Star, Slash, SlashSlash, LBracket, LParen, LBrace, RBracket, RParen, RBrace}
 use Rattle.grammar.specs.Words.{Sym, MARK, is}
-use Rattle.grammar.specs.Look.{one_of, name_like, regular_trivia, is_trivia, non_comment_trivia, is_reserved_block_keyword}
+use Rattle.grammar.specs.Look.{one_of, name_like, regular_trivia, is_trivia, non_comment_trivia, control_flow, is_reserved_block_keyword}
 use Rattle.grammar.specs.Look.{expects_continuation_operand, punctuation_continues_instruction}
 use Rattle.parser.specs.Ahead.{starter}
 use Rattle.parser.specs.Sets.{bit, bits_are, word_bit, keys, word_bits_are, trivia_to, trivia_is}
@@ -68,6 +68,11 @@ module _ (k : Sym) where
   pub reserved : word_bit 0x1f7fe k ≡ is_reserved_block_keyword k
   unfolding one_of
   reserved = word_bits_are _ (1 ∷ 2 ∷ 3 ∷ 4 ∷ 5 ∷ 6 ∷ 7 ∷ 8 ∷ 9 ∷ 10 ∷ 12 ∷ 13 ∷ 14 ∷ 15 ∷ 16 ∷ []) k tt tt
+
+  -- do, if, repeat, while
+  pub control : word_bit 0x14110 k ≡ control_flow k
+  unfolding one_of
+  control = word_bits_are _ (8 ∷ 4 ∷ 16 ∷ 14 ∷ []) k tt tt
 
   -- one of two, or one of the others
   split : (a b : Sym) (ks : List Sym) → (one_of (a ∷ b ∷ []) k || one_of ks k) ≡ one_of (a ∷ b ∷ ks) k

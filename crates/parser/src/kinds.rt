@@ -3,11 +3,11 @@ ghost use Rattle.std.specs.Prelude.{◌≡◌};
 ghost use Rattle.lexer.specs.Syntax.{kind_number};
 ghost use Rattle.grammar.specs.Look.{regular_trivia, is_trivia, non_comment_trivia, name_like, is_reserved_block_keyword};
 ghost use Rattle.grammar.specs.Look.{expects_continuation_operand as expects_operand, punctuation_continues_instruction as continues};
-ghost use Rattle.grammar.specs.Look.{starts_instruction};
+ghost use Rattle.grammar.specs.Look.{starts_instruction, control_flow};
 ghost use Rattle.parser.specs.Sets.{bit, word_bit, trivia_to};
 ghost use Rattle.parser.specs.Ahead.{starter};
 
-use crate::sets::{NAME, OPERAND, PUNCTUATION, RESERVED, STARTER_KINDS, STARTERS};
+use crate::sets::{CONTROL_FLOW, NAME, OPERAND, PUNCTUATION, RESERVED, STARTER_KINDS, STARTERS};
 use grammar::words::MARK;
 use lexer::syntax::{IDENT, SyntaxKind, WHITESPACE};
 
@@ -105,6 +105,14 @@ pub fn starts_instruction(k: u16) -> bool
     ensures { result ≡ starts_instruction k }
 {
     is_name_like(k) && !is_reserved_block_keyword(k)
+}
+
+// A word that starts a control form
+#[tactic(auto, using(crate::proofs::Bits::control))]
+pub fn is_control_flow(k: u16) -> bool
+    ensures { result ≡ control_flow k }
+{
+    in_words(CONTROL_FLOW, k)
 }
 
 // DocComment, At, or a word that starts an item
