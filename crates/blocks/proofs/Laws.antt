@@ -21,7 +21,10 @@ use Rattle.grammar.specs.Laws.Live.{some, eats_take}
 use Rattle.grammar.specs.Laws.LiveLine.{eats_error_token, eats_instruction}
 use Rattle.grammar.proofs.Laws.LiveBlock.{bare_while, repeat_left}
 use Rattle.grammar.specs.Laws.Stops.{stops_block}
-use Rattle.parser.specs.Rep.{World, file, remaining, Onward, Past, Wrote, Ran, RanTo}
+use Rattle.parser.specs.declared.state.Parser.{Parser}
+use Rattle.parser.specs.declared.cursor.Cursor.{Cursor}
+use Rattle.blocks.specs.declared.close.BlockEnd.{BlockEnd}
+use Rattle.parser.specs.Rep.{World, world, file, remaining, Onward, Past, Wrote, Ran, RanTo}
 use Rattle.parser.proofs.Kit.{Leads, ◌farther◌, answers, like_to, yes_to, no_to, done_to, bind_to, node_to, ◌then_to◌}
 use Rattle.parser.proofs.Expect.{take_expected}
 use Rattle.parser.proofs.Laws.{at_by, at_some}
@@ -32,7 +35,7 @@ use Rattle.blocks.specs.declared.close.Form.{Form}
 use Rattle.blocks.specs.declared.place.BlockPlace.{BlockPlace}
 use Rattle.blocks.specs.declared.rounds.Stopped.{Stopped}
 use Rattle.blocks.specs.Arms.{block_arm, inner_arm, by_block_arm, block_by, silent, taking}
-use Rattle.blocks.specs.Shapes.{else_line, else_part, KeywordLine, FormHeader, ItemAt, Finish, rest_at, BlockRounds, ParseForm}
+use Rattle.blocks.specs.Shapes.{else_line, else_part, KeywordLine, FormHeader, ItemAt, Finish, rest_at, stop, BlockRounds, ParseForm}
 
 -- ---- tests of the token here
 -- at an Ident that is no word
@@ -240,6 +243,10 @@ module _ {w w' : World} where
     here = end.here;
   }
 
+-- the end of a form, where its last block is the one or the other
+pub finish_at : {P Q : Parser} {b d : BlockEnd} {owner : BlockOwner} {w' : World} {f : Form} → P ≡ Q → b ≡ d → Finish owner b.outcome (world P b.c) w' f → Finish owner d.outcome (world Q d.c) w' f
+finish_at {Q} {b} {owner} {w'} {f} p q h = subst (λ b. Finish owner b.outcome (world Q b.c) w' f) q (subst (λ P. Finish owner b.outcome (world P b.c) w' f) p h)
+
 -- an outcome that the code has made
 pub gives : {w : World} {a b : BlockParseOutcome} → b ≡ a → RanTo (pure a) w w b
 gives {a} e = answers (done_to a) (sym e)
@@ -250,7 +257,7 @@ found_is BlockParseOutcome.RecoveredImplicitEnd e = absurd (false≢true e)
 found_is BlockParseOutcome.ReachedEof e = absurd (false≢true e)
 
 -- the body of a `do` that was closed stands before a `while`
-at_while : {w w' : World} {o : BlockParseOutcome} (d : ℕ) → RanTo (parse_block limit BlockOwner.DoWhileBody Terminators.While d) w w' o → found_terminator o ≡ true → at (is WHILE) (remaining w') ≡ true
+pub at_while : {w w' : World} {o : BlockParseOutcome} (d : ℕ) → RanTo (parse_block limit BlockOwner.DoWhileBody Terminators.While d) w w' o → found_terminator o ≡ true → at (is WHILE) (remaining w') ≡ true
 at_while {w} {w'} {o} d h e =
     bare_while _ (ap (at_terminator Terminators.While) (sym h.ran.rest) ∙ (stops_block limit BlockOwner.DoWhileBody Terminators.While d).stops _ (h.val ∙ found_is o e))
 
@@ -276,14 +283,13 @@ module _ {w u : World} (d : ℕ) {x b : Bool} where
   with_else BlockParseOutcome.FoundTerminator e k l g h = bind_to (λ last. ended BlockOwner.If last) (yes_to _ _ e k (behind_else (sym e ∙ k) l g)) h
   with_else BlockParseOutcome.RecoveredImplicitEnd e k l g h = bind_to (λ last. ended BlockOwner.If last) (yes_to _ _ e k (behind_else (sym e ∙ k) l g)) h
 
-  pub no_condition : {v : World} (o : BlockParseOutcome) → RanTo (parse_block limit BlockOwner.DoWhileBody Terminators.While d) v w o
-      → x ≡ (found_terminator o && at (is WHILE) (remaining w)) → x ≡ false → RanTo (ended BlockOwner.DoWhile o) w u b → RanTo (do_condition (parse_block limit) d o) w u b
+  pub no_condition : (o : BlockParseOutcome) → x ≡ found_terminator o → x ≡ false → RanTo (ended BlockOwner.DoWhile o) w u b → RanTo (do_condition (parse_block limit) d o) w u b
   unfolding ended closing do_condition pure ◌>>=◌
-  no_condition BlockParseOutcome.ReachedEof f e k h = h
-  no_condition BlockParseOutcome.FoundTerminator f e k h = absurd (false≢true (sym k ∙ e ∙ at_while d f refl))
-  no_condition BlockParseOutcome.RecoveredImplicitEnd f e k h = like_to (nop >> pure false) refl h
+  no_condition BlockParseOutcome.ReachedEof e k h = h
+  no_condition BlockParseOutcome.FoundTerminator e k h = absurd (false≢true (sym k ∙ e))
+  no_condition BlockParseOutcome.RecoveredImplicitEnd e k h = like_to (nop >> pure false) refl h
 
-  pub condition : {l v : World} {p : BlockParseOutcome} (o : BlockParseOutcome) → x ≡ (found_terminator o && at (is WHILE) (remaining w)) → x ≡ true
+  pub condition : {l v : World} {p : BlockParseOutcome} (o : BlockParseOutcome) → x ≡ found_terminator o → x ≡ true
       → KeywordLine WHILE w l → RanTo (parse_block limit BlockOwner.DoWhile Terminators.End d) l v p → RanTo (ended BlockOwner.DoWhile p) v u b
       → RanTo (do_condition (parse_block limit) d o) w u b
   unfolding do_condition
@@ -296,25 +302,30 @@ pub repeat_here : (r : List Sym) → at control_flow r ≡ true → at (is IF) r
 repeat_here r a b c d = repeat_left r (rw (a, b, c, d))
 
 -- ---- the rounds of a block
-module _ {p : BlockPlace} {m w v w' : World} {s₀ s : Stopped} where
-  -- the rounds behind a form, which goes from w to v, are rounds from before it on
-  pub from_form : s₀.control ≡ true → BlockRounds p m w s₀ → ((u : World) (r : BlockParseOutcome) → RanTo (rest_at p) v u r → RanTo (rest_at p) w u r)
-      → Onward w v → BlockRounds p v w' s → BlockRounds p m w' s
-  from_form e₀ r₀ f o r =
-      let a = r₀.form e₀ in
-      record {
-        onward = r₀.onward farther o farther r.onward;
-        form = λ e. let b = r.form e in record { on = λ u x h. a.on u x (f u x (b.on u x h)); arm = b.arm; below = b.below };
-        over = λ e. let b = r.over e in record { mid = b.mid; ran = a.on _ _ (f _ _ b.ran); wrote = b.wrote; here = b.here };
-      }
+-- where they stop is at a form, or behind the block
+module _ {p : BlockPlace} {m : World} (P : Parser) {s : Stopped} where
+  pub at_form : {c : Cursor} → s ≡ Stopped.Form c → BlockRounds p m (world P (stop s)) s → BlockRounds p m (world P c) (Stopped.Form c)
+  at_form e r = subst (λ s. BlockRounds p m (world P (stop s)) s) e r
 
--- the same behind rounds that took tokens
-pub from_here : {p : BlockPlace} {m w w' : World} {s : Stopped} → Leads (rest_at p) m (rest_at p) w → Onward m w → BlockRounds p w w' s → BlockRounds p m w' s
-from_here l o r = record {
-  onward = o farther r.onward;
-  form = λ e. let b = r.form e in record { on = λ u x h. l.on u x (b.on u x h); arm = b.arm; below = b.below };
-  over = λ e. let b = r.over e in record { mid = b.mid; ran = l.on _ _ b.ran; wrote = b.wrote; here = b.here };
-}
+  pub at_end : {b : BlockEnd} → s ≡ Stopped.Closed b → BlockRounds p m (world P (stop s)) s → BlockRounds p m (world P b.c) (Stopped.Closed b)
+  at_end e r = subst (λ s. BlockRounds p m (world P (stop s)) s) e r
+
+-- the rounds behind what leads to them
+module _ {p : BlockPlace} {m w w' : World} where
+  pub from_here : (s : Stopped) → Leads (rest_at p) m (rest_at p) w → Onward m w → BlockRounds p w w' s → BlockRounds p m w' s
+  from_here (Stopped.Form c) l o r = record {
+    onward = o farther r.onward;
+    there = record { on = λ u x h. l.on u x (r.there.on u x h); arm = r.there.arm; below = r.there.below };
+  }
+  from_here (Stopped.Closed e) l o r = record {
+    onward = o farther r.onward;
+    there = record { mid = r.there.mid; ran = l.on _ _ r.there.ran; wrote = r.there.wrote; here = r.there.here };
+  }
+
+  -- the same behind a form, which goes from v to w
+  pub from_form : {v : World} {c : Cursor} (s : Stopped) → BlockRounds p m v (Stopped.Form c) → ((u : World) (r : BlockParseOutcome) → RanTo (rest_at p) w u r → RanTo (rest_at p) v u r)
+      → Onward v w → BlockRounds p w w' s → BlockRounds p m w' s
+  from_form s r₀ f o r = from_here s (record { on = λ u x h. r₀.there.on u x (f u x h) }) (r₀.onward farther o) r
 
 -- what block_from's loop holds: rounds up to where it began are rounds up to where it is
 pub record Going (p : BlockPlace) (w₀ : World) (s₀ : Stopped) (w : World) (s : Stopped) : Type 0 where

@@ -19,6 +19,7 @@ use Rattle.blocks.specs.declared.close.Form.{Form}
 use Rattle.blocks.specs.declared.place.BlockPlace.{BlockPlace}
 use Rattle.blocks.specs.declared.place.Depth.{Depth}
 use Rattle.blocks.specs.declared.rounds.Stopped.{Stopped}
+use Rattle.parser.specs.declared.cursor.Cursor.{Cursor}
 use Rattle.blocks.specs.Arms.{block_arm, block_ending}
 
 -- What stands before a form's block, and then the rest of the form.
@@ -102,16 +103,24 @@ pub record AtForm (p : BlockPlace) (w w' : World) : Type 0 where
   pub below : p.depth.forms < limit
 
 -- Or they end the block, and its closing event is written.
-pub record Over (p : BlockPlace) (w w' : World) (outcome : BlockParseOutcome) (item : Bool) : Type 0 where
+pub record Over (p : BlockPlace) (w w' : World) (e : BlockEnd) : Type 0 where
   pub mid : World
-  pub ran : RanTo (rest_at p) w mid outcome
+  pub ran : RanTo (rest_at p) w mid e.outcome
   pub wrote : Wrote 0 mid w'
-  pub here : ItemAt (file w') w'.c.pos item
+  pub here : ItemAt (file w') w'.c.pos e.item
+
+-- Where they stop, and what holds there.
+abbrev pub stop : Stopped → Cursor
+stop (Stopped.Form c) = c
+stop (Stopped.Closed e) = e.c
+
+abbrev pub FormOrEnd : BlockPlace → World → World → Stopped → Type 0
+FormOrEnd p w w' (Stopped.Form c) = AtForm p w w'
+FormOrEnd p w w' (Stopped.Closed e) = Over p w w' e
 
 pub record BlockRounds (p : BlockPlace) (w w' : World) (s : Stopped) : Type 0 where
   pub onward : Onward w w'
-  pub form : s.control ≡ true → AtForm p w w'
-  pub over : s.control ≡ false → Over p w w' s.end.outcome s.end.item
+  pub there : FormOrEnd p w w' s
 
 -- the same behind the block's opening event
 pub record FirstRounds (p : BlockPlace) (w w' : World) (s : Stopped) : Type 0 where

@@ -9,10 +9,10 @@ ghost use Rattle.grammar.specs.Block.{parse_control_flow};
 ghost use Rattle.parser.specs.Rep.{entry, exit};
 ghost use Rattle.blocks.specs.Shapes.{block_place, ParseBlock, ParseForm};
 
-use crate::close::{BlockEnd, Form, ended_file, finish, goes_to_else, goes_to_while};
+use crate::close::{BlockEnd, Form, ended_file, finish, found_terminator, goes_to_else};
 use crate::header::{do_header, header, keyword_line};
 use crate::place::{BlockPlace, Depth};
-use crate::rounds::{first_rounds, next_rounds};
+use crate::rounds::{Stopped, first_rounds, next_rounds};
 use grammar::block::{BlockOwner, Terminators};
 use grammar::words::{DO, IF, WHILE, Word};
 use lexer::syntax::SyntaxKind;
@@ -50,14 +50,18 @@ fn block_from(parser: &mut Parser, start: Start) -> BlockEnd
 {
     let place = start.place;
     let mut s = first_rounds(parser, start.c, place);
-    while s.control {
-        let f = parse_control_flow(parser, s.end.c, place.depth.deeper());
-        if f.eof {
-            return ended_file(parser, f.c);
+    loop {
+        match s {
+            Stopped::Closed(end) => return end,
+            Stopped::Form(c) => {
+                let f = parse_control_flow(parser, c, place.depth.deeper());
+                if f.eof {
+                    return ended_file(parser, f.c);
+                }
+                s = next_rounds(parser, f.c, place, f.item);
+            }
         }
-        s = next_rounds(parser, f.c, place, f.item);
     }
-    s.end
 }
 
 // The form that starts here.
@@ -74,8 +78,8 @@ fn parse_control_flow(parser: &mut Parser, c0: Cursor, depth: Depth) -> Form
     }
 }
 
-// A block inside a form. All calls of the forms go through here, so that a frame has room for the arguments of one; parse_block has
-// the same body, since a call of this from outside would make the frame larger.
+// A block inside a form. All calls of the forms go through here, so that a frame has room for the arguments of one. parse_block has
+// the same body: with a call of it in this one's place each level of the cycle takes 112 bytes more.
 #[cycle(forms)]
 fn inner_block(
     parser: &mut Parser,
@@ -101,14 +105,14 @@ fn parse_if(parser: &mut Parser, c0: Cursor, depth: Depth) -> Form
 {
     let h = header(parser, c0, SyntaxKind::IfOp, Word::If);
     let mut b = inner_block(parser, h, BlockOwner::If, Terminators::ElseEnd, depth);
-    if !goes_to_else(parser, b.c.pos, b.outcome) {
-        return finish(parser, b, BlockOwner::If);
+    if goes_to_else(parser, b.c.pos, b.outcome) {
+        let line = keyword_line(parser, b.c, Word::Else);
+        b = inner_block(parser, line, BlockOwner::If, Terminators::End, depth);
     }
-    let line = keyword_line(parser, b.c, Word::Else);
-    b = inner_block(parser, line, BlockOwner::If, Terminators::End, depth);
     finish(parser, b, BlockOwner::If)
 }
 
+// This and parse_repeat have one shape, and keep the names of the Rust's functions.
 #[cycle(forms)]
 fn parse_while(parser: &mut Parser, c0: Cursor, depth: Depth) -> Form
     requires { at (is while_word) (drop c0.pos parser.old.kinds.now) ≡ true }
@@ -132,11 +136,11 @@ fn parse_do_while(parser: &mut Parser, c0: Cursor, depth: Depth) -> Form
         Terminators::While,
         depth,
     );
-    if !goes_to_while(parser, b.c.pos, b.outcome) {
-        return finish(parser, b, BlockOwner::DoWhile);
+    // The body of a `do` that was closed stands before its `while`.
+    if found_terminator(b.outcome) {
+        let line = keyword_line(parser, b.c, Word::While);
+        b = inner_block(parser, line, BlockOwner::DoWhile, Terminators::End, depth);
     }
-    let line = keyword_line(parser, b.c, Word::While);
-    b = inner_block(parser, line, BlockOwner::DoWhile, Terminators::End, depth);
     finish(parser, b, BlockOwner::DoWhile)
 }
 

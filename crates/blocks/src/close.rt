@@ -1,6 +1,6 @@
 // How a block ends, and a form after its last block.
 ghost use Rattle.std.specs.Prelude.{◌≡◌, false, not, ◌&&◌, drop};
-ghost use Rattle.grammar.specs.Words.{is, ELSE as else_word, WHILE as while_word};
+ghost use Rattle.grammar.specs.Words.{is, ELSE as else_word};
 ghost use Rattle.grammar.specs.Look.{at};
 ghost use Rattle.grammar.specs.Block.{found_terminator, reached_eof, closing};
 ghost use Rattle.grammar.specs.declared.block.BlockParseOutcome.TheVariants.{ReachedEof};
@@ -126,7 +126,7 @@ pub(crate) fn finish(parser: &mut Parser, b: BlockEnd, owner: BlockOwner) -> For
     }
 }
 
-fn found_terminator(outcome: BlockParseOutcome) -> bool
+pub(crate) fn found_terminator(outcome: BlockParseOutcome) -> bool
     ensures { result ≡ found_terminator outcome }
 {
     matches!(outcome, BlockParseOutcome::FoundTerminator)
@@ -143,12 +143,4 @@ pub(crate) fn goes_to_else(parser: &Parser, p: usize, outcome: BlockParseOutcome
     ensures { result ≡ (not (reached_eof outcome) && at (is else_word) (drop p parser.now.kinds.now)) }
 {
     !reached_eof(outcome) && parser.at_keyword(p, Word::Else)
-}
-
-// Whether the `while` follows the body of a `do`. The outcome alone tells; with the token looked at too, as for an `else`, the cycle's
-// frame is 16 bytes smaller.
-pub(crate) fn goes_to_while(parser: &Parser, p: usize, outcome: BlockParseOutcome) -> bool
-    ensures { result ≡ (found_terminator outcome && at (is while_word) (drop p parser.now.kinds.now)) }
-{
-    found_terminator(outcome) && parser.at_keyword(p, Word::While)
 }

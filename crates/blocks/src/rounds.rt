@@ -3,47 +3,35 @@ ghost use Rattle.std.specs.Prelude.{◌≡◌, drop};
 ghost use Rattle.parser.specs.Rep.{entry, exit};
 ghost use Rattle.blocks.specs.declared.arm.BlockArm.TheVariants.{Control};
 ghost use Rattle.blocks.specs.Arms.{block_arm};
-ghost use Rattle.blocks.specs.Shapes.{ItemAt, BlockRounds, FirstRounds};
+ghost use Rattle.blocks.specs.Shapes.{stop, ItemAt, BlockRounds, FirstRounds};
 
 use crate::arm::{BlockArm, block_arm_here};
 use crate::close::{BlockEnd, close, ended_file};
 use crate::place::{BlockPlace, MAX_CONTROL_FLOW_NESTING};
 use crate::reject::reject_excessive_control_flow_nesting;
 use crate::step::take;
-use grammar::block::BlockParseOutcome;
 use lexer::syntax::SyntaxKind;
 use parser::cursor::Cursor;
 use parser::look::Remembered;
 use parser::state::Parser;
 
-// Where the rounds stop: at a form, or behind the block's closing event. A flag, and no enum of the two: with
-// that each level of the cycle takes 64 bytes more.
+// Where the rounds stop: at a form, or behind the block's closing event.
 #[derive(Clone, Copy)]
-pub struct Stopped {
-    pub end: BlockEnd,
-    pub control: bool,
+pub enum Stopped {
+    Form(Cursor),
+    Closed(BlockEnd),
 }
 
 // At a form. Past the limit the rest of the file is rejected, and the block has ended.
 fn form_here(parser: &mut Parser, c0: Cursor, place: BlockPlace) -> Stopped
     requires { block_arm place.terminators (drop c0.pos parser.old.kinds.now) ≡ Control }
-    ensures { BlockRounds place (entry parser c0) (exit parser result.end.c) result }
+    ensures { BlockRounds place (entry parser c0) (exit parser (stop result)) result }
 {
     if MAX_CONTROL_FLOW_NESTING <= place.depth.forms {
         let d = reject_excessive_control_flow_nesting(parser, c0);
-        return Stopped {
-            end: ended_file(parser, d),
-            control: false,
-        };
+        return Stopped::Closed(ended_file(parser, d));
     }
-    Stopped {
-        end: BlockEnd {
-            c: c0,
-            outcome: BlockParseOutcome::ReachedEof,
-            item: false,
-        },
-        control: true,
-    }
+    Stopped::Form(c0)
 }
 
 // Trivia behind what a round took is taken at once, without its tests.
@@ -51,7 +39,7 @@ fn form_here(parser: &mut Parser, c0: Cursor, place: BlockPlace) -> Stopped
 // of trivia before it, so nothing is remembered over a form.
 fn rounds(parser: &mut Parser, c0: Cursor, place: BlockPlace, item0: bool) -> Stopped
     requires { ItemAt parser.old.kinds.now c0.pos item0 }
-    ensures { BlockRounds place (entry parser c0) (exit parser result.end.c) result }
+    ensures { BlockRounds place (entry parser c0) (exit parser (stop result)) result }
 {
     let mut c = c0;
     let mut item = item0;
@@ -67,10 +55,7 @@ fn rounds(parser: &mut Parser, c0: Cursor, place: BlockPlace, item0: bool) -> St
                 item = false;
             }
             BlockArm::Closes(k) => {
-                return Stopped {
-                    end: close(parser, c, place.owner, k),
-                    control: false,
-                };
+                return Stopped::Closed(close(parser, c, place.owner, k));
             }
             BlockArm::Control => return form_here(parser, c, place),
         }
@@ -79,16 +64,17 @@ fn rounds(parser: &mut Parser, c0: Cursor, place: BlockPlace, item0: bool) -> St
 
 // The block's opening event, and its rounds up to the first form.
 pub fn first_rounds(parser: &mut Parser, c0: Cursor, place: BlockPlace) -> Stopped
-    ensures { FirstRounds place (entry parser c0) (exit parser result.end.c) result }
+    ensures { FirstRounds place (entry parser c0) (exit parser (stop result)) result }
 {
     let c = parser.start_node(c0, SyntaxKind::Block);
     rounds(parser, c, place, false)
 }
 
-// The rounds behind a form.
+// The rounds behind a form: block_from calls `rounds` through this and first_rounds, since with a call of `rounds` in both places each
+// level of the cycle takes 64 bytes more.
 pub fn next_rounds(parser: &mut Parser, c0: Cursor, place: BlockPlace, item0: bool) -> Stopped
     requires { ItemAt parser.old.kinds.now c0.pos item0 }
-    ensures { BlockRounds place (entry parser c0) (exit parser result.end.c) result }
+    ensures { BlockRounds place (entry parser c0) (exit parser (stop result)) result }
 {
     rounds(parser, c0, place, item0)
 }

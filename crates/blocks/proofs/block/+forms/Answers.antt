@@ -1,10 +1,10 @@
 -- Blocks and the four forms call each other. Assumes nothing.
-use mathlib.Core.Path.{refl, sym}
+use mathlib.Core.Path.{refl, sym, ◌∙◌}
 use native.Mathlib.Omega.{arith}
 use borrow.Author.Tests.{lt-leb}
 use Rattle.blocks.specs.declared.arm.BlockArm.{BlockArm}
 use Rattle.blocks.specs.Arms.{by_block_arm}
-use Rattle.blocks.proofs.Laws.{meant, deeper, round, said_no_item, gives, from_form, repeat_here, formed, no_condition, condition, no_else, with_else}
+use Rattle.blocks.proofs.Laws.{meant, deeper, round, said_no_item, gives, at_form, at_end, from_form, repeat_here, formed, finish_at, no_condition, condition, at_while, no_else, with_else}
 use Rattle.parser.proofs.Kit.{on_to, off_to, node_to, bind_to, yes_to, no_to}
 use Rattle.grammar.specs.Block.{MAX_CONTROL_FLOW_NESTING as limit, parse_block, parse_control_flow, do_condition, parse_do_while, parse_if, ended, parse_repeat, parse_while}
 use Rattle.grammar.specs.Words.{is, DO, IF, WHILE}
@@ -12,21 +12,21 @@ use Rattle.parser.proofs.Ahead.{at_here, at_not, at_other}
 use Rattle.blocks.specs.Shapes.{else_part}
 use Rattle.grammar.specs.declared.block.BlockOwner.{BlockOwner}
 use borrow.Author.Rules.{rules}
+use Rattle.blocks.proofs.block.+forms.Goals.{parse_do_while-then-found_terminator, parse_do_while-else-found_terminator, parse_if-then-goes_to_else, parse_if-else-goes_to_else}
 use Rattle.blocks.proofs.block.+forms.Goals as goal
 
 pub block_from-parse_control_flow-f-requires : goal.block_from-parse_control_flow-f-requires
 block_from-parse_control_flow-f-requires t c =
     let begun = c.first_rounds-s.ensures in
-    let rounds = c.loop-s.invariant.on _ begun.rounds in
-    let here = rounds.form c.loop-s-test.true in
-    let control = meant c.args.start.place.terminators _ BlockArm.Control refl here.arm in
+    let rounds = at_form c.loop-s.parser c.in-Form.is (c.loop-s.invariant.on _ begun.rounds) in
+    let control = meant c.args.start.place.terminators _ BlockArm.Control refl rounds.there.arm in
     (omega (arith, begun.wrote.pos, rounds.onward), control)
 
 pub block_from-returns-then-f : goal.block_from-returns-then-f
 unfolding parse_block by_block_arm
 block_from-returns-then-f t c =
     let begun = c.first_rounds-s.ensures in
-    let here = (c.loop-s.invariant.on _ begun.rounds).form c.loop-s-test.true in
+    let here = (at_form c.loop-s.parser c.in-Form.is (c.loop-s.invariant.on _ begun.rounds)).there in
     let form = deeper c.args.start.place.depth.forms c.deeper.ensures c.parse_control_flow-f.ensures.ran in
     let rest = bind_to _ form (on_to _ c.if-f.true (gives c.ended_file.ensures.outcome)) in
     let inside = here.on _ _ (round c.args.start.place BlockArm.Control (sym here.arm) refl (off_to _ (lt-leb limit c.args.start.place.depth.forms here.below) rest)) in
@@ -39,17 +39,17 @@ block_from-loop-s-preserved t c =
     let i = c.loop-s.invariant in
     record {
       on = λ w r.
-          let rounds = i.on w r in
-          let here = rounds.form c.loop-s-test.true in
-          from_form c.loop-s-test.true rounds (λ u x h. round c.args.start.place BlockArm.Control (sym here.arm) refl (off_to _ (lt-leb limit c.args.start.place.depth.forms here.below) (bind_to _ form (off_to _ c.if-f.false h))))
+          let rounds = at_form c.loop-s.parser c.in-Form.is (i.on w r) in
+          let here = rounds.there in
+          from_form _ rounds (λ u x h. round c.args.start.place BlockArm.Control (sym here.arm) refl (off_to _ (lt-leb limit c.args.start.place.depth.forms here.below) (bind_to _ form (off_to _ c.if-f.false h))))
           c.parse_control_flow-f.ensures.ran.ran.onward c.next_rounds-s.ensures;
     }
 
-pub block_from-returns : goal.block_from-returns
+pub block_from-returns-in-Closed : goal.block_from-returns-in-Closed
 unfolding parse_block
-block_from-returns t c =
+block_from-returns-in-Closed t c =
     let begun = c.first_rounds-s.ensures in
-    let over = (c.loop-s.invariant.on _ begun.rounds).over c.loop-s-test.false in
+    let over = (at_end c.loop-s.parser c.in-Closed.is (c.loop-s.invariant.on _ begun.rounds)).there in
     record { ran = node_to _ begun.wrote over.ran over.wrote; here = over.here }
 
 -- parse_control_flow's cases are the words' numbers: 2079 is `if`, 1055 `do`, 4127 `while`
@@ -108,43 +108,40 @@ parse_control_flow-returns-in_default t c =
       here = c.parse_repeat.ensures.here;
     }
 
-pub parse_do_while-returns-then-not-goes_to_while : goal.parse_do_while-returns-then-not-goes_to_while
-unfolding parse_do_while
-parse_do_while-returns-then-not-goes_to_while t c =
-    let depth = c.args.depth.forms in
-    let first = c.inner_block-b.ensures.ran in
-    let fails = c.if-not-goes_to_while.true in
-    let end = c.finish.ensures in
-    formed _ (do_condition (parse_block limit) depth) c.do_header-h.ensures first end (no_condition depth _ first c.goes_to_while.ensures fails end.ran)
+pub parse_do_while-keyword_line-line-requires : goal.parse_do_while-keyword_line-line-requires
+parse_do_while-keyword_line-line-requires t c = at_while c.args.depth.forms c.inner_block-b.ensures.ran (sym c.found_terminator.ensures ∙ c.if-found_terminator.true)
 
 pub parse_do_while-returns : goal.parse_do_while-returns
 unfolding parse_do_while
 parse_do_while-returns t c =
     let depth = c.args.depth.forms in
-    let holds = c.if-not-goes_to_while.false in
-    let last = c.inner_block-b-2.ensures.ran in
-    let end = c.finish-2.ensures in
-    let rest = condition depth c.inner_block-b.result.outcome c.goes_to_while.ensures holds c.keyword_line-line.ensures last end.ran in
-    formed _ (do_condition (parse_block limit) depth) c.do_header-h.ensures c.inner_block-b.ensures.ran end rest
-
-pub parse_if-returns-then-not-goes_to_else : goal.parse_if-returns-then-not-goes_to_else
-unfolding parse_if
-parse_if-returns-then-not-goes_to_else t c =
-    let depth = c.args.depth.forms in
     let first = c.inner_block-b.ensures.ran in
-    let fails = c.if-not-goes_to_else.true in
-    let end = c.finish.ensures in
-    formed _ (else_part (parse_block limit) depth) c.header-h.ensures first end (no_else depth _ c.goes_to_else.ensures fails end.ran)
+    elim c.if-found_terminator.branch [
+      | parse_do_while-then-found_terminator w ↦
+          (let end = finish_at w.parser-is w.b-is c.finish.ensures in
+          let last = w.inner_block-b-then-found_terminator.ensures.ran in
+          let rest = condition depth c.inner_block-b.result.outcome c.found_terminator.ensures w.if-found_terminator.true w.keyword_line-line.ensures last end.ran in
+          formed _ (do_condition (parse_block limit) depth) c.do_header-h.ensures first end rest)
+      | parse_do_while-else-found_terminator w ↦
+          (let end = finish_at w.parser-is w.b-is c.finish.ensures in
+          formed _ (do_condition (parse_block limit) depth) c.do_header-h.ensures first end (no_condition depth c.inner_block-b.result.outcome c.found_terminator.ensures w.if-found_terminator.false end.ran))
+    ]
 
 pub parse_if-returns : goal.parse_if-returns
 unfolding parse_if
 parse_if-returns t c =
     let depth = c.args.depth.forms in
-    let holds = c.if-not-goes_to_else.false in
-    let last = c.inner_block-b-2.ensures.ran in
-    let end = c.finish-2.ensures in
-    let rest = with_else depth c.inner_block-b.result.outcome c.goes_to_else.ensures holds c.keyword_line-line.ensures last end.ran in
-    formed _ (else_part (parse_block limit) depth) c.header-h.ensures c.inner_block-b.ensures.ran end rest
+    let first = c.inner_block-b.ensures.ran in
+    elim c.if-goes_to_else.branch [
+      | parse_if-then-goes_to_else w ↦
+          (let end = finish_at w.parser-is w.b-is c.finish.ensures in
+          let last = w.inner_block-b-then-goes_to_else.ensures.ran in
+          let rest = with_else depth c.inner_block-b.result.outcome c.goes_to_else.ensures w.if-goes_to_else.true w.keyword_line-line.ensures last end.ran in
+          formed _ (else_part (parse_block limit) depth) c.header-h.ensures first end rest)
+      | parse_if-else-goes_to_else w ↦
+          (let end = finish_at w.parser-is w.b-is c.finish.ensures in
+          formed _ (else_part (parse_block limit) depth) c.header-h.ensures first end (no_else depth c.inner_block-b.result.outcome c.goes_to_else.ensures w.if-goes_to_else.false end.ran))
+    ]
 
 pub parse_repeat-returns : goal.parse_repeat-returns
 unfolding parse_repeat

@@ -17,8 +17,7 @@ returns-then-place-ge-MAX_CONTROL_FLOW_NESTING c =
     let rejected = c.reject_excessive_control_flow_nesting-d.ensures in
     record {
       onward = rejected.onward farther c.ended_file.ensures.wrote.onward;
-      form = λ h. absurd (false≢true h);
-      over = λ h. record {
+      there = record {
         mid = _;
         ran = round p BlockArm.Control (sym c.requires) refl (on_to _ (le-leb limit p.depth.forms (omega arith)) (rejected then_to gives c.ended_file.ensures.outcome));
         wrote = c.ended_file.ensures.wrote;

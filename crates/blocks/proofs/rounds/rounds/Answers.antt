@@ -39,8 +39,7 @@ returns-in-Closes c =
     let told = c.in-Closes.is in
     record {
       onward = c.loop-t.invariant.1 farther c.close.ensures.onward;
-      form = λ h. absurd (false≢true h);
-      over = λ h. record {
+      there = record {
         mid = _;
         ran = c.loop-t.invariant.0.on _ _ (round c.args.place (BlockArm.Closes _) c.block_arm_here.ensures.arm told c.close.ensures.ran);
         wrote = c.close.ensures.wrote;
@@ -52,4 +51,4 @@ returns-in-Closes c =
     }
 
 pub returns-in-Control : goal.returns-in-Control
-returns-in-Control c = from_here c.loop-t.invariant.0 c.loop-t.invariant.1 c.form_here.ensures
+returns-in-Control c = from_here _ c.loop-t.invariant.0 c.loop-t.invariant.1 c.form_here.ensures
