@@ -8,7 +8,7 @@ use lib.ListN.{length}
 use Rattle.lexer.specs.Syntax
 use Rattle.grammar.specs.Words.{Sym, File, is, DO, ELSE, END, IF, REPEAT, WHILE}
 use Rattle.grammar.specs.Look.{one_of, at, eof, current, name_like, regular_trivia, at_prefixed_keyword, at_bare_while, control_flow, starts_instruction, at_terminator, at_stray_else, at_regular_trivia, is_top_level_starter, at_top_level_form_starter_in_block}
-use Rattle.grammar.specs.Run.{Kind, num, P, Block, leaf, pure, peek, in_node, pick, take_token, scan, ◌>>=◌, ◌>>◌, when◌then◌else◌}
+use Rattle.grammar.specs.Run.{Kind, num, P, Block, leaf, pure, in_node, take_token, scan, ◌>>=◌, ◌>>◌, when◌then◌else◌}
 use Rattle.grammar.specs.State.{run}
 use Rattle.grammar.specs.declared.message.Message.{Message}
 use Rattle.grammar.specs.declared.block.BlockOwner.{BlockOwner}

@@ -3,7 +3,7 @@ use mathlib.Core.Bool.{Bool, true, false}
 use mathlib.Core.List.{List}
 use mathlib.Core.Path.{◌≡◌, refl}
 use Rattle.grammar.specs.Words.{Sym}
-use Rattle.grammar.specs.Look.{one_of, at, eof, current, regular_trivia, control_flow, at_regular_trivia}
+use Rattle.grammar.specs.Look.{one_of, eof, current, regular_trivia, at_regular_trivia}
 use Rattle.parser.proofs.Ahead.{at_here, at_not}
 use Rattle.parser.proofs.Laws.{at_by, at_some}
 use Rattle.forms.proofs.At.{starts, controls}

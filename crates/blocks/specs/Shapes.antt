@@ -1,5 +1,5 @@
 -- What the functions around a block do, as parts of a form: an opening, what leads up to a block, an end. Assumes nothing: these are definitions.
-use Rattle.std.specs.Prelude.{◌≡◌, Bool, true, false, ℕ, ◌<◌}
+use Rattle.std.specs.Prelude.{◌≡◌, Bool, true, ℕ, ◌<◌}
 use Rattle.grammar.specs.Words.{Sym, File, from, ELSE}
 use Rattle.grammar.specs.Look.{at_keyword, at_top_level_form_starter_in_block}
 use Rattle.grammar.specs.Run.{Kind, num, Error, P, pure, in_node, pick, ◌>>◌, ◌>>=◌, when◌then◌else◌}

@@ -15,7 +15,8 @@ use parser::cursor::Cursor;
 use parser::look::Remembered;
 use parser::state::Parser;
 
-// Where the rounds stop: at a form, or behind the block's closing event.
+// Where the rounds stop: at a form, or behind the block's closing event. With this enum a level of the cycle takes 240 bytes; with a flag
+// beside the fields of both 208, but no fewer instructions.
 #[derive(Clone, Copy)]
 pub enum Stopped {
     Form(Cursor),

@@ -7,7 +7,6 @@ use Rattle.blocks.specs.declared.arm.BlockArm.{BlockArm}
 use Rattle.blocks.specs.Arms.{by_block_arm}
 use Rattle.blocks.proofs.Laws.{round, said_no_item, gives}
 use Rattle.parser.proofs.Kit.{◌farther◌, on_to, ◌then_to◌}
-use mathlib.Core.Bool.{false≢true}
 use Rattle.blocks.proofs.rounds.form_here.Goals as goal
 
 pub returns-then-place-ge-MAX_CONTROL_FLOW_NESTING : goal.returns-then-place-ge-MAX_CONTROL_FLOW_NESTING

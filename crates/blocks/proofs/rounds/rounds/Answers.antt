@@ -10,7 +10,6 @@ use Rattle.parser.proofs.Ahead.{remembers_later}
 use Rattle.parser.proofs.Kit.{same_file, same_remaining, ◌farther◌, ◌then_to◌, goes_on}
 use Rattle.parser.proofs.Laws.{past_here}
 use Rattle.grammar.specs.Block.{MAX_CONTROL_FLOW_NESTING as limit}
-use mathlib.Core.Bool.{false≢true}
 use Rattle.blocks.proofs.rounds.rounds.Goals as goal
 
 pub loop-t-smaller : goal.loop-t-smaller
