@@ -1,7 +1,7 @@
 -- What a quote comes to from an offset on. Assumes nothing.
 use Prim.Native.Nat.{ℕ, ◌+◌}
 use mathlib.Core.Path.{◌≡◌, refl, sym, ap, ◌∙◌}
-use mathlib.Core.Bool.{Bool, true, false, not, ◌&&◌, false≢true}
+use mathlib.Core.Bool.{Bool, true, false, not, ◌&&◌}
 use mathlib.Core.List.{List, [], ◌∷◌}
 use native.Mathlib.Nat.{add-zero}
 use native.Mathlib.Omega.{arith}
@@ -9,6 +9,7 @@ use borrow.Author.Tests.{leb-true, ne_eqb}
 use lib.Dec.{eqb, leb}
 use lib.ListN.{drop}
 use lib.Seq.{drop-drop}
+use Rattle.std.proofs.lemmas.Bool.{and_parts, not-true}
 use Rattle.lexer.specs.Chars.{line_end, graphic, graphic_inside, line_inside}
 use Rattle.lexer.specs.Lexer.{Lexeme, later, advance_while, quoted}
 use Rattle.lexer.specs.Code.{placed}
@@ -40,30 +41,22 @@ module _ (p : ℕ → Bool) (i : Bool) (f : (b : ℕ) → p b ≡ true → Passe
   over_at : (s : List ℕ) (at n : ℕ) → n ≡ at + advance_while p (drop at s) → placed at (quoted false i (drop at s)) ≡ placed n (quoted false i (drop n s))
   over_at s at n e = over (drop at s) at ∙ ap (λ (r : List ℕ). placed (at + advance_while p (drop at s)) (quoted false i r)) (drop-drop (advance_while p (drop at s)) at s) ∙ ap (λ (m : ℕ). placed m (quoted false i (drop m s))) (sym e)
 
-both : (s t : Bool) → s && t ≡ true → (s ≡ true) × (t ≡ true)
-both true t e = (refl, e)
-both false t e = absurd (false≢true e)
-
-off : (s : Bool) → not s ≡ true → s ≡ false
-off true e = absurd (false≢true e)
-off false e = refl
-
 no_line_end : (b : ℕ) → graphic b ≡ true → line_end b ≡ false
 no_line_end b g =
-    let h = leb-true 33 b (both (leb 33 b) (leb b 126) g).0 in
+    let h = leb-true 33 b (and_parts (leb 33 b) (leb b 126) g).0 in
     rw (ne_eqb b 10 (λ e. omega arith), ne_eqb b 13 (λ e. omega arith))
 
 graphic_passed : (b : ℕ) → graphic_inside b ≡ true → Passed true b
 graphic_passed b e =
-    let g = both (graphic b) (not (eqb b 34) && not (eqb b 92)) e in
-    let q = both (not (eqb b 34)) (not (eqb b 92)) g.1 in
-    record { line = no_line_end b g.0; quote = off (eqb b 34) q.0; slash = off (eqb b 92) q.1; like = rw g.0 }
+    let g = and_parts (graphic b) (not (eqb b 34) && not (eqb b 92)) e in
+    let q = and_parts (not (eqb b 34)) (not (eqb b 92)) g.1 in
+    record { line = no_line_end b g.0; quote = not-true (eqb b 34) q.0; slash = not-true (eqb b 92) q.1; like = rw g.0 }
 
 inside_passed : (b : ℕ) → line_inside b ≡ true → Passed false b
 inside_passed b e =
-    let g = both (not (line_end b)) (not (eqb b 34) && not (eqb b 92)) e in
-    let q = both (not (eqb b 34)) (not (eqb b 92)) g.1 in
-    record { line = off (line_end b) g.0; quote = off (eqb b 34) q.0; slash = off (eqb b 92) q.1; like = refl }
+    let g = and_parts (not (line_end b)) (not (eqb b 34) && not (eqb b 92)) e in
+    let q = and_parts (not (eqb b 34)) (not (eqb b 92)) g.1 in
+    record { line = not-true (line_end b) g.0; quote = not-true (eqb b 34) q.0; slash = not-true (eqb b 92) q.1; like = refl }
 
 pub over_graphic : (s : List ℕ) (at n : ℕ) → n ≡ at + advance_while graphic_inside (drop at s) → placed at (quoted false true (drop at s)) ≡ placed n (quoted false true (drop n s))
 over_graphic = over_at graphic_inside true graphic_passed

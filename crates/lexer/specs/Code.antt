@@ -10,7 +10,7 @@ use Rattle.lexer.specs.declared.class.Class.{Class}
 use Rattle.lexer.specs.declared.class.Class.TheVariants as class
 use Rattle.lexer.specs.Syntax.{kind_number, Error, Whitespace, Comment, SpecialIdent, QuotedIdent, QuotedString, Colon, Dot, Minus, Slash}
 use Rattle.lexer.specs.Chars.{graphic, Cr, Letter, Digit}
-use Rattle.lexer.specs.Lexer.{Lexeme, LexRule, quoted, next}
+use Rattle.lexer.specs.Lexer.{Lexeme, LexRule, same, kernel, exec, quoted, next}
 
 -- the number of a class
 abbrev pub class_number : Class → ℕ
@@ -94,7 +94,11 @@ NextToken s r t =
 
 -- A test answers as p does, at each byte.
 abbrev pub AnswersAs : (ℕ → Bool) → (ℕ → Bool → Type 0) → Type 0
-AnswersAs p post = (b : ℕ) (r : Bool) → b < 256 → post b r → r ≡ p b
+AnswersAs p post = (b : ℕ) (r : Bool) → post b r → r ≡ p b
+
+-- the kind of a token that is `$` and this text
+unfoldable pub special_kind : List ℕ → ℕ
+special_kind text = cond (same text kernel || same text exec) SpecialIdent Error
 
 -- current_char() == Some(x)
 unfoldable pub starts_with : ℕ → List ℕ → Bool

@@ -7,13 +7,13 @@ ghost use Rattle.lexer.specs.Lexer.{in_line};
 pub fn is_blank(b: u8) -> bool
     ensures { result ≡ blank b }
 {
-    b == b' ' || b == b'\t'
+    matches!(b, b' ' | b'\t')
 }
 
 pub fn is_line_end(b: u8) -> bool
     ensures { result ≡ line_end b }
 {
-    b == b'\n' || b == b'\r'
+    matches!(b, b'\n' | b'\r')
 }
 
 // Most bytes of a line are told by one comparison.
@@ -38,7 +38,7 @@ pub fn is_hex(b: u8) -> bool
 pub fn is_binary(b: u8) -> bool
     ensures { result ≡ binary b }
 {
-    b == b'0' || b == b'1'
+    matches!(b, b'0' | b'1')
 }
 
 pub fn is_graphic(b: u8) -> bool

@@ -1,15 +1,14 @@
 // lexer.rs: a method for each shape of token, the iterator, and `tokenize`.
-ghost use Rattle.std.specs.Prelude.{◌≡◌, ◌||◌, ◌-◌, ◌≤◌, Bool, ℕ, length};
+ghost use Rattle.std.specs.Prelude.{◌≡◌, ◌-◌, ◌≤◌, Bool, ℕ, length};
 ghost use Rattle.std.specs.Iterator.{at_most};
 ghost use Rattle.lexer.specs.Syntax.{kind_number};
 ghost use Rattle.lexer.specs.Lexer.{lex_one, follow, lex_while, comment as comment_of, lex_number, zero_led};
-ghost use Rattle.lexer.specs.Lexer.{same as same_of, kernel, exec, special as special_of, stray as stray_of, dots, next as next_of};
-ghost use Rattle.lexer.specs.Code.{Lexed, NextToken, AnswersAs};
+ghost use Rattle.lexer.specs.Lexer.{special as special_of, stray as stray_of, dots, next as next_of};
+ghost use Rattle.lexer.specs.Code.{Lexed, NextToken, AnswersAs, special_kind};
 ghost use Rattle.lexer.specs.Tokens.{MAX_SOURCE, Tokenize};
 
 use crate::chars::{is_binary, is_blank, is_decimal, is_hex};
 use crate::class::{Class, class_of, is_word};
-use crate::runs::same;
 use crate::slices::TokenSlices;
 use crate::state::Lexer;
 use crate::syntax::SyntaxKind;
@@ -28,10 +27,14 @@ pub struct Token {
 }
 
 // Behind `$` only these two.
-fn is_special(text: &[u8]) -> bool
-    ensures { result ≡ (same_of text.now kernel || same_of text.now exec) }
+#[tactic(auto, using(crate::proofs::Texts::special_spelled, crate::proofs::Texts::none_spelled))]
+fn special_kind(text: &[u8]) -> SyntaxKind
+    ensures { kind_number result ≡ special_kind text.now }
 {
-    same(text, b"kernel") || same(text, b"exec")
+    match text {
+        b"kernel" | b"exec" => SpecialIdent,
+        _ => Error,
+    }
 }
 
 // Each goes over what is left of a token, from the offset on, and gives its kind.
@@ -67,11 +70,7 @@ impl Lexer<'_> {
     {
         let start = self.offset;
         self.advance_while(is_word);
-        if is_special(&self.source[start..self.offset]) {
-            SpecialIdent
-        } else {
-            Error
-        }
+        special_kind(&self.source[start..self.offset])
     }
 
     // lex_number behind a first `0`
@@ -153,10 +152,7 @@ impl Iterator for Lexer<'_> {
     // Inlined, so that no `Option` goes through memory for each token.
     #[inline(always)]
     fn next(&mut self) -> Option<Token> {
-        if self.source.len() <= self.offset {
-            return None;
-        }
-        let b = self.source[self.offset];
+        let &b = self.source.get(self.offset)?;
         self.offset += 1;
         let kind = self.behind(b);
         let end = self.offset;

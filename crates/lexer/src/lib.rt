@@ -11,6 +11,5 @@ mod state;
 pub mod syntax;
 
 pub use lexer::{MAX_SOURCE, Token, tokenize};
-pub use runs::same;
 pub use slices::TokenSlices;
 pub use state::Lexer;

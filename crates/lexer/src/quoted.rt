@@ -25,9 +25,9 @@ impl Lexer<'_> {
     // To the next byte that needs a look: a quote, a line end or a backslash, or a byte that ends being identifier-like; behind a
     // backslash, any.
     fn ahead(&mut self, taken: bool, identifier_like: bool)
-        ensures { (self.new.source.now ≡ self.old.source.now)
-            × (self.old.offset ≤ self.new.offset)
-            × (quote_rest self.old taken identifier_like ≡ quote_rest self.new taken identifier_like) }
+        ensures source_is { self.new.source.now ≡ self.old.source.now }
+        ensures not_back { self.old.offset ≤ self.new.offset }
+        ensures rest_is { quote_rest self.old taken identifier_like ≡ quote_rest self.new taken identifier_like }
     {
         if taken {
             return;
@@ -73,8 +73,12 @@ impl Lexer<'_> {
         ensures { Lexed (quoted false true) self.old result self.new }
     {
         match self.quote() {
-            Ending::Closed { identifier_like } if identifier_like => SyntaxKind::QuotedIdent,
-            Ending::Closed { .. } => SyntaxKind::QuotedString,
+            Ending::Closed {
+                identifier_like: true,
+            } => SyntaxKind::QuotedIdent,
+            Ending::Closed {
+                identifier_like: false,
+            } => SyntaxKind::QuotedString,
             Ending::Line | Ending::File => SyntaxKind::Error,
         }
     }

@@ -1,6 +1,6 @@
 // Runs of bytes, and what stands at the offset.
 ghost use Rattle.std.specs.Prelude.{◌≡◌, ◌+◌, ◌≤◌, Bool, ℕ, true, length, drop};
-ghost use Rattle.lexer.specs.Lexer.{advance_while, in_line, same as same_of};
+ghost use Rattle.lexer.specs.Lexer.{advance_while, in_line};
 ghost use Rattle.lexer.specs.Code.{Advanced, AdvanceIf, other_than, AllHold, AnswersAs};
 
 use crate::chars::is_in_line;
@@ -91,8 +91,8 @@ fn all_in_line(block: &[u8]) -> bool
 
 // How many bytes the blocks of 16 take that stand before the first one with a line end.
 fn blocks_in_line(rest: &[u8]) -> usize
-    ensures { (result ≤ length rest.now)
-        × (advance_while in_line rest.now ≡ result + advance_while in_line (drop result rest.now)) }
+    ensures within { result ≤ length rest.now }
+    ensures all_passed { advance_while in_line rest.now ≡ result + advance_while in_line (drop result rest.now) }
 {
     let mut at = 0;
     // A while: the step is 16 bytes.
@@ -100,11 +100,4 @@ fn blocks_in_line(rest: &[u8]) -> usize
         at += 16;
     }
     at
-}
-
-// Whether two texts are the same.
-pub fn same(a: &[u8], b: &[u8]) -> bool
-    ensures { result ≡ same_of a.now b.now }
-{
-    a == b
 }

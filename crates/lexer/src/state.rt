@@ -11,7 +11,8 @@ pub struct Lexer<'a> {
 
 impl<'a> Lexer<'a> {
     pub fn new(source: &'a [u8]) -> Lexer<'a>
-        ensures { (result.source.now ≡ source.now) × (result.offset ≡ 0) }
+        ensures source_is { result.source.now ≡ source.now }
+        ensures at_start { result.offset ≡ 0 }
     {
         Lexer { source, offset: 0 }
     }

@@ -1,16 +1,13 @@
 -- The number of a text, by its length and its bytes. Assumes nothing.
-use Prim.Native.Nat.{ℕ, suc, ◌+◌}
+use Prim.Native.Nat.{ℕ, suc}
 use mathlib.Core.Path.{◌≡◌, refl, sym, ap, ◌∙◌}
 use mathlib.Core.Bool.{Bool, true, false, cond}
 use mathlib.Core.List.{List, [], ◌∷◌, ◌++◌, map}
-use native.Mathlib.Nat.{add-zero}
-use native.Mathlib.Omega.{arith}
 use lib.ListN.{length, get_or, drop}
-use lib.Seq.{drop-drop, get_or-drop}
-use Rattle.std.proofs.lemmas.Slice.Eq.{HasBytesAt, text_from_reads}
 use Rattle.lexer.specs.Chars.{tabulate}
 use Rattle.lexer.specs.Lexer.{same}
 use Rattle.lexer.specs.Laws.{same_equal}
+use Rattle.lexer.proofs.Texts.{Spells, SpellsNone, spelled_is, equal_spells}
 use Rattle.grammar.specs.Words.{words, number_in}
 use Rattle.marks.specs.Code.{refused_texts, text_number}
 
@@ -37,22 +34,6 @@ letters =
     (101 ∷ 120 ∷ 116 ∷ 101 ∷ 114 ∷ 110 ∷ []) ∷
     []
 
--- t has the length and the bytes of w
-abbrev pub Spells : List ℕ → List ℕ → Type 0
-Spells w t = (length t ≡ length w) × HasBytesAt t 0 w
-
-abbrev pub SpellsNone : List (List ℕ) → List ℕ → Type 0
-SpellsNone [] t = Unit {0}
-SpellsNone (w ∷ ws) t = (Spells w t → ⊥) × SpellsNone ws t
-
-has_bytes : (p s : List ℕ) (i : ℕ) → drop i s ≡ p → HasBytesAt s i p
-has_bytes [] s i e = tt
-has_bytes (c ∷ p) s i e =
-    let next : suc i ≡ i + 1 = omega arith in (
-      ap (λ (n : ℕ). get_or s n 0) (sym (add-zero i)) ∙ sym (get_or-drop i s 0 0) ∙ ap (λ (l : List ℕ). get_or l 0 0) e,
-      has_bytes p s (suc i) (ap (λ (n : ℕ). drop n s) next ∙ sym (drop-drop 1 i s) ∙ ap (drop 1) e),
-    )
-
 spells_none : (n : ℕ) (ws : List (List ℕ)) (t : List ℕ) → SpellsNone ws t → number_in n ws t ≡ 0
 unfolding number_in
 spells_none n [] t h = refl
@@ -61,7 +42,7 @@ spells_none n (w ∷ ws) t h = by_test (same w t) refl (spells_none (suc n) ws t
     by_test : (u : Bool) → same w t ≡ u → number_in (suc n) ws t ≡ 0 → cond u n (number_in (suc n) ws t) ≡ 0
     by_test true e again =
         let q = same_equal w t e in
-        absurd (h.0 (ap length (sym q), has_bytes w t 0 (sym q)))
+        absurd (h.0 (equal_spells w t q))
     by_test false e again = again
 
 same_letters : words ++ refused_texts ≡ letters
@@ -76,7 +57,7 @@ Numbered n (w ∷ ws) t = (Spells w t → n ≡ text_number t) × Numbered (suc 
 in_order : (n : ℕ) (ws : List (List ℕ)) (t : List ℕ) → map text_number ws ≡ tabulate (λ k. k) n (length ws) → Numbered n ws t
 in_order n [] t e = tt
 in_order n (w ∷ ws) t e = (
-  λ s. sym (ap (λ (l : List ℕ). get_or l 0 0) e) ∙ ap text_number (sym (text_from_reads t w s.0 s.1)),
+  λ s. sym (ap (λ (l : List ℕ). get_or l 0 0) e) ∙ ap text_number (sym (spelled_is w t s)),
   in_order (suc n) ws t (ap (drop 1) e),
 )
 

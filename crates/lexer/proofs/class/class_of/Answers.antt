@@ -1,11 +1,12 @@
 -- `lexer::class::class_of` meets its contract: computed tests over all 256 entries. Assumes nothing.
 use mathlib.Core.Path.{◌≡◌, refl, ap, ◌∙◌}
-use mathlib.Core.Bool.{Bool, true, false, ◌&&◌, false≢true}
+use mathlib.Core.Bool.{Bool, true, false, ◌&&◌}
 use mathlib.Core.List.{List, [], ◌∷◌, map}
 use Prim.Native.Nat.{ℕ, zero, suc, ◌<◌}
 use native.Mathlib.Nat.{le_of_suc-le-suc, not-suc-le-zero}
 use borrow.Author.Rules.{rules}
 use lib.ListN.{length, get_or}
+use Rattle.std.proofs.lemmas.Bool.{and_parts}
 use Rattle.lexer.specs.declared.class.Class.{Class}
 use Rattle.lexer.specs.declared.class.Class.TheVariants.{Letter}
 use Rattle.lexer.specs.declared.class.TheConstants.{CLASS}
@@ -27,15 +28,11 @@ every : List Class → Bool
 every [] = true
 every (c ∷ t) = is_alone c && every t
 
-both : (s t : Bool) → s && t ≡ true → (s ≡ true) × (t ≡ true)
-both true t e = (refl, e)
-both false t e = absurd (false≢true e)
-
 each : (t : List Class) (b : ℕ) (d : Class) → is_alone d ≡ true → every t ≡ true → is_alone (get_or t b d) ≡ true
 unfolding every
 each [] b d h e = h
-each (c ∷ t) zero d h e = (both (is_alone c) (every t) e).0
-each (c ∷ t) (suc b) d h e = each t b d h (both (is_alone c) (every t) e).1
+each (c ∷ t) zero d h e = (and_parts (is_alone c) (every t) e).0
+each (c ∷ t) (suc b) d h e = each t b d h (and_parts (is_alone c) (every t) e).1
 
 pub returns-clause-number : goal.returns-clause-number
 unfolding class_table class punctuation

@@ -3,37 +3,22 @@
 use Prim.Native.Nat.{ℕ, ◌<◌}
 use mathlib.Core.Path.{◌≡◌, refl, sym, ap, ◌∙◌}
 use mathlib.Core.Logic.{◌⊎◌}
-use mathlib.Core.Bool.{Bool, true, false, cond, beq}
+use mathlib.Core.Bool.{true, false}
 use borrow.Author.Rules.{rules}
-use borrow.Author.Tests.{eqb-false}
 use native.Mathlib.Omega.{arith}
 use lib.Dec.{leb}
-use lib.ListN.{get_or, replicate, get_or-replicate}
+use Rattle.std.proofs.lemmas.Bool.{agree_below_at}
 use Rattle.lexer.specs.declared.class.Class.{Class}
 use Rattle.lexer.specs.declared.class.Class.TheVariants as variant
 use Rattle.lexer.specs.declared.syntax.SyntaxKind.{SyntaxKind}
 use Rattle.lexer.specs.Syntax.{kind_number}
-use Rattle.lexer.specs.Chars.{word, class, punctuation, tabulate}
+use Rattle.lexer.specs.Chars.{word, class, punctuation}
 use Rattle.lexer.specs.Code.{class_number}
-use Rattle.lexer.proofs.Laws.{entry}
 use Rattle.lexer.proofs.class.is_word.Goals as goal
 
-agrees : ℕ → ℕ
-agrees b = cond (beq (leb 64 (class b)) (word b)) 1 0
-
-every : tabulate agrees 0 256 ≡ replicate 256 1
-unfolding agrees class punctuation
-every = refl
-
-beq_true : (s t : Bool) → ◌≡◌ {A = ℕ} (cond (beq s t) 1 0) 1 → s ≡ t
-beq_true true true e = refl
-beq_true true false e = absurd (eqb-false 0 1 refl e)
-beq_true false true e = absurd (eqb-false 0 1 refl e)
-beq_true false false e = refl
-
 word_class : (b : ℕ) → b < 256 → leb 64 (class b) ≡ word b
-unfolding agrees
-word_class b h = beq_true (leb 64 (class b)) (word b) (sym (entry agrees 256 b h) ∙ ap (λ l. get_or l b 0) every ∙ get_or-replicate 256 b 1 0 h)
+unfolding class punctuation
+word_class b h = agree_below_at (λ n. leb 64 (class n)) word 256 b refl h
 
 -- the classes of letters and digits, and those of all others
 letter_or_digit : (k : Class) → (k ≡ variant.Letter) ⊎ (k ≡ variant.Digit) → leb 64 (class_number k) ≡ true

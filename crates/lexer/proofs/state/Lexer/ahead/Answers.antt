@@ -15,12 +15,12 @@ pub returns-then-identifier_like : goal.returns-then-identifier_like
 returns-then-identifier_like c =
     let s = c.args.self.now in
     let m = c.advance_while in
-    let a = m.ensures graphic_inside (λ b r h e. e) in
-    (a.source_is, omega (arith, a.offset_is), rw (c.if-taken.false, c.if-identifier_like.true) (over_graphic s.source.now s.offset _ a.offset_is ∙ ap (λ (l : List ℕ). placed m.new.self.offset (quoted false true (drop m.new.self.offset l))) (sym a.source_is)))
+    let a = m.ensures graphic_inside (λ b r e. e) in
+    record { source_is = a.source_is; not_back = omega (arith, a.offset_is); rest_is = rw (c.if-taken.false, c.if-identifier_like.true) (over_graphic s.source.now s.offset _ a.offset_is ∙ ap (λ (l : List ℕ). placed m.new.self.offset (quoted false true (drop m.new.self.offset l))) (sym a.source_is)) }
 
 pub returns-else-identifier_like : goal.returns-else-identifier_like
 returns-else-identifier_like c =
     let s = c.args.self.now in
     let m = c.advance_while-else-identifier_like in
-    let a = m.ensures line_inside (λ b r h e. e) in
-    (a.source_is, omega (arith, a.offset_is), rw (c.if-taken.false, c.if-identifier_like.false) (over_inside s.source.now s.offset _ a.offset_is ∙ ap (λ (l : List ℕ). placed m.new.self.offset (quoted false false (drop m.new.self.offset l))) (sym a.source_is)))
+    let a = m.ensures line_inside (λ b r e. e) in
+    record { source_is = a.source_is; not_back = omega (arith, a.offset_is); rest_is = rw (c.if-taken.false, c.if-identifier_like.false) (over_inside s.source.now s.offset _ a.offset_is ∙ ap (λ (l : List ℕ). placed m.new.self.offset (quoted false false (drop m.new.self.offset l))) (sym a.source_is)) }

@@ -43,18 +43,18 @@ module _ (s : List ℕ) (at : ℕ) (i : Bool) where
     breaks e = rw (next_byte s at h, e) (one_here Error at)
 
 pub loop-self-smaller-then-taken : goal.loop-self-smaller-then-taken
-loop-self-smaller-then-taken c = omega (arith, ap length c.ahead.ensures.0, c.ahead.ensures.1)
+loop-self-smaller-then-taken c = omega (arith, ap length c.ahead.ensures.source_is, c.ahead.ensures.not_back)
 
 pub loop-self-smaller : goal.loop-self-smaller
-loop-self-smaller c = omega (arith, ap length c.ahead.ensures.0, c.ahead.ensures.1)
+loop-self-smaller c = omega (arith, ap length c.ahead.ensures.source_is, c.ahead.ensures.not_back)
 
 pub loop-self-preserved-then-taken : goal.loop-self-preserved-then-taken
 loop-self-preserved-then-taken c =
     let a = c.ahead in
     let l = c.loop-self in
     let s = a.new.self in (
-      a.ensures.0 ∙ l.invariant.0,
-      l.invariant.1 ∙ a.ensures.2
+      a.ensures.source_is ∙ l.invariant.0,
+      l.invariant.1 ∙ a.ensures.rest_is
           ∙ ap (λ (t : Bool). placed s.offset (quoted t l.identifier_like (drop s.offset s.source.now))) c.if-taken.true
           ∙ takes s.source.now s.offset l.identifier_like (search rules),
     )
@@ -64,8 +64,8 @@ loop-self-preserved c =
     let a = c.ahead in
     let l = c.loop-self in
     let s = a.new.self in (
-      a.ensures.0 ∙ l.invariant.0,
-      l.invariant.1 ∙ a.ensures.2
+      a.ensures.source_is ∙ l.invariant.0,
+      l.invariant.1 ∙ a.ensures.rest_is
           ∙ ap (λ (t : Bool). placed s.offset (quoted t l.identifier_like (drop s.offset s.source.now))) c.if-taken.false
           ∙ goes s.source.now s.offset l.identifier_like (search rules) (sym c.is_line_end.ensures ∙ c.if-is_line_end.false) (ne_eqb _ _ c.if-b-eq34.false)
           ∙ ap (λ (i : Bool). placed (s.offset + 1) (quoted (eqb (get_or s.source.now s.offset 0) 92) i (drop (s.offset + 1) s.source.now))) (sym c.keeps-identifier_like.ensures),
@@ -76,16 +76,16 @@ returns-then-self c =
     let a = c.ahead in
     let l = c.loop-self in
     let s = a.new.self in
-    (a.ensures.0 ∙ l.invariant.0, ended s.source.now s.offset l.identifier_like l.taken c.if-self.true ∙ sym (l.invariant.1 ∙ a.ensures.2))
+    (a.ensures.source_is ∙ l.invariant.0, ended s.source.now s.offset l.identifier_like l.taken c.if-self.true ∙ sym (l.invariant.1 ∙ a.ensures.rest_is))
 
 pub returns-then-is_line_end : goal.returns-then-is_line_end
 returns-then-is_line_end c =
     let a = c.ahead in
     let l = c.loop-self in
     let s = a.new.self in (
-      a.ensures.0 ∙ l.invariant.0,
+      a.ensures.source_is ∙ l.invariant.0,
       breaks s.source.now s.offset l.identifier_like (search rules) (sym c.is_line_end.ensures ∙ c.if-is_line_end.true)
-          ∙ sym (l.invariant.1 ∙ a.ensures.2 ∙ ap (λ (t : Bool). placed s.offset (quoted t l.identifier_like (drop s.offset s.source.now))) c.if-taken.false),
+          ∙ sym (l.invariant.1 ∙ a.ensures.rest_is ∙ ap (λ (t : Bool). placed s.offset (quoted t l.identifier_like (drop s.offset s.source.now))) c.if-taken.false),
     )
 
 pub returns-then-b-eq34 : goal.returns-then-b-eq34
@@ -93,7 +93,7 @@ returns-then-b-eq34 c =
     let a = c.ahead in
     let l = c.loop-self in
     let s = a.new.self in (
-      a.ensures.0 ∙ l.invariant.0,
+      a.ensures.source_is ∙ l.invariant.0,
       closes s.source.now s.offset l.identifier_like (search rules) (sym c.is_line_end.ensures ∙ c.if-is_line_end.false) (eq-eqb _ _ c.if-b-eq34.true)
-          ∙ sym (l.invariant.1 ∙ a.ensures.2 ∙ ap (λ (t : Bool). placed s.offset (quoted t l.identifier_like (drop s.offset s.source.now))) c.if-taken.false),
+          ∙ sym (l.invariant.1 ∙ a.ensures.rest_is ∙ ap (λ (t : Bool). placed s.offset (quoted t l.identifier_like (drop s.offset s.source.now))) c.if-taken.false),
     )

@@ -41,7 +41,7 @@ returns-in-Some-eq120 c =
     let v = c.in-Some-eq120 in
     let g = c.get.ensures.lookup in
     let s = got_some l.source.now l.offset c.get.result v.field-0 g.0 (g.4 (search rules) 0) v.is in
-    let run = c.lex_while.ensures hex (λ b r h e. e) in
+    let run = c.lex_while.ensures hex (λ b r e. e) in
     record {
       source_is = run.source_is;
       token_is = run.token_is ∙ sym (moved _ _) ∙ ap (placed l.offset) (sym (ap zero_led s ∙ hexadecimal _ _ (search rules)));
@@ -53,7 +53,7 @@ returns-in-Some-eq98 c =
     let v = c.in-Some-eq98 in
     let g = c.get.ensures.lookup in
     let s = got_some l.source.now l.offset c.get.result v.field-0 g.0 (g.4 (search rules) 0) v.is in
-    let run = c.lex_while-in-Some-eq98.ensures binary (λ b r h e. e) in
+    let run = c.lex_while-in-Some-eq98.ensures binary (λ b r e. e) in
     record {
       source_is = run.source_is;
       token_is = run.token_is ∙ sym (moved _ _) ∙ ap (placed l.offset) (sym (ap zero_led s ∙ in_binary _ _ (search rules)));
@@ -72,5 +72,5 @@ returns-in_default c =
           let s = got_none l.source.now l.offset c.get.result g.0 w.in_default.is in
           ap zero_led s ∙ at_end ∙ ap (lex_while Number decimal) (sym s)
     ] in
-    let run = c.lex_while-in_default.ensures decimal (λ b r h e. e) in
+    let run = c.lex_while-in_default.ensures decimal (λ b r e. e) in
     record { source_is = run.source_is; token_is = run.token_is ∙ ap (placed l.offset) (sym decimal_here) }
