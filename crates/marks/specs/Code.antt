@@ -2,9 +2,9 @@
 -- Assumes nothing.
 use Rattle.std.specs.Prelude.{Option, None, Some, ℕ, suc, ◌+◌, ◌*◌, ◌≤◌, ◌<◌, ◌≡◌, Bool, cond, ◌&&◌, ◌||◌, List, [], ◌∷◌, ◌++◌, ltb, length}
 use Rattle.std.proofs.Math.Path.{refl}
-use Rattle.std.proofs.Common.{ap, true≢false, arith}
+use Rattle.std.proofs.Common.{ap, arith}
 use Rattle.std.proofs.Math.Bool.{true, false}
-use Rattle.std.proofs.lemmas.Bool.{false≢true}
+use Rattle.std.proofs.lemmas.Bool.{false≢true, or_parts}
 use borrow.Author.Tests.{eqb-true}
 use Rattle.std.proofs.Math.Dec.{eqb}
 use Rattle.lexer.specs.Syntax.{Ident}
@@ -71,10 +71,6 @@ pub record SymbolMark (kind : ℕ) (text : List ℕ) : Type 0 where
   pub symbol : sym_of kind text ≡ kind + MARK * number_of kind text
   pub bounded : kind < 60 → kind + MARK * number_of kind text ≤ key 16
 
-neither : (x y : Bool) → x || y ≡ false → (x ≡ false) × (y ≡ false)
-neither true y e = absurd (true≢false e)
-neither false y e = (refl, e)
-
 module _ (kind : ℕ) (text : List ℕ) where
   pub symbol_mark : is_refused (record { kind = kind; text = text }) ≡ false → SymbolMark kind text
   unfolding is_refused number_of sym_of
@@ -82,7 +78,7 @@ module _ (kind : ℕ) (text : List ℕ) where
     where
       by_kind : (t : Bool) → eqb Ident kind ≡ t → t && (same use_text text || same extern_text text) ≡ false → SymbolMark kind text
       by_kind true h f =
-          let w = neither (same use_text text) (same extern_text text) f in
+          let w = or_parts (same use_text text) (same extern_text text) f in
           let k = kept_text text w.0 w.1 in
           record { symbol = rw h (omega (arith, eqb-true Ident kind h, k.is_word)); bounded = λ l. rw h (omega (arith, eqb-true Ident kind h, k.small)) }
       by_kind false h f = record { symbol = rw h (omega arith); bounded = λ l. rw h (omega arith) }
@@ -104,17 +100,9 @@ marked kind text = kind + MARK * number_of kind text
 abbrev pub mark : Token → ℕ
 mark t = marked t.kind t.text
 
-pub few_numbers : (text : List ℕ) → text_number text ≤ 18
-unfolding text_number words
-few_numbers text = at_most 0 (words ++ refused_texts) text
-
--- Marked v, a token that starts at m is refused where v stands above the last word; the first of two refusals.
+-- Marked v, a token that starts at m is refused where v stands above the last word.
 abbrev pub refused_at : ℕ → ℕ → Option ℕ
 refused_at v m = cond (ltb (key 16) v) (Some m) None
-
-abbrev pub or_else : Option ℕ → Option ℕ → Option ℕ
-or_else None q = q
-or_else (Some m) q = Some m
 
 -- The tokens with their marks, as far as both slices have room, and the first refusal.
 pub record MarkSource (source kinds ends : List ℕ) (r : Read) (kinds' ends' : List ℕ) : Type 0 where

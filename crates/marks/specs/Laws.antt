@@ -1,6 +1,7 @@
 -- Laws of the marks, for the layers above: the plain kinds come back, and what joined sources come to.
 -- Assumes nothing.
 use Rattle.std.specs.Prelude.{Option, None, Some, ℕ, zero, suc, ◌+◌, ◌*◌, ◌<◌, ◌≡◌, refl, Bool, true, false, cond, List, [], ◌∷◌, ◌++◌, map, eqb, length}
+use Rattle.std.specs.Option.{option_or}
 use Rattle.std.proofs.Common.{sym, ap, subst, ◌∙◌, arith, add-zero, add_assoc, lt-ltb, le-ltb, eqb-true, length-append}
 use Rattle.std.proofs.lemmas.List.{map-append}
 use Rattle.lexer.specs.Syntax.{Ident, Newline}
@@ -14,7 +15,7 @@ use Rattle.grammar.specs.Source.{syms}
 use Rattle.grammar.specs.Source
 use Rattle.marks.specs.Marks.{is_refused, first_refused}
 use Rattle.lexer.specs.Kinds.{low_kinds}
-use Rattle.marks.specs.Code.{text_number, number_of, mark, symbol_mark, or_else}
+use Rattle.marks.specs.Code.{text_number, number_of, mark, symbol_mark}
 
 -- a key has the kind of an Ident, and a kind is its own
 kind_of_key : (w : ℕ) → kind_of (key w) ≡ Ident
@@ -118,15 +119,15 @@ abbrev pub moved : ℕ → Option ℕ → Option ℕ
 moved m None = None
 moved m (Some n) = Some (m + n)
 
-pub first_append : (n : ℕ) (xs ys : List Token) → first_refused n (xs ++ ys) ≡ or_else (first_refused n xs) (first_refused (n + length (token_bytes xs)) ys)
+pub first_append : (n : ℕ) (xs ys : List Token) → first_refused n (xs ++ ys) ≡ option_or (first_refused n xs) (first_refused (n + length (token_bytes xs)) ys)
 unfolding first_refused
 first_append n [] ys = ap (λ (k : ℕ). first_refused k ys) (sym (add-zero n))
 first_append n (t ∷ xs) ys =
     by_test (is_refused t) _ _ _
     (first_append (n + length t.text) xs ys
-    ∙ ap (λ (k : ℕ). or_else (first_refused (n + length t.text) xs) (first_refused k ys)) (omega (arith, length-append t.text (token_bytes xs))))
+    ∙ ap (λ (k : ℕ). option_or (first_refused (n + length t.text) xs) (first_refused k ys)) (omega (arith, length-append t.text (token_bytes xs))))
   where
-    by_test : (u : Bool) (p q r : Option ℕ) → p ≡ or_else q r → cond u (Some n) p ≡ or_else (cond u (Some n) q) r
+    by_test : (u : Bool) (p q r : Option ℕ) → p ≡ option_or q r → cond u (Some n) p ≡ option_or (cond u (Some n) q) r
     by_test true p q r h = refl
     by_test false p q r h = h
 
@@ -142,12 +143,12 @@ first_moved m n (t ∷ ts) =
 
 -- Joined sources, A's last token a newline that ends in LF: the first refused token is A's, else B's moved on by A's length.
 pub join_refused : (a b : List ℕ) → last 0 (token_kinds a) ≡ Newline → last 0 a ≡ 10
-    → first_refused 0 (tokenize (a ++ b)) ≡ or_else (first_refused 0 (tokenize a)) (moved (length a) (first_refused 0 (tokenize b)))
+    → first_refused 0 (tokenize (a ++ b)) ≡ option_or (first_refused 0 (tokenize a)) (moved (length a) (first_refused 0 (tokenize b)))
 join_refused a b p q =
     ap (first_refused 0) (join a b p q)
     ∙ first_append 0 (tokenize a) (tokenize b)
-    ∙ ap (λ (k : ℕ). or_else (first_refused 0 (tokenize a)) (first_refused k (tokenize b))) (omega (arith, ap length (lossless a)))
-    ∙ ap (or_else (first_refused 0 (tokenize a))) (first_moved (length a) 0 (tokenize b))
+    ∙ ap (λ (k : ℕ). option_or (first_refused 0 (tokenize a)) (first_refused k (tokenize b))) (omega (arith, ap length (lossless a)))
+    ∙ ap (option_or (first_refused 0 (tokenize a))) (first_moved (length a) 0 (tokenize b))
 
 pub join_none_refused : (a b : List ℕ) → last 0 (token_kinds a) ≡ Newline → last 0 a ≡ 10
     → first_refused 0 (tokenize a) ≡ None → first_refused 0 (tokenize b) ≡ None → first_refused 0 (tokenize (a ++ b)) ≡ None

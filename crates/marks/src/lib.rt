@@ -2,13 +2,14 @@
 #![tactic(auto)]
 
 ghost use Rattle.std.specs.Prelude.{◌≡◌, map, ◌≤◌, length};
+ghost use Rattle.std.specs.Option.{option_or};
 ghost use Rattle.lexer.specs.Syntax.{kind_number};
 ghost use Rattle.lexer.specs.Tokens.{MAX_SOURCE};
 ghost use Rattle.grammar.specs.Words.{kind_of};
-ghost use Rattle.marks.specs.Code.{marked, or_else, refused_at, MarkSource};
+ghost use Rattle.marks.specs.Code.{marked, refused_at, MarkSource};
 
 use crate::word::word_of;
-use grammar::words::{MARK, WHILE};
+use grammar::words::{MARK, WHILE, Word};
 use lexer::syntax::{IDENT, SyntaxKind};
 use lexer::{Lexer, TokenSlices};
 
@@ -22,8 +23,8 @@ pub struct Read {
 }
 
 // The refusal so far, or else that of a token above the last word, `while`: `use` and `extern`.
-fn or_else(refusal: Option<usize>, kind: u16, start: usize) -> Option<usize>
-    ensures { result ≡ or_else refusal (refused_at kind start) }
+fn first_refusal(refusal: Option<usize>, kind: u16, start: usize) -> Option<usize>
+    ensures { result ≡ option_or refusal (refused_at kind start) }
 {
     if kind <= WHILE {
         refusal
@@ -37,10 +38,7 @@ fn mark(kind: SyntaxKind, text: &[u8]) -> u16
     ensures { result ≡ marked (kind_number kind) text.now }
 {
     match kind {
-        SyntaxKind::Ident => match word_of(text) {
-            Some(word) => word.symbol(),
-            None => IDENT,
-        },
+        SyntaxKind::Ident => word_of(text).map_or(IDENT, Word::symbol),
         _ => u16::from(kind),
     }
 }
@@ -61,7 +59,7 @@ pub fn mark_source(source: &[u8], kinds: &mut [u16], ends: &mut [u32]) -> Read
     let mut start = 0;
     for token in Lexer::new(source) {
         let kind = mark(token.kind, &source[start..token.end]);
-        refusal = or_else(refusal, kind, start);
+        refusal = first_refusal(refusal, kind, start);
         tokens.push(kind, token.end as u32);
         start = token.end;
     }
@@ -82,8 +80,7 @@ fn plain(kind: u16) -> u16
 pub fn unmark(kinds: &mut [u16])
     ensures { kinds.new ≡ map kind_of kinds.old }
 {
-    // By index: of what is written through `iter_mut` no contract tells.
-    for i in 0usize..kinds.len() {
-        kinds[i] = plain(kinds[i]);
+    for kind in kinds.iter_mut() {
+        *kind = plain(*kind);
     }
 }

@@ -1,15 +1,17 @@
 -- `marks::mark` meets its contract: only an Ident has a number. Assumes nothing.
-use Prim.Native.Nat.{ℕ, ◌+◌, ◌*◌}
-use mathlib.Core.Path.{◌≡◌, ◌∙◌}
+use Prim.Native.Nat.{ℕ}
+use mathlib.Core.Path.{◌≡◌, refl, ◌∙◌}
 use mathlib.Core.Bool.{false}
 use mathlib.Core.List.{List}
 use native.Mathlib.Omega.{arith}
 use lib.Dec.{eqb}
+use Rattle.std.specs.Prelude.{Option, None, Some, MatchOption}
 use Rattle.lexer.specs.declared.syntax.SyntaxKind.{SyntaxKind}
 use Rattle.lexer.specs.declared.syntax.SyntaxKind.TheVariants as kind
 use Rattle.lexer.specs.Syntax.{kind_number, Ident}
-use Rattle.grammar.specs.Words.{MARK}
-use Rattle.marks.specs.Code.{text_number, number_of, marked}
+use Rattle.grammar.specs.Words.{key, word_number}
+use Rattle.grammar.specs.declared.words.Word.{Word}
+use Rattle.marks.specs.Code.{found_number, text_number, number_of, marked}
 use Rattle.marks.proofs.mark.Goals as goal
 
 not_ident : (k : SyntaxKind) → (k ≡ kind.Ident → ⊥) → eqb Ident (kind_number k) ≡ false
@@ -20,15 +22,15 @@ module _ (k : SyntaxKind) (text : List ℕ) where
   unfolding number_of
   other n = rw (not_ident k n) (omega arith)
 
-  ident : {n : ℕ} → k ≡ kind.Ident → n ≡ text_number text → Ident + MARK * n ≡ marked (kind_number k) text
+  -- what was found, and what is written for it
+  ident : (r : Option Word) (v : ℕ) → k ≡ kind.Ident → found_number r ≡ text_number text → MatchOption r (v ≡ Ident) (λ w. v ≡ key (word_number w))
+      → v ≡ marked (kind_number k) text
   unfolding number_of
-  ident e f = rw (e, f)
+  ident None v e f h = rw (e, ← f, h) refl
+  ident (Some w) v e f h = rw (e, ← f, h) refl
 
-pub returns-in-Some : goal.returns-in-Some
-returns-in-Some c = c.symbol.ensures ∙ ident _ _ c.in-Ident.is c.in-Some.ensures
-
-pub returns-in-None : goal.returns-in-None
-returns-in-None c = ident _ _ c.in-Ident.is c.in-None.ensures
+pub returns-in-Ident : goal.returns-in-Ident
+returns-in-Ident c = ident _ _ c.word_of.result _ c.in-Ident.is c.word_of.ensures c.map_or.ensures
 
 pub returns-in_default : goal.returns-in_default
 returns-in_default c = c.from.ensures ∙ other _ _ c.in_default.not-Ident

@@ -34,7 +34,7 @@ loop-token-preserved c =
       step.3,
       p.same_kinds ∙ l.invariant.4,
       p.same_ends ∙ l.invariant.5,
-      goes_on l.invariant.6 here.0 _ here.1 _ c.mark-kind.ensures _ c.or_else-refusal.ensures _ p,
+      goes_on l.invariant.6 here.0 _ here.1 _ c.mark-kind.ensures _ c.first_refusal-refusal.ensures _ p,
     )
 
 pub returns : goal.returns

@@ -18,4 +18,4 @@ ended {kinds₀} {kinds} {i} g h =
     ∙ over_all kinds₀ (map kind_of kinds₀) (length-map kinds₀ kind_of)
 
 pub returns : goal.returns
-returns c = ended c.loop-i.invariant.1 (search rules)
+returns c = ended c.loop-kind.invariant (search rules)

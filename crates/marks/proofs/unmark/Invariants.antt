@@ -11,8 +11,5 @@ pub record Going (kinds₀ kinds : List ℕ) (i : ℕ) : Type 0 where
   pub len : length kinds ≡ length kinds₀
   pub done : over kinds₀ 0 (map kind_of kinds₀) ≡ over kinds i (map kind_of (drop i kinds))
 
-abbrev pub invariant-loop-i : goal.invariant-loop-i
-invariant-loop-i l = (l.i-end ≡ length l.initial.kinds) × Going l.initial.kinds l.kinds l.i
-
-abbrev pub decreases-loop-i : goal.decreases-loop-i
-decreases-loop-i l = l.i-end - l.i
+abbrev pub invariant-loop-kind : goal.invariant-loop-kind
+invariant-loop-kind l = Going l.initial.kinds l.kinds l.kind-index
