@@ -1,6 +1,6 @@
 -- Laws that the functions' proofs share: a table's entry, and what stands at an offset of the source. Assumes nothing.
 use mathlib.Core.Path.{◌≡◌, refl, sym, ap, ◌∙◌}
-use mathlib.Core.Bool.{Bool, true, false, false≢true}
+use mathlib.Core.Bool.{Bool, true, false, not, cond, false≢true}
 use mathlib.Core.List.{List, [], ◌∷◌}
 use Prim.Native.Nat.{ℕ, zero, suc, ◌+◌, ◌≤◌, ◌<◌}
 use native.Mathlib.Nat.{add-zero, zero-add, add-suc, suc-add, add_assoc, le_of_suc-le-suc, not-suc-le-zero}
@@ -10,6 +10,8 @@ use borrow.Author.Tests.{ltb-true, ltb-false}
 use denote.Bor.{Bor}
 use Rattle.std.proofs.Common.{Option, Some, None}
 use Rattle.std.specs.Option.{is_some, unwrap_or, option_map}
+use Rattle.std.specs.List.{position_or_len}
+use Rattle.std.proofs.lemmas.List.Recursion.{is_position_or_len}
 use lib.Dec.{ltb}
 use lib.ListN.{length, get_or, drop, drop_of_length-le}
 use lib.Seq.{drop-drop}
@@ -41,6 +43,36 @@ module _ (p : ℕ → Bool) (s : List ℕ) (at : ℕ) where
   run_stop : at < length s → p (get_or s at 0) ≡ false → advance_while p (drop at s) ≡ 0
   unfolding advance_while
   run_stop h e = rw (next_byte s at h, e)
+
+-- how many bytes stand before the first one that does not go on
+module _ (p : ℕ → Bool) where
+  at_position : (r : List ℕ) → advance_while p r ≡ position_or_len (λ b. not (p b)) r
+  unfolding advance_while
+  at_position = is_position_or_len (advance_while p) (λ b. not (p b)) refl (λ b r. by_test (p b) (advance_while p r))
+    where
+      by_test : (t : Bool) (n : ℕ) → cond t (suc n) 0 ≡ cond (not t) 0 (1 + n)
+      by_test true n = omega arith
+      by_test false n = refl
+
+  run_within : (r : List ℕ) → advance_while p r ≤ length r
+  unfolding advance_while
+  run_within [] = omega arith
+  run_within (b ∷ r) = by_test (p b) (run_within r)
+    where
+      by_test : (t : Bool) → advance_while p r ≤ length r → cond t (suc (advance_while p r)) 0 ≤ suc (length r)
+      by_test true h = omega arith
+      by_test false h = omega arith
+
+  pub run_to_position : (r : List ℕ) (found : Option ℕ) → found ≡ cond (ltb (position_or_len (λ b. not (p b)) r) (length r)) (Some (position_or_len (λ b. not (p b)) r)) None
+      → unwrap_or found (length r) ≡ advance_while p r
+  run_to_position r found e = ap (λ (o : Option ℕ). unwrap_or o (length r)) e ∙ by_test (ltb k (length r)) refl ∙ sym (at_position r)
+    where
+      k : ℕ
+      k = position_or_len (λ b. not (p b)) r
+
+      by_test : (t : Bool) → ltb k (length r) ≡ t → unwrap_or (cond t (Some k) None) (length r) ≡ k
+      by_test true h = refl
+      by_test false h = omega (arith, ltb-false k (length r) h, run_within r, at_position r)
 
 -- the run from `a` on comes to `at`
 pub record Reaches (p : ℕ → Bool) (s : List ℕ) (a at : ℕ) : Type 0 where

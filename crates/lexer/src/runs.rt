@@ -12,14 +12,8 @@ impl Lexer<'_> {
         requires { F.IsAlwaysCallable goes_on }
         ensures { (p : ℕ → Bool) → AnswersAs p (F.post goes_on) → Advanced (advance_while p) self.old self.new }
     {
-        // By index: of the bytes that `position` met no contract tells that they are below 256.
-        for at in self.offset..self.source.len() {
-            if !goes_on(self.source[at]) {
-                self.offset = at;
-                return;
-            }
-        }
-        self.offset = self.source.len();
+        let rest = &self.source[self.offset..];
+        self.offset += rest.iter().position(|b| !goes_on(*b)).unwrap_or(rest.len());
     }
 
     // Over the run at the offset, with one test of the length for four bytes.

@@ -1,30 +1,21 @@
--- `lexer::runs::advance_tail` meets its contract: what the run takes from its start is what it takes from the cursor on.
--- Assumes nothing.
-use mathlib.Core.Path.{refl, sym, ap, ◌∙◌}
-use native.Mathlib.Omega.{arith}
-use lib.ListN.{length}
-use Rattle.lexer.proofs.Laws.{reaches_all, reaches_next, reaches_end}
-use Rattle.lexer.proofs.Steps.{same_end}
+-- `lexer::runs::advance_tail` meets its contract: the run ends where the first byte stands that does not go on. Assumes nothing.
+use mathlib.Core.Path.{◌≡◌, refl, sym, ap, ◌∙◌}
+use mathlib.Core.Bool.{not}
+use mathlib.Core.List.{List}
+use Prim.Native.Nat.{ℕ, ◌+◌, ◌-◌}
+use borrow.Author.Rules.{rules}
+use lib.ListN.{length, take, drop, length-drop}
+use lib.Seq.{take-length}
+use Rattle.std.specs.Option.{unwrap_or}
+use Rattle.std.proofs.lemmas.Iterator.{YieldsList-from_slice}
+use Rattle.std.proofs.lemmas.Iterator.Search.{position_from_yields_List}
+use Rattle.lexer.proofs.Laws.{run_to_position}
 use Rattle.lexer.proofs.state.Lexer.advance_tail.Goals as goal
-
-pub bounds-self-at : goal.bounds-self-at
-bounds-self-at g c = omega (arith, ap length c.loop-at.invariant.0)
-
-pub invariant_of-self : goal.invariant_of-self
-invariant_of-self g c = record { within = omega (arith, ap length c.loop-at.invariant.0) }
-
-pub returns-then-not-goes_on : goal.returns-then-not-goes_on
-returns-then-not-goes_on g c = λ p h.
-    let i = c.loop-at.invariant in
-    record { source_is = i.0; offset_is = reaches_end (i.1 p h) (omega (arith, ap length i.0)) (sym (h _ _ c.goes_on.ensures) ∙ c.if-not-goes_on.true) ∙ same_end p c.args.self.now.offset i.0 }
-
-pub loop-at-preserved : goal.loop-at-preserved
-loop-at-preserved g c =
-    let i = c.loop-at.invariant in
-    (i.0, λ p h. reaches_next (i.1 p h) (omega (arith, ap length i.0)) refl (sym (h _ _ c.goes_on.ensures) ∙ c.if-not-goes_on.false))
 
 pub returns : goal.returns
 returns g c = λ p h.
-    let i = c.loop-at.invariant in
-    let r = i.1 p h in
-    record { source_is = i.0; offset_is = omega (arith, reaches_all r (omega (arith, ap length i.0)), ap length i.0) ∙ same_end p c.args.self.now.offset i.0 }
+    let s = c.args.self.now in
+    let rest : List ℕ = drop s.offset s.source.now in
+    let all : take (length s.source.now - s.offset) rest ≡ rest = ap (λ (n : ℕ). take n rest) (sym (length-drop s.offset s.source.now)) ∙ take-length rest in
+    let found = position_from_yields_List (λ b. not (p b)) _ _ c.position.result c.position.ensures.ran (YieldsList-from_slice rest (c.iter.ensures.rest ∙ all)) (λ x b q k. search (rules, h)) in
+    record { source_is = refl; offset_is = ap (λ (n : ℕ). s.offset + n) (c.unwrap_or.ensures ∙ ap (λ (n : ℕ). unwrap_or c.position.result n) (ap length all) ∙ run_to_position p rest c.position.result found) }
