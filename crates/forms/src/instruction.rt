@@ -150,10 +150,7 @@ fn further_tokens(parser: &mut Parser, c0: Cursor, previous0: Option<u16>) -> Cu
         nesting: Nesting::default(),
     };
     let mut previous = previous0;
-    while !parser.eof(at.c.pos) {
-        if at_instruction_end(parser, at.c.pos, previous, at.nesting) {
-            return at.c;
-        }
+    while !parser.eof(at.c.pos) && !at_instruction_end(parser, at.c.pos, previous, at.nesting) {
         let k = parser.current(at.c.pos);
         if is_trivia(k) {
             at.c = parser.bump(at.c);

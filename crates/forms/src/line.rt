@@ -65,10 +65,7 @@ fn expr_tokens(parser: &mut Parser, c0: Cursor) -> Cursor
         nesting: Nesting::default(),
     };
     let mut saw_significant = false;
-    while !parser.eof(at.c.pos) {
-        if at_expr_end(parser, at.c.pos, at.nesting, saw_significant) {
-            return at.c;
-        }
+    while !parser.eof(at.c.pos) && !at_expr_end(parser, at.c.pos, at.nesting, saw_significant) {
         saw_significant = or_significant(saw_significant, parser.current(at.c.pos));
         at = parser.bump_nested(at);
     }
@@ -102,10 +99,7 @@ pub fn parse_signature_result_until_line_end(parser: &mut Parser, c0: Cursor) ->
         nesting: Nesting::default(),
     };
     let mut taken = false;
-    while !parser.eof(at.c.pos) {
-        if at_line_end(parser, at.c.pos, at.nesting) {
-            return result_end(parser, at.c, taken);
-        }
+    while !parser.eof(at.c.pos) && !at_line_end(parser, at.c.pos, at.nesting) {
         at = parser.bump_nested(at);
         taken = true;
     }

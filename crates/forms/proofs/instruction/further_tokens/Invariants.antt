@@ -9,11 +9,11 @@ use Rattle.forms.specs.Instruction.{behind}
 use Rattle.parser.proofs.Kit.{Leads}
 use Rattle.forms.proofs.instruction.further_tokens.Given as goal
 
-abbrev pub invariant-loop-previous : goal.invariant-loop-previous
-invariant-loop-previous l =
+abbrev pub invariant-loop-parser : goal.invariant-loop-parser
+invariant-loop-parser l =
     Leads (scan instruction_round (behind l.initial.previous)) (world l.initial.parser l.initial.at.c)
     (scan instruction_round (record { nesting = l.at.nesting; previous = l.previous })) (world l.parser l.at.c)
     × NestingBelow (l.at.c.pos + 1) l.at.nesting
 
-abbrev pub decreases-loop-previous : goal.decreases-loop-previous
-decreases-loop-previous l = length l.parser.kinds.now - l.at.c.pos
+abbrev pub decreases-loop-parser : goal.decreases-loop-parser
+decreases-loop-parser l = length l.parser.kinds.now - l.at.c.pos
