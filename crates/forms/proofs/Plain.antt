@@ -9,7 +9,7 @@ use borrow.Author.Tests.{eqb-true, ne_eqb}
 use lib.Dec.{eqb}
 use Rattle.lexer.specs.Syntax.{Error, Whitespace, Newline, Comment, DocComment, Dot, Equal, Comma, DotDot, DotDotDot, Colon, ColonColon, RArrow, Plus, Minus, Star, Slash, SlashSlash, LBrace, LBracket, LParen, RBrace, RBracket, RParen}
 use Rattle.grammar.specs.Words.{Sym, File, is}
-use Rattle.grammar.specs.Look.{one_of, at, current, eof, skip, is_trivia, expects_continuation_operand, punctuation_continues_instruction}
+use Rattle.grammar.specs.Look.{one_of, at, current, skip, is_trivia, expects_continuation_operand, punctuation_continues_instruction}
 use Rattle.grammar.specs.Out.{kind}
 use Rattle.grammar.specs.Run.{go}
 use Rattle.grammar.specs.Nesting.{default, is_root, bump_by, bump_nesting, counted}
@@ -17,7 +17,7 @@ use Rattle.grammar.specs.Instruction.{instruction_round, expects_operand, should
 use Rattle.parser.specs.Sets.{bit, bits_are, each_of}
 use Rattle.forms.specs.Instruction.{instruction_ends, behind, plain_kinds, plain_punctuation, open_behind}
 use Rattle.parser.proofs.Ahead.{at_here}
-use Rattle.parser.proofs.Laws.{rest_cons, at_within}
+use Rattle.parser.proofs.Laws.{rest_cons, at_within, at_by}
 use Rattle.forms.proofs.At.{line_end, or_off}
 use Rattle.forms.proofs.Rounds.{instruction_locals, instruction_counts}
 
@@ -79,11 +79,16 @@ pub not_error : (previous : Option Sym) (k : Sym) → bit (open_behind previous)
 unfolding one_of
 not_error previous k b e = false≢true (ap ordinary (sym e) ∙ open_ordinary previous k b)
 
-pub plain_round : (previous : Option Sym) (r : List Sym) (k : ℕ) → eof r ≡ false → k ≡ current r → bit (open_behind previous) k ≡ true
+-- nor is it Tombstone, which stands for no token
+pub plain_here : (previous : Option Sym) (r : List Sym) {k : ℕ} → k ≡ current r → bit (open_behind previous) k ≡ true → at (bit plain_kinds) r ≡ true
+unfolding bit
+plain_here previous r c b = sym (at_by (bit plain_kinds) r refl (sym (open_plain previous _ b)) c)
+
+pub plain_round : (previous : Option Sym) (r : List Sym) (k : ℕ) → k ≡ current r → bit (open_behind previous) k ≡ true
     → instruction_round (behind previous) r ≡ go (behind (Some k))
-unfolding eof current at
-plain_round previous [] k z c b = absurd (false≢true (sym z))
-plain_round previous (s ∷ r) k z c b =
+unfolding current at
+plain_round previous [] k c b = absurd (false≢true (plain_here previous [] c b))
+plain_round previous (s ∷ r) k c b =
     let l = behind previous in
     let b' = subst (λ i. bit (open_behind previous) i ≡ true) c b in
     let o = open_ordinary previous s b' in

@@ -1,5 +1,5 @@
 -- Where instructions end, and what their first tokens are taken as. Assumes nothing: these are definitions.
-use Rattle.std.specs.Prelude.{ℕ, Bool, cond, not, ◌&&◌, ◌||◌, List, [], ◌∷◌, Option, Some, None, is_some}
+use Rattle.std.specs.Prelude.{◌≡◌, ℕ, Bool, cond, not, ◌&&◌, ◌||◌, List, [], ◌∷◌, Option, Some, None, is_some}
 use Rattle.lexer.specs.Syntax.{Whitespace, Newline, Comment, DocComment}
 use Rattle.grammar.specs.Words.{Sym}
 use Rattle.grammar.specs.Look.{expects_continuation_operand, one_of, at, at_kind, at_terminator, can_start_operation, at_block_recovery_boundary}
@@ -37,7 +37,10 @@ unfoldable pub open_behind : Option Sym → ℕ
 open_behind None = plain_kinds
 open_behind (Some k) = cond (expects_continuation_operand k) plain_kinds plain_punctuation
 
--- The loop's first rounds, from w to v, leave the counts as they were: what goes on behind them goes on from the start.
+-- The loop's first rounds, from w to v, leave the counts as they were: what goes on behind them goes on from the start. Events are all
+-- that is written.
 pub record PlainTokens (w v : World) (previous : Option Sym) : Type 0 where
   pub leads : (w' : World) (l : Inst) → RanTo (scan instruction_round (behind previous)) v w' l → RanTo (scan instruction_round before_first) w w' l
   pub onward : Onward w v
+  pub messages : v.p.messages ≡ w.p.messages
+  pub starts : v.p.starts ≡ w.p.starts

@@ -112,14 +112,15 @@ struct Lead {
     previous: Option<u16>,
 }
 
-// The first rounds, for as long as one look at the token tells that it is taken and all that it changes is `previous`.
+// The first rounds, for as long as one look at the token tells that it is taken and all that it changes is `previous`. Past the last
+// token `current` is Tombstone, which is in no set.
 fn plain_tokens(parser: &mut Parser, c0: Cursor) -> Lead
     ensures { PlainTokens (entry parser c0) (exit parser result.c) result.previous }
 {
     let mut c = c0;
     let mut previous = None;
     let mut mask = PLAIN;
-    while !parser.eof(c.pos) {
+    loop {
         let k = parser.current(c.pos);
         if !in_set(mask, k) {
             return Lead { c, previous };
@@ -128,7 +129,6 @@ fn plain_tokens(parser: &mut Parser, c0: Cursor) -> Lead
         previous = Some(k);
         mask = open_behind(k);
     }
-    Lead { c, previous }
 }
 
 // Whether one or two tokens tell that an instruction ends here, outside delimiters. Mostly they do.

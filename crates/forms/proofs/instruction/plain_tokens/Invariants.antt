@@ -6,8 +6,8 @@ use Rattle.parser.specs.Rep.{world}
 use Rattle.forms.specs.Instruction.{open_behind, PlainTokens}
 use Rattle.forms.proofs.instruction.plain_tokens.Given as goal
 
-abbrev pub invariant-loop-parser : goal.invariant-loop-parser
-invariant-loop-parser l = PlainTokens (world l.initial.parser l.initial.c) (world l.parser l.c) l.previous × (l.mask ≡ open_behind l.previous)
+abbrev pub invariant-loop-c : goal.invariant-loop-c
+invariant-loop-c l = PlainTokens (world l.initial.parser l.initial.c) (world l.parser l.c) l.previous × (l.mask ≡ open_behind l.previous)
 
-abbrev pub decreases-loop-parser : goal.decreases-loop-parser
-decreases-loop-parser l = length l.parser.kinds.now - l.c.pos
+abbrev pub decreases-loop-c : goal.decreases-loop-c
+decreases-loop-c l = length l.parser.kinds.now - l.c.pos
