@@ -26,17 +26,11 @@ fn body_goes_on(parser: &Parser, at: Nested, known: Remembered) -> Option<Rememb
     ensures { MatchOption result (type_ends at.nesting (drop at.c.pos parser.now.kinds.now) ≡ true)
         (λ k. (type_ends at.nesting (drop at.c.pos parser.now.kinds.now) ≡ false) × BreakKnown parser.now.kinds.now at.c.pos k) }
 {
-    if !at.nesting.is_root() {
-        return Some(known);
-    }
-    if !parser.at_kind(at.c.pos, SyntaxKind::Newline) {
+    if !at.nesting.is_root() || !parser.at_kind(at.c.pos, SyntaxKind::Newline) {
         return Some(known);
     }
     let b = parser.line_break_starts_new_top_level_item(at.c.pos, known);
-    if b.starts {
-        return None;
-    }
-    Some(b)
+    (!b.starts).then_some(b)
 }
 
 fn type_tokens(parser: &mut Parser, c0: Cursor) -> Cursor

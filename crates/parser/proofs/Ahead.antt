@@ -7,16 +7,16 @@ use Prim.Native.Nat.{ℕ, zero, suc, ◌+◌, ◌-◌, ◌≤◌, ◌<◌}
 use native.Mathlib.Nat.{add-zero}
 use native.Mathlib.Omega.{arith}
 use lib.ListN.{length, drop}
-use borrow.Author.Tests.{eqb-true, eq-eqb, ne_eqb}
+use borrow.Author.Tests.{leb-true, eqb-true, eq-eqb, ne_eqb}
 use Rattle.lexer.specs.Syntax
 use Rattle.lexer.specs.Syntax.{Newline, DocComment}
 use Rattle.parser.specs.Sets.{word_bit, word_bits_are}
 use Rattle.grammar.specs.Words.{Sym, File, from, is, CONST, ELSE, END, ENUM, MOD, PROC, PUB, TYPE}
-use Rattle.grammar.specs.Look.{one_of, regular_trivia, is_trivia, current, at, skip, past, anyone, next_token_after_visibility, at_prefixed_keyword, is_top_level_starter, line_break_starts_new_top_level_item, at_top_level_form_starter_in_block}
+use Rattle.grammar.specs.Look.{one_of, regular_trivia, is_trivia, current, at, eof, skip, past, anyone, next_token_after_visibility, at_prefixed_keyword, is_top_level_starter, line_break_starts_new_top_level_item, at_top_level_form_starter_in_block}
 use Rattle.grammar.specs.Item.{at_declaration}
 use Rattle.parser.specs.declared.look.Remembered.{Remembered}
 use Rattle.parser.specs.Ahead.{declared, starter, ends_or_starts, Remembers, BreakKnown, DocKnown}
-use Rattle.parser.proofs.Laws.{at_in, rest_cons, rest_nil, at_within, at_current, skip_on, skip_off, skip_end, tokens_left}
+use Rattle.parser.proofs.Laws.{at_in, eof_is, eof_within, rest_cons, rest_nil, at_within, at_current, skip_on, skip_off, skip_end, tokens_left}
 
 -- ---- the list behind the token that stands at c, where l is what is left there
 past_none : (t : Sym → Bool) (r : List Sym) → at t r ≡ false → past t r ≡ []
@@ -176,15 +176,15 @@ pub ruleset starts = (at_here, at_not, starts_behind, starts_here)
 
 -- ---- inside the parentheses of a visibility
 module _ (F : File) (p : ℕ) where
-  pub past_any : p < length F → past anyone (drop p F) ≡ drop (p + 1) F
-  past_any h = past_on F p anyone refl (at_in F anyone p h) refl
+  pub past_any : {x : Bool} → x ≡ eof (drop p F) → x ≡ false → past anyone (drop p F) ≡ drop (p + 1) F
+  past_any e h = past_on F p anyone refl (at_in F anyone p (eof_within F p e h)) refl
 
-  pub past_all : length F ≤ p → drop p F ≡ skip regular_trivia (past (is Syntax.RParen) (skip regular_trivia (past anyone (drop p F))))
+  pub past_all : {x : Bool} → x ≡ eof (drop p F) → x ≡ true → drop p F ≡ skip regular_trivia (past (is Syntax.RParen) (skip regular_trivia (past anyone (drop p F))))
   unfolding skip past
-  past_all h = rw (rest_nil F p h)
+  past_all e h = rw (rest_nil F p (leb-true _ _ (eof_is F p ∙ sym e ∙ h)))
 
 pub all_passed : (F : File) (l : List Sym) → past (is Syntax.RParen) l ≡ [] → drop (length F) F ≡ skip regular_trivia (past (is Syntax.RParen) l)
 unfolding skip
 all_passed F l e = rest_nil F (length F) (omega arith) ∙ sym (ap (skip regular_trivia) e)
 
-pub ruleset inside = (next_within, past_on, past_off, past_any, past_all, all_passed)
+pub ruleset inside = (next_within, eof_within, past_on, past_off, past_any, past_all, all_passed)

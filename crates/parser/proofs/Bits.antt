@@ -21,7 +21,7 @@ module _ (k : Sym) where
   unfolding one_of trivia_to
   any = trivia_is _ (Whitespace ∷ Newline ∷ Comment ∷ DocComment ∷ []) k tt tt
 
-  pub non_comment : trivia_to 28 k ≡ non_comment_trivia k
+  non_comment : trivia_to 28 k ≡ non_comment_trivia k
   unfolding one_of trivia_to
   non_comment = trivia_is _ (Whitespace ∷ Newline ∷ []) k tt tt
 
@@ -29,7 +29,7 @@ module _ (k : Sym) where
   unfolding one_of trivia_to
   space = trivia_is _ (Whitespace ∷ []) k tt tt ∙ or-false _
 
-pub ruleset trivia = (regular, any, non_comment)
+pub ruleset trivia = (regular, any)
 
 -- the same as functions
 pub all_regular : trivia_to 29 ≡ regular_trivia

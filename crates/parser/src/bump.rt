@@ -20,7 +20,9 @@ use lexer::syntax::SyntaxKind;
 impl Parser<'_> {
     // while the token is trivia up to `last` { bump }. Each such kind is its own event, and `current` past the last token, 0, is none.
     fn bump_while(&mut self, c0: Cursor, last: SyntaxKind) -> Cursor
-        ensures { Ran (bump_while (trivia_to (kind_number last))) (entry self c0) (exit self result) }
+        ensures ran { Ran (bump_while (trivia_to (kind_number last))) (entry self c0) (exit self result) }
+        ensures messages { self.new.messages ≡ self.old.messages }
+        ensures starts { self.new.starts ≡ self.old.starts }
     {
         let mut c = c0;
         while is_trivia_to(last, self.current(c.pos)) {
@@ -53,8 +55,8 @@ impl Parser<'_> {
 
     // Whether a token of this kind is here, and the kind is not trivia.
     fn stands_here(&self, p: usize, kind: SyntaxKind) -> bool
-        ensures { result ≡ true → (at (is (kind_number kind)) (drop p self.now.kinds.now) ≡ true)
-            × (regular_trivia (kind_number kind) ≡ false) }
+        ensures here { result ≡ true → at (is (kind_number kind)) (drop p self.now.kinds.now) ≡ true }
+        ensures no_trivia { result ≡ true → regular_trivia (kind_number kind) ≡ false }
     {
         self.at_kind(p, kind) && !is_regular_trivia(u16::from(kind))
     }
@@ -65,11 +67,15 @@ impl Parser<'_> {
     {
         let c = self.bump_regular_trivia(c0);
         if self.at_symbol(c.pos, k) {
-            let d = self.bump(c);
-            return Flow { c: d, ok: true };
+            return Flow {
+                c: self.bump(c),
+                ok: true,
+            };
         }
-        let d = self.error_here(c, m);
-        Flow { c: d, ok: false }
+        Flow {
+            c: self.error_here(c, m),
+            ok: false,
+        }
     }
 
     // Mostly the token is here.
@@ -77,8 +83,10 @@ impl Parser<'_> {
         ensures { RanTo (expect_kind (kind_number kind) m) (entry self c0) (exit self result.c) result.ok }
     {
         if self.stands_here(c0.pos, kind) {
-            let d = self.bump(c0);
-            return Flow { c: d, ok: true };
+            return Flow {
+                c: self.bump(c0),
+                ok: true,
+            };
         }
         self.expect_behind(c0, u16::from(kind), m)
     }
@@ -89,8 +97,10 @@ impl Parser<'_> {
         ensures { RanTo (expect_keyword (key (word_number keyword)) m) (entry self c0) (exit self result.c) result.ok }
     {
         if self.at_keyword(c0.pos, keyword) {
-            let d = self.bump(c0);
-            return Flow { c: d, ok: true };
+            return Flow {
+                c: self.bump(c0),
+                ok: true,
+            };
         }
         self.expect_behind(c0, keyword.symbol(), m)
     }

@@ -1,7 +1,7 @@
 // Classes of tokens, by their kinds and words.
 ghost use Rattle.std.specs.Prelude.{◌≡◌};
 ghost use Rattle.lexer.specs.Syntax.{kind_number};
-ghost use Rattle.grammar.specs.Look.{regular_trivia, is_trivia, non_comment_trivia, name_like, is_reserved_block_keyword};
+ghost use Rattle.grammar.specs.Look.{regular_trivia, is_trivia, name_like, is_reserved_block_keyword};
 ghost use Rattle.grammar.specs.Look.{expects_continuation_operand as expects_operand, punctuation_continues_instruction as continues};
 ghost use Rattle.grammar.specs.Look.{starts_instruction, control_flow};
 ghost use Rattle.parser.specs.Sets.{bit, word_bit, trivia_to};
@@ -53,13 +53,6 @@ pub fn is_trivia(k: u16) -> bool
     ensures { result ≡ is_trivia k }
 {
     is_trivia_to(TRIVIA, k)
-}
-
-#[tactic(auto, using(crate::proofs::Bits::trivia))]
-pub fn is_non_comment_trivia(k: u16) -> bool
-    ensures { result ≡ non_comment_trivia k }
-{
-    is_trivia_to(NON_COMMENT_TRIVIA, k)
 }
 
 #[tactic(auto, using(crate::proofs::Bits::operands))]

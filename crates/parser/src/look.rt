@@ -37,7 +37,8 @@ impl Parser<'_> {
         self.kinds.len() <= p
     }
 
-    // The token here; past the last one Tombstone, as in the definition. No Option: each test of it is then one comparison.
+    // The token here; past the last one Tombstone, as in the definition. No Option: with Tombstone each test of it is one comparison. An
+    // Option is not tried.
     #[tactic(auto, using(crate::proofs::Laws::current_in, crate::proofs::Laws::current_out))]
     pub fn current(&self, p: usize) -> u16
         ensures { result ≡ current_of (drop p self.now.kinds.now) }
@@ -45,7 +46,7 @@ impl Parser<'_> {
         if p < self.kinds.len() {
             return self.kinds[p];
         }
-        0
+        SyntaxKind::Tombstone as u16
     }
 
     // A plain kind, or an Ident that is a word, by its number.
@@ -118,7 +119,7 @@ impl Parser<'_> {
         ensures { Found self.now.kinds.now p result (skip_of regular_trivia
             (past (is RParen) (skip_of regular_trivia (past anyone (drop p self.now.kinds.now))))) }
     {
-        if self.kinds.len() <= p {
+        if self.eof(p) {
             return p;
         }
         let closer = self.next_relevant_top_level_token(p + 1);
@@ -188,17 +189,18 @@ impl Parser<'_> {
         ensures { result ≡ stray_else terminators (drop p self.now.kinds.now) }
     {
         match terminators {
-            Terminators::End => self.at_keyword(p, Word::Else),
+            Terminators::End | Terminators::While => self.at_keyword(p, Word::Else),
             Terminators::ElseEnd => false,
-            Terminators::While => self.at_keyword(p, Word::Else),
         }
     }
 
     // At a newline. A run of trivia is looked through once: what is known is handed back.
     #[tactic(auto, using(crate::proofs::Ahead::remembers))]
     pub fn line_break_starts_new_top_level_item(&self, p: usize, known: Remembered) -> Remembered
-        requires { (at (is Newline) (drop p self.now.kinds.now) ≡ true) × BreakKnown self.now.kinds.now p known }
-        ensures { (result.starts ≡ line_break_starts (drop p self.now.kinds.now)) × BreakKnown self.now.kinds.now p result }
+        requires here { at (is Newline) (drop p self.now.kinds.now) ≡ true }
+        requires known { BreakKnown self.now.kinds.now p known }
+        ensures starts { result.starts ≡ line_break_starts (drop p self.now.kinds.now) }
+        ensures known { BreakKnown self.now.kinds.now p result }
     {
         if p < known.next {
             return known;

@@ -24,7 +24,7 @@ unfolding trivia_to
 at_trivia last r e c = at_by (trivia_to last) r refl e c
 
 pub loop-last-init : goal.loop-last-init
-loop-last-init c = begins
+loop-last-init c = (begins, refl, refl)
 
 pub bump_plain-c-requires : goal.bump_plain-c-requires
 bump_plain-c-requires c =
@@ -45,11 +45,16 @@ unfolding bump_while while_round
 loop-last-preserved c =
     let l = kind_number c.args.last in
     let e = sym (at_trivia l _ c.is_trivia_to.ensures c.current.ensures) ∙ c.loop-last-test.true in
-    loop_takes (while_round (trivia_to l)) c.loop-last.invariant (at_some (trivia_to l) _ e) (ap (λ u. cond u (go true) stop) e) c.bump_plain-c.ensures.bumped.ran
+    let i = c.loop-last.invariant in
+    let p = c.bump_plain-c.ensures in (
+      loop_takes (while_round (trivia_to l)) i.0 (at_some (trivia_to l) _ e) (ap (λ u. cond u (go true) stop) e) p.bumped.ran,
+      p.messages ∙ i.1,
+      p.starts ∙ i.2,
+    )
 
-pub returns : goal.returns
+pub returns-clause-ran : goal.returns-clause-ran
 unfolding bump_while while_round
-returns c =
+returns-clause-ran c =
     let l = kind_number c.args.last in
     let e = sym (at_trivia l _ c.is_trivia_to.ensures c.current.ensures) ∙ c.loop-last-test.false in
-    (loop_stops (while_round (trivia_to l)) c.loop-last.invariant (ap (λ u. cond u (go true) stop) e)).ran
+    (loop_stops (while_round (trivia_to l)) c.loop-last.invariant.0 (ap (λ u. cond u (go true) stop) e)).ran

@@ -7,9 +7,9 @@ use Rattle.parser.proofs.state.Parser.expect_behind.Goals as goal
 pub returns-then-at_symbol : goal.returns-then-at_symbol
 unfolding expect_kind
 returns-then-at_symbol c =
-    c.bump_regular_trivia-c.ensures then_to yes_to _ _ c.at_symbol.ensures c.if-at_symbol.true (c.bump-d.ensures.ran then_to done_to true)
+    c.bump_regular_trivia-c.ensures then_to yes_to _ _ c.at_symbol.ensures c.if-at_symbol.true (c.bump.ensures.ran then_to done_to true)
 
 pub returns : goal.returns
 unfolding expect_kind
 returns c =
-    c.bump_regular_trivia-c.ensures then_to no_to _ _ c.at_symbol.ensures c.if-at_symbol.false (c.error_here-d.ensures.ran then_to done_to false)
+    c.bump_regular_trivia-c.ensures then_to no_to _ _ c.at_symbol.ensures c.if-at_symbol.false (c.error_here.ensures.ran then_to done_to false)

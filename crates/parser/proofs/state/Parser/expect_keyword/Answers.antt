@@ -6,4 +6,4 @@ use Rattle.parser.proofs.state.Parser.expect_keyword.Goals as goal
 
 pub returns-then-at_keyword : goal.returns-then-at_keyword
 returns-then-at_keyword c =
-    expected (key (word_number c.args.keyword)) c.args.m (no_trivia c.args.keyword) (sym c.at_keyword.ensures ∙ c.if-at_keyword.true) c.bump-d.ensures.ran
+    expected (key (word_number c.args.keyword)) c.args.m (no_trivia c.args.keyword) (sym c.at_keyword.ensures ∙ c.if-at_keyword.true) c.bump.ensures.ran

@@ -5,5 +5,6 @@ use Rattle.parser.proofs.state.Parser.expect_kind.Goals as goal
 
 pub returns-then-stands_here : goal.returns-then-stands_here
 returns-then-stands_here c =
-    let here = c.stands_here.ensures c.if-stands_here.true in
-    expected (kind_number c.args.kind) c.args.m here.1 here.0 c.bump-d.ensures.ran
+    let here = c.stands_here.ensures in
+    let e = c.if-stands_here.true in
+    expected (kind_number c.args.kind) c.args.m (here.no_trivia e) (here.here e) c.bump.ensures.ran

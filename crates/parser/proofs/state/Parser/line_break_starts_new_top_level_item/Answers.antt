@@ -9,10 +9,13 @@ pub returns-then-eof : goal.returns-then-eof
 unfolding ends_or_starts
 returns-then-eof c =
     let f = c.next_relevant_top_level_token-next.ensures in
-    break_new c.args.self.now.kinds.now c.args.p (omega (arith, f.ahead)) c.requires.0 f.is (rw (← c.eof.ensures, c.if-eof.true))
+    let b = break_new c.args.self.now.kinds.now c.args.p (omega (arith, f.ahead)) c.requires.here f.is (rw (← c.eof.ensures, c.if-eof.true)) in
+    record { starts = b.0; known = b.1 }
 
 pub returns-else-eof : goal.returns-else-eof
 unfolding ends_or_starts
 returns-else-eof c =
     let f = c.next_relevant_top_level_token-next.ensures in
-    break_new c.args.self.now.kinds.now c.args.p (omega (arith, f.ahead)) c.requires.0 f.is (rw (← c.eof.ensures, c.if-eof.false) c.is_top_level_starter-starts.ensures)
+    let k = c.args.self.now.kinds.now in
+    let b = break_new k c.args.p (omega (arith, f.ahead)) c.requires.here f.is (rw (← c.eof.ensures, c.if-eof.false) c.is_top_level_starter-starts.ensures) in
+    record { starts = b.0; known = b.1 }
