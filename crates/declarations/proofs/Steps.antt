@@ -4,7 +4,9 @@ use mathlib.Core.Path.{◌≡◌, sym, ap, ◌∙◌}
 use Rattle.grammar.specs.Words.{Sym}
 use Rattle.grammar.specs.Run.{Forest, ◌<>◌, Res, P, ◌>>=◌, ◌>>◌}
 use Rattle.grammar.specs.Laws.Good.{app_assoc}
-use Rattle.parser.specs.Rep.{World, Ran}
+use Rattle.parser.specs.declared.cursor.Cursor.{Cursor}
+use Rattle.parser.specs.declared.state.Parser.{Parser}
+use Rattle.parser.specs.Rep.{World, world, Ran}
 use Rattle.parser.proofs.Kit.{like}
 
 -- ---- steps and then what comes behind them, as the definition puts them: one step and then the others
@@ -31,3 +33,7 @@ five f g h i j k r = three f g (h >> i >> j) k r ∙ later f (later g (three h i
 -- the definition h is these steps f
 pub steps : {A : Type 0} {f h : P A} {w w' : World} → ((r : List Sym) → f r ≡ h r) → Ran f w w' → Ran h w w'
 steps {f} e s = like f (sym (e _)) s
+
+-- where two ways come together
+pub reaches : {A : Type 0} {f : P A} {w : World} {p p' : Parser} {c c' : Cursor} → p' ≡ p → c' ≡ c → Ran f w (world p c) → Ran f w (world p' c')
+reaches e q h = rw (e, q) h

@@ -34,8 +34,10 @@ fn attribute_round(parser: &mut Parser, c0: Cursor) -> Flow
 {
     let a = parser.bump_regular_trivia(c0);
     if parser.at_kind(a.pos, SyntaxKind::At) {
-        let b = parse_attribute(parser, a);
-        return Flow { c: b, ok: true };
+        return Flow {
+            c: parse_attribute(parser, a),
+            ok: true,
+        };
     }
     Flow { c: a, ok: false }
 }

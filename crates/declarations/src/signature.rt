@@ -40,9 +40,10 @@ pub fn parse_signature(parser: &mut Parser, c0: Cursor) -> Cursor
         Message::Plain(PlainMessage::ExpectedParametersEnd),
     );
     let next = parser.peek_after_non_comment_trivia(b.pos);
-    if parser.at_kind(next, SyntaxKind::RArrow) {
-        let d = parse_results(parser, b);
-        return parser.finish_node(d);
-    }
-    parser.finish_node(b)
+    let d = if parser.at_kind(next, SyntaxKind::RArrow) {
+        parse_results(parser, b)
+    } else {
+        b
+    };
+    parser.finish_node(d)
 }

@@ -33,11 +33,12 @@ pub fn parse_visibility(parser: &mut Parser, c0: Cursor) -> Cursor
     let a = parser.start_node(c0, SyntaxKind::Visibility);
     let b = parser.expect_keyword(a, Word::Pub, Message::Unreached);
     let next = parser.next_relevant_top_level_token(b.c.pos);
-    if parser.at_kind(next, SyntaxKind::LParen) {
-        let d = package_in_parens(parser, b.c);
-        return parser.finish_node(d);
-    }
-    parser.finish_node(b.c)
+    let d = if parser.at_kind(next, SyntaxKind::LParen) {
+        package_in_parens(parser, b.c)
+    } else {
+        b.c
+    };
+    parser.finish_node(d)
 }
 
 // if at_keyword("pub") { parse_visibility }

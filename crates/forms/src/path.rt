@@ -20,11 +20,15 @@ fn path_segment(parser: &mut Parser, c0: Cursor) -> Flow
     let b = parser.bump(a);
     let d = parser.bump_non_comment_trivia(b);
     if is_name_like(parser.current(d.pos)) {
-        let e = parser.bump(d);
-        return Flow { c: e, ok: true };
+        return Flow {
+            c: parser.bump(d),
+            ok: true,
+        };
     }
-    let e = parser.error_here(d, Message::Plain(PlainMessage::ExpectedPathSegment));
-    Flow { c: e, ok: false }
+    Flow {
+        c: parser.error_here(d, Message::Plain(PlainMessage::ExpectedPathSegment)),
+        ok: false,
+    }
 }
 
 // Whether there is a further segment, and it has a name.
@@ -69,7 +73,8 @@ pub fn parse_path_with_message(parser: &mut Parser, c0: Cursor, m: Message) -> C
 // How many delimiters of this kind are open behind the token k.
 #[tactic(auto, unfolding(crate::specs::Path::group_step))]
 fn group_depth(opener: SyntaxKind, closer: SyntaxKind, depth: usize, k: u16) -> usize
-    requires { (0 < depth) × (depth < 2 ^ 63) }
+    requires open { 0 < depth }
+    requires short { depth < 2 ^ 63 }
     ensures { result ≡ group_step (kind_number opener) (kind_number closer) depth k }
 {
     if u16::from(opener) == k {

@@ -7,7 +7,7 @@ use Rattle.declarations.proofs.attribute.attribute_round.Goals as goal
 pub returns-then-at_kind : goal.returns-then-at_kind
 unfolding attribute_round
 returns-then-at_kind c =
-    c.bump_regular_trivia-a.ensures then_to yes_to _ _ c.at_kind.ensures c.if-at_kind.true (c.parse_attribute-b.ensures then_to done_to true)
+    c.bump_regular_trivia-a.ensures then_to yes_to _ _ c.at_kind.ensures c.if-at_kind.true (c.parse_attribute.ensures then_to done_to true)
 
 pub returns : goal.returns
 unfolding attribute_round

@@ -12,11 +12,11 @@ unfolding path_segment name_like one_of
 returns-then-is_name_like c =
     let e = at_by name_like _ refl c.is_name_like.ensures c.current.ensures in
     c.bump_non_comment_trivia-a.ensures then_to c.bump-b.ensures.ran then_to c.bump_non_comment_trivia-d.ensures then_to
-    yes_to _ _ e c.if-is_name_like.true (c.bump-e.ensures.ran then_to done_to true)
+    yes_to _ _ e c.if-is_name_like.true (c.bump.ensures.ran then_to done_to true)
 
 pub returns : goal.returns
 unfolding path_segment name_like one_of
 returns c =
     let e = at_by name_like _ refl c.is_name_like.ensures c.current.ensures in
     c.bump_non_comment_trivia-a.ensures then_to c.bump-b.ensures.ran then_to c.bump_non_comment_trivia-d.ensures then_to
-    no_to _ _ e c.if-is_name_like.false (c.error_here-e.ensures.ran then_to done_to false)
+    no_to _ _ e c.if-is_name_like.false (c.error_here.ensures.ran then_to done_to false)
