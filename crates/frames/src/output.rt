@@ -3,7 +3,6 @@ ghost use Rattle.std.specs.Prelude.{◌≡◌, ◌+◌, ◌≤◌, ℕ, List, []
 ghost use Rattle.std.specs.List.{AllZip};
 ghost use Rattle.std.specs.Io.{WritesAtMost};
 ghost use Rattle.std.specs.Io.KnownBytes.{Appends, Keeps, WriteAppends};
-ghost use Rattle.frames.specs.Ready.{Ready};
 ghost use Rattle.frames.specs.Gathered.{Gathered, gathered, gather};
 ghost use Rattle.std.specs.Fmt.{decimal};
 ghost use Rattle.frames.specs.Text.{spaced, number_line, tagged_line};
@@ -26,12 +25,11 @@ impl<'r, 'b, P: Print> Model for Output<'r, 'b, P> {
 
     ghost view = { λ o. gathered (length o.buf.now) (take o.used o.buf.now) };
 
-    ghost invariant = { λ o. Ready o.used o.buf.now };
+    ghost invariant = { λ o. o.used ≤ length o.buf.now };
 }
 
 impl<'r, 'b, P: Print> Output<'r, 'b, P> {
     pub fn new(rt: &'r P, buf: &'b mut [u8]) -> Output<'r, 'b, P>
-        requires { 32 ≤ length buf.old }
         ensures { result ≡ gathered (length buf.old) [] }
     {
         Output { rt, buf, used: 0 }
