@@ -44,8 +44,16 @@ pub enum Answer {
     NotUtf8(usize),
     TokenRoom(usize),
     Refused(usize),
-    OutputRoom(usize, usize, usize),
-    Accepted(usize, usize, usize),
+    OutputRoom {
+        tokens: usize,
+        events: usize,
+        diagnostics: usize,
+    },
+    Accepted {
+        tokens: usize,
+        events: usize,
+        diagnostics: usize,
+    },
 }
 
 // The status and the three numbers behind it.
@@ -79,8 +87,16 @@ impl From<Answer> for FourNumbers {
             Answer::NotUtf8(n) => row(Status::NotUtf8, n, 0, 0),
             Answer::TokenRoom(t) => row(Status::TokenRoom, t, 0, 0),
             Answer::Refused(n) => row(Status::Refused, n, 0, 0),
-            Answer::OutputRoom(t, e, d) => row(Status::OutputRoom, t, e, d),
-            Answer::Accepted(t, e, d) => row(Status::Accepted, t, e, d),
+            Answer::OutputRoom {
+                tokens,
+                events,
+                diagnostics,
+            } => row(Status::OutputRoom, tokens, events, diagnostics),
+            Answer::Accepted {
+                tokens,
+                events,
+                diagnostics,
+            } => row(Status::Accepted, tokens, events, diagnostics),
         }
     }
 }

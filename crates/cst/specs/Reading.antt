@@ -5,7 +5,12 @@ use Rattle.room.specs.Over.{over}
 use Rattle.lexer.specs.Lexer.{tokenize}
 use Rattle.lexer.specs.Tokens.{room, token_ends}
 use Rattle.marks.specs.Code.{mark}
-use Rattle.answer.specs.Answer.{events_of, places_of}
+use Rattle.answer.specs.declared.Answer.{Answer}
+use Rattle.answer.specs.Answer.{Slices, outcome, parse_text, events_of, places_of}
+
+-- The reading of a source refuses it with this answer, whatever the slices, which it leaves as they are.
+abbrev pub Refuses : List ℕ → Answer → Type 0
+Refuses source refusal = (s : Slices) → parse_text source s ≡ outcome refusal s
 
 -- t tokens, and where they have room, all of them marked.
 pub record MarkedTokens (source : List ℕ) (t : ℕ) (kinds ends : List ℕ) : Type 0 where

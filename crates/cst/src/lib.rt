@@ -1,12 +1,13 @@
 // The reading of a source into lent slices: UTF-8, lexer, words, grammar, places.
 #![tactic(auto)]
 
-ghost use Rattle.std.specs.Prelude.{◌≡◌, ◌≤◌, length, Ok};
+ghost use Rattle.std.specs.Prelude.{◌≡◌, ◌≤◌, length, Ok, IfOk, IfErr};
 ghost use Rattle.utf8.specs.Validate.{validate};
 ghost use Rattle.lexer.specs.Tokens.{MAX_SOURCE};
 ghost use Rattle.answer.specs.Answer.{entry_slices, exit_slices, outcome, with_tokens, from_row_3, parse_text};
 ghost use Rattle.answer.specs.Call.{MasmParseText};
 ghost use Rattle.answer.specs.Lent.{lists, SameSlices};
+ghost use Rattle.cst.specs.Reading.{Refuses};
 
 use answer::{Answer, FourNumbers, Status};
 use lexer::MAX_SOURCE;
@@ -18,9 +19,27 @@ pub use answer::Slices;
 // A source that is not too long and is UTF-8.
 #[derive(Clone, Copy)]
 pub struct Text<'a> {
-    bytes: &'a [u8],
+    pub bytes: &'a [u8],
     ghost within_limit: { length bytes.now ≤ MAX_SOURCE },
     ghost is_utf8: { validate bytes.now ≡ Ok tt },
+}
+
+// Any bytes: too many are refused first, and then those that are not UTF-8.
+impl<'a> TryFrom<&'a [u8]> for Text<'a> {
+    type Error = Answer;
+
+    ghost try_from_gives = { λ source r. IfOk r (λ text. text.bytes.now ≡ source.now) × IfErr r (Refuses source.now) };
+
+    #[inline(always)]
+    fn try_from(source: &'a [u8]) -> Result<Text<'a>, Answer> {
+        if MAX_SOURCE < source.len() {
+            return Err(Answer::TooLong);
+        }
+        match utf8::validate(source) {
+            Err(e) => Err(Answer::NotUtf8(e.valid_up_to)),
+            Ok(()) => Ok(Text { bytes: source }),
+        }
+    }
 }
 
 // A text's tokens with their marks, the rows from 3 on, and the marks taken off.
@@ -43,12 +62,9 @@ pub fn parse_text(source: &[u8], slices: &mut Slices) -> Answer
     ensures same_slices { SameSlices slices.old slices.new }
     ensures answer { outcome result (lists slices.new) ≡ parse_text source.now (lists slices.old) }
 {
-    if MAX_SOURCE < source.len() {
-        return Answer::TooLong;
-    }
-    match utf8::validate(source) {
-        Err(e) => Answer::NotUtf8(e.valid_up_to),
-        Ok(()) => parse_utf8(Text { bytes: source }, slices),
+    match Text::try_from(source) {
+        Err(refusal) => refusal,
+        Ok(text) => parse_utf8(text, slices),
     }
 }
 
@@ -81,8 +97,6 @@ pub fn masm_parse_text(
     };
     let answer = parse_text(source, &mut slices);
     let n = FourNumbers::from(answer);
-    counts[0] = n.first;
-    counts[1] = n.second;
-    counts[2] = n.third;
+    counts[..3].copy_from_slice(&[n.first, n.second, n.third]);
     n.status
 }

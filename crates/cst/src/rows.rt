@@ -42,9 +42,17 @@ fn parse_from_row_5(text: Text, t: usize, slices: Slices) -> Answer
         &mut stops[..room],
     );
     if events.len() < end.events || room < end.diags {
-        return Answer::OutputRoom(t, end.events, end.diags);
+        return Answer::OutputRoom {
+            tokens: t,
+            events: end.events,
+            diagnostics: end.diags,
+        };
     }
-    Answer::Accepted(t, end.events, end.diags)
+    Answer::Accepted {
+        tokens: t,
+        events: end.events,
+        diagnostics: end.diags,
+    }
 }
 
 // Rows 3 and 4: tokens that have no room, a refused word; else the rest of the reading.
