@@ -42,20 +42,15 @@ impl<'s> SourceWalk<'s> {
         ensures source { self.new.source ≡ self.old.source }
         ensures spot { self.new.spot.at ≡ self.old.spot.at + 1 }
     {
-        let Spot { at, line, column } = self.spot;
-        if self.source[at] == b'\n' {
-            self.spot = Spot {
-                at: at + 1,
-                line: line + 1,
-                column: 1,
-            };
-            return;
+        let mut spot = self.spot;
+        if self.source[spot.at] == b'\n' {
+            spot.line += 1;
+            spot.column = 1;
+        } else {
+            spot.column += 1;
         }
-        self.spot = Spot {
-            at: at + 1,
-            line,
-            column: column + 1,
-        };
+        spot.at += 1;
+        self.spot = spot;
     }
 
     // The start, where `to` lies before the place.

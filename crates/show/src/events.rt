@@ -1,13 +1,11 @@
 // One line for each event.
 use frames::output::write_tagged;
 use grammar::event::{CLOSE, ERROR_TOKEN};
-use lexer::syntax::SyntaxKind;
+use lexer::syntax::{ERROR, SyntaxKind};
 use std::io;
 use std::io::Write;
 
 // The kinds of nodes go from ERROR to LAST_NODE. A token of kind Error has an event of its own.
-const ERROR: u16 = SyntaxKind::Error as u16;
-
 const LAST_NODE: u16 = SyntaxKind::TypeBody as u16;
 
 // What an entry of the slice of events says: a node closes, a node of this kind opens, or a token of this kind stands there.

@@ -23,7 +23,7 @@ fn put_row(out: &mut impl Write, answer: Answer) -> io::Result<()> {
         third,
     } = FourNumbers::from(answer);
     match answer {
-        Answer::Accepted(..) => write_tagged(out, b"ok", &[first, second, third]),
+        Answer::Accepted { .. } => write_tagged(out, b"ok", &[first, second, third]),
         _ => write_tagged(out, b"no", &[status, first, second, third]),
     }
 }
@@ -56,14 +56,21 @@ pub fn write_tree(out: &mut impl Write, source: &[u8], slices: &mut Slices<'_>) 
     let answer = cst::parse_text(source, slices);
     put_row(out, answer)?;
     match answer {
-        Answer::OutputRoom(_, e, d) | Answer::Accepted(_, e, d) => {
-            put_lists(out, source, slices, e, d)
+        Answer::OutputRoom {
+            events,
+            diagnostics,
+            ..
         }
+        | Answer::Accepted {
+            events,
+            diagnostics,
+            ..
+        } => put_lists(out, source, slices, events, diagnostics),
         _ => Ok(()),
     }
 }
 
-// The same to standard output, where what can't be written is lost.
+// The same to standard output. `Output` never fails, so there is no result to look at, and the caller needs no case of an error.
 pub fn put_tree<P: Print>(out: &mut Output<'_, '_, P>, source: &[u8], slices: &mut Slices<'_>) {
     let _ = write_tree(out, source, slices);
 }

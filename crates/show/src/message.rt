@@ -1,4 +1,4 @@
-// The texts of the messages, by number (docs/MESSAGES.md).
+// The texts of the messages, by number (docs/MESSAGES.md), and no Display of `Message`: the slice that is printed holds numbers.
 use grammar::message::Message;
 use std::io;
 use std::io::Write;
