@@ -1,7 +1,7 @@
 // The frames of the input: eight little-endian numbers (the part, bytes of the source, entries of the six slices), then the source.
+use crate::header::frame_number;
 use crate::{lexing, reading};
 use cst::Slices;
-use frames::header::frame_number;
 use std::io::{Read, Write};
 use std::{array, io};
 
@@ -75,7 +75,8 @@ fn put_part(
     }
 }
 
-// One frame, or `None` where the input ends, there is no such part, or a number is too large.
+// One frame, or `None` where the input ends, there is no such part, or a number is too large. It is answered here and not handed back: where
+// parts of `slices` are returned, 'the borrow checker does not cover this function yet: a `&mut` is passed on through another `&mut`'.
 fn answer_frame(
     out: &mut impl Write,
     from: &mut impl Read,

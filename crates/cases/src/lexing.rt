@@ -1,21 +1,15 @@
 // The lexer alone on one source: its slices filled, the call, and what is left in the slices.
 use crate::filling;
 use answer::{Answer, FourNumbers, Status};
-use cst::Slices;
+use cst::{Slices, Text};
 use frames::output::write_line;
-use lexer::MAX_SOURCE;
 use std::io;
 use std::io::Write;
 
 // The number of tokens, or why there are none.
 fn tokenize(source: &[u8], slices: &mut Slices<'_>) -> Result<usize, Answer> {
-    if MAX_SOURCE < source.len() {
-        return Err(Answer::TooLong);
-    }
-    match utf8::validate(source) {
-        Err(e) => Err(Answer::NotUtf8(e.valid_up_to)),
-        Ok(()) => Ok(lexer::tokenize(source, slices.kinds, slices.ends)),
-    }
+    let text = Text::try_from(source)?;
+    Ok(lexer::tokenize(text.bytes, slices.kinds, slices.ends))
 }
 
 // The three lines of an answer. The first has the status, and the number of tokens or the refusal's offset.

@@ -1,4 +1,5 @@
--- `cases::main` is safe: its arrays have their lengths. Assumes nothing.
+-- `cases::main` is safe: its arrays have their lengths. Not by one lemma at `using`: search unfolds arrays of this size, and stops at the
+-- limit of the checker's stack. Assumes nothing.
 use mathlib.Core.Path.{sym}
 use Prim.Native.Nat.{ℕ, ◌+◌}
 use lib.ListN.{length-replicate}
