@@ -14,6 +14,7 @@ mod reading;
 
 // The entries of the slices: of tokens and diagnostics, and of events.
 const ENTRIES: usize = 262144;
+
 const EVENTS: usize = 917506;
 
 // The slices stand on the stack, all together in less than the 8 MiB that a process is given.

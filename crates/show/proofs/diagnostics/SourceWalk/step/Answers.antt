@@ -14,7 +14,7 @@ pub invariant_of-self : goal.invariant_of-self
 invariant_of-self c =
     elim c.if-self-spot-eq10.branch [
       | then-self-spot-eq10 w ↦
-        rw w.spot-is (record { marks = behind_line _ _ c.args.self.now.marks c.requires (omega (arith, w.if-self-spot-eq10.true)) })
+          rw w.spot-is (record { marks = behind_line _ _ c.args.self.now.marks c.requires (omega (arith, w.if-self-spot-eq10.true)) })
       | else-self-spot-eq10 w ↦
-        rw w.spot-is (record { marks = same_line _ _ c.args.self.now.marks c.requires w.if-self-spot-eq10.false })
+          rw w.spot-is (record { marks = same_line _ _ c.args.self.now.marks c.requires w.if-self-spot-eq10.false })
     ]
