@@ -72,7 +72,7 @@ pub fn first_rounds(parser: &mut Parser, c0: Cursor, place: BlockPlace) -> Stopp
 }
 
 // The rounds behind a form: block_from calls `rounds` through this and first_rounds, since with a call of `rounds` in both places each
-// level of the cycle takes 64 bytes more.
+// level of the cycle takes 288 bytes, and 240 so.
 pub fn next_rounds(parser: &mut Parser, c0: Cursor, place: BlockPlace, item0: bool) -> Stopped
     requires { ItemAt parser.old.kinds.now c0.pos item0 }
     ensures { BlockRounds place (entry parser c0) (exit parser (stop result)) result }
