@@ -43,8 +43,12 @@ module _ {A : Type 0} (x y : A) where
 abbrev pub expr_locals : Bool → List Sym → Nesting → Expression
 expr_locals saw r n = record { nesting = n; saw_significant = saw || not (is_trivia (current r)) }
 
-pub expr_next : (saw : Bool) (r : List Sym) {saw' : Bool} {n : Nesting} {k : Sym} → k ≡ current r → saw' ≡ (saw || not (is_trivia k)) → expr_locals saw r n ≡ record { nesting = n; saw_significant = saw' }
-expr_next saw r c e = rw (← c, ← e)
+module _ {saw saw' : Bool} (r : List Sym) {n : Nesting} where
+  pub expr_saw : saw' ≡ saw → saw ≡ true → expr_locals saw r n ≡ record { nesting = n; saw_significant = saw' }
+  expr_saw e h = rw (e, h)
+
+  pub expr_next : {x : Bool} {k : Sym} → saw' ≡ not x → saw ≡ false → x ≡ is_trivia k → k ≡ current r → expr_locals saw r n ≡ record { nesting = n; saw_significant = saw' }
+  expr_next e h t c = rw (e, h, t, ← c)
 
 module _ (l : Expression) (r : List Sym) where
   abbrev expr_goes : Round Expression

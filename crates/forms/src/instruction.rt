@@ -2,7 +2,7 @@
 ghost use Rattle.std.specs.Prelude.{◌≡◌, true, false, drop, Some};
 ghost use Rattle.lexer.specs.Syntax.{DocComment};
 ghost use Rattle.grammar.specs.Words.{is};
-ghost use Rattle.grammar.specs.Look.{at};
+ghost use Rattle.grammar.specs.Look.{at as stands};
 ghost use Rattle.grammar.specs.Run.{scan};
 ghost use Rattle.grammar.specs.Nesting.{default};
 ghost use Rattle.grammar.specs.Instruction.{expects_operand, should_continue_instruction_after_whitespace as should_continue};
@@ -31,28 +31,26 @@ fn expects_operand(previous: Option<u16>) -> bool
     previous.is_some_and(expects_continuation_operand)
 }
 
-// The tests take the position and the counts one by one, as the definitions do: no proof of theirs is longer for it.
 #[tactic(auto, using(crate::proofs::At::continues), unfolding(grammar::specs::Instruction::should_continue_instruction_after_whitespace))]
-pub fn should_continue_instruction_after_whitespace(
+fn should_continue_instruction_after_whitespace(
     parser: &Parser,
-    p: usize,
+    at: Nested,
     previous: Option<u16>,
-    nesting: Nesting,
 ) -> bool
-    ensures { result ≡ should_continue previous nesting (drop p parser.now.kinds.now) }
+    ensures { result ≡ should_continue previous at.nesting (drop at.c.pos parser.now.kinds.now) }
 {
-    !nesting.is_root()
+    !at.nesting.is_root()
         || previous.is_some()
             && (expects_operand(previous)
                 || punctuation_continues_instruction(parser.current(
-                    parser.peek_after_inline_whitespace(p),
+                    parser.peek_after_inline_whitespace(at.c.pos),
                 )))
 }
 
 // A terminator, an operation, or what ends a block that lacks its `end`; not asked at a doc comment.
 #[tactic(auto, using(crate::proofs::At::next), unfolding(grammar::specs::Look::can_start_operation))]
 fn at_next(parser: &Parser, p: usize) -> bool
-    requires { at (is DocComment) (drop p parser.now.kinds.now) ≡ false }
+    requires { stands (is DocComment) (drop p parser.now.kinds.now) ≡ false }
     ensures { result ≡ starts_next (drop p parser.now.kinds.now) }
 {
     let k = parser.current(p);
@@ -63,34 +61,29 @@ fn at_next(parser: &Parser, p: usize) -> bool
 }
 
 #[tactic(auto, using(crate::proofs::At::continues), unfolding(grammar::specs::Instruction::should_stop_instruction_before))]
-pub fn should_stop_instruction_before(
-    parser: &Parser,
-    p: usize,
-    previous: Option<u16>,
-    nesting: Nesting,
-) -> bool
-    requires { at (is DocComment) (drop p parser.now.kinds.now) ≡ false }
-    ensures { result ≡ should_stop previous nesting (drop p parser.now.kinds.now) }
+fn should_stop_instruction_before(parser: &Parser, at: Nested, previous: Option<u16>) -> bool
+    requires { stands (is DocComment) (drop at.c.pos parser.now.kinds.now) ≡ false }
+    ensures { result ≡ should_stop previous at.nesting (drop at.c.pos parser.now.kinds.now) }
 {
-    nesting.is_root()
+    at.nesting.is_root()
         && !expects_operand(previous)
-        && !punctuation_continues_instruction(parser.current(p))
-        && at_next(parser, p)
+        && !punctuation_continues_instruction(parser.current(at.c.pos))
+        && at_next(parser, at.c.pos)
 }
 
 // Whether an instruction ends before the token here.
 #[tactic(auto, using(crate::proofs::At::ends), unfolding(crate::specs::Instruction::instruction_ends))]
-fn at_instruction_end(parser: &Parser, p: usize, previous: Option<u16>, nesting: Nesting) -> bool
-    ensures { result ≡ instruction_ends previous nesting (drop p parser.now.kinds.now) }
+fn at_instruction_end(parser: &Parser, at: Nested, previous: Option<u16>) -> bool
+    ensures { result ≡ instruction_ends previous at.nesting (drop at.c.pos parser.now.kinds.now) }
 {
-    let k = parser.current(p);
+    let k = parser.current(at.c.pos);
     if k == WHITESPACE {
-        return !should_continue_instruction_after_whitespace(parser, p, previous, nesting);
+        return !should_continue_instruction_after_whitespace(parser, at, previous);
     }
     if is_trivia(k) {
-        return nesting.is_root();
+        return at.nesting.is_root();
     }
-    previous.is_some() && should_stop_instruction_before(parser, p, previous, nesting)
+    previous.is_some() && should_stop_instruction_before(parser, at, previous)
 }
 
 // Which plain kinds an instruction goes on with behind a token, outside delimiters.
@@ -150,7 +143,7 @@ fn further_tokens(parser: &mut Parser, c0: Cursor, previous0: Option<u16>) -> Cu
         nesting: Nesting::default(),
     };
     let mut previous = previous0;
-    while !parser.eof(at.c.pos) && !at_instruction_end(parser, at.c.pos, previous, at.nesting) {
+    while !parser.eof(at.c.pos) && !at_instruction_end(parser, at, previous) {
         let k = parser.current(at.c.pos);
         if is_trivia(k) {
             at.c = parser.bump(at.c);

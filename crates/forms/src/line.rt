@@ -1,6 +1,6 @@
 // Line forms: what runs to the end of a line.
-ghost use Rattle.std.specs.Prelude.{◌≡◌, not, ◌&&◌, ◌||◌, drop};
-ghost use Rattle.grammar.specs.Look.{is_trivia, at_kind, space_before_top_level_item};
+ghost use Rattle.std.specs.Prelude.{◌≡◌, ◌&&◌, drop};
+ghost use Rattle.grammar.specs.Look.{at_kind, space_before_top_level_item};
 ghost use Rattle.lexer.specs.Syntax.{Whitespace};
 ghost use Rattle.grammar.specs.Run.{scan};
 ghost use Rattle.grammar.specs.Line.{parse_line_tail, expr_round, no_token, parse_expr_until_line_end};
@@ -25,19 +25,12 @@ pub fn parse_line_tail(parser: &mut Parser, c0: Cursor) -> Cursor
     parser.bump_at(c, SyntaxKind::Comment)
 }
 
-// Whether one of the tokens is no trivia.
-fn or_significant(saw: bool, k: u16) -> bool
-    ensures { result ≡ (saw || not (is_trivia k)) }
-{
-    saw || !is_trivia(k)
-}
-
 // Whether the line ends here: outside of delimiters, at a newline or a comment.
 #[tactic(auto, using(crate::proofs::At::line_end), unfolding(crate::specs::Line::line_ends))]
-fn at_line_end(parser: &Parser, p: usize, nesting: Nesting) -> bool
-    ensures { result ≡ line_ends nesting (drop p parser.now.kinds.now) }
+fn at_line_end(parser: &Parser, at: Nested) -> bool
+    ensures { result ≡ line_ends at.nesting (drop at.c.pos parser.now.kinds.now) }
 {
-    nesting.is_root() && in_set(LINE_END, parser.current(p))
+    at.nesting.is_root() && in_set(LINE_END, parser.current(at.c.pos))
 }
 
 // Whether whitespace stands here before the next item.
@@ -51,10 +44,10 @@ fn space_before_item(parser: &Parser, p: usize) -> bool
 
 // Whether an expression ends here: where the line does, or where whitespace stands before the next item.
 #[tactic(auto, unfolding(crate::specs::Line::expr_ends))]
-fn at_expr_end(parser: &Parser, p: usize, nesting: Nesting, saw: bool) -> bool
-    ensures { result ≡ expr_ends nesting saw (drop p parser.now.kinds.now) }
+fn at_expr_end(parser: &Parser, at: Nested, saw: bool) -> bool
+    ensures { result ≡ expr_ends at.nesting saw (drop at.c.pos parser.now.kinds.now) }
 {
-    at_line_end(parser, p, nesting) || nesting.is_root() && saw && space_before_item(parser, p)
+    at_line_end(parser, at) || at.nesting.is_root() && saw && space_before_item(parser, at.c.pos)
 }
 
 fn expr_tokens(parser: &mut Parser, c0: Cursor) -> Cursor
@@ -65,8 +58,8 @@ fn expr_tokens(parser: &mut Parser, c0: Cursor) -> Cursor
         nesting: Nesting::default(),
     };
     let mut saw_significant = false;
-    while !parser.eof(at.c.pos) && !at_expr_end(parser, at.c.pos, at.nesting, saw_significant) {
-        saw_significant = or_significant(saw_significant, parser.current(at.c.pos));
+    while !parser.eof(at.c.pos) && !at_expr_end(parser, at, saw_significant) {
+        saw_significant = saw_significant || !is_trivia(parser.current(at.c.pos));
         at = parser.bump_nested(at);
     }
     at.c
@@ -99,7 +92,7 @@ pub fn parse_signature_result_until_line_end(parser: &mut Parser, c0: Cursor) ->
         nesting: Nesting::default(),
     };
     let mut taken = false;
-    while !parser.eof(at.c.pos) && !at_line_end(parser, at.c.pos, at.nesting) {
+    while !parser.eof(at.c.pos) && !at_line_end(parser, at) {
         at = parser.bump_nested(at);
         taken = true;
     }

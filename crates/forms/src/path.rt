@@ -70,7 +70,7 @@ pub fn parse_path_with_message(parser: &mut Parser, c0: Cursor, m: Message) -> C
     parser.finish_node(e)
 }
 
-// How many delimiters of this kind are open behind the token k.
+// How many delimiters of this kind are open behind the token k. The opener and the closer go one by one, as the Rust's parameters do.
 #[tactic(auto, unfolding(crate::specs::Path::group_step))]
 fn group_depth(opener: SyntaxKind, closer: SyntaxKind, depth: usize, k: u16) -> usize
     requires open { 0 < depth }

@@ -12,13 +12,13 @@ use grammar::words::MARK;
 use lexer::syntax::{IDENT, SyntaxKind, WHITESPACE};
 
 // The last kind of each set of trivia; the first is Whitespace.
-pub const REGULAR_TRIVIA: SyntaxKind = SyntaxKind::Comment;
+pub(crate) const REGULAR_TRIVIA: SyntaxKind = SyntaxKind::Comment;
 
-pub const TRIVIA: SyntaxKind = SyntaxKind::DocComment;
+pub(crate) const TRIVIA: SyntaxKind = SyntaxKind::DocComment;
 
-pub const NON_COMMENT_TRIVIA: SyntaxKind = SyntaxKind::Newline;
+pub(crate) const NON_COMMENT_TRIVIA: SyntaxKind = SyntaxKind::Newline;
 
-pub const SPACE: SyntaxKind = SyntaxKind::Whitespace;
+pub(crate) const SPACE: SyntaxKind = SyntaxKind::Whitespace;
 
 // Whether the bit is set.
 #[tactic(auto, unfolding(crate::specs::Sets::bit))]
@@ -33,7 +33,7 @@ pub fn in_set(mask: u64, k: u16) -> bool
 
 // Whether k is trivia, up to the kind `last`.
 #[tactic(auto, unfolding(crate::specs::Sets::trivia_to))]
-pub fn is_trivia_to(last: SyntaxKind, k: u16) -> bool
+pub(crate) fn is_trivia_to(last: SyntaxKind, k: u16) -> bool
     ensures { result ≡ trivia_to (kind_number last) k }
 {
     WHITESPACE <= k && k <= u16::from(last)
@@ -110,7 +110,7 @@ pub fn is_control_flow(k: u16) -> bool
 
 // DocComment, At, or a word that starts an item
 #[tactic(auto, using(crate::proofs::Bits::starters))]
-pub fn starts_item(k: u16) -> bool
+pub(crate) fn starts_item(k: u16) -> bool
     ensures { result ≡ starter k }
 {
     in_set(STARTER_KINDS, k) || in_words(STARTERS, k)

@@ -22,7 +22,8 @@ use lexer::syntax::SyntaxKind;
 use lexer::syntax::SyntaxKind::{Dot, LParen, RParen};
 
 // How far a lookahead over trivia went, and whether an item starts there: it holds of each place before `next`.
-// What is known of it speaks of a file and a place, so it stands in the contracts and in no ghost field.
+// A flag beside a value, and no enum: `next` says for which places the flag holds, whichever it is. What is known of it speaks of a file
+// and a place, so it stands in the contracts and in no ghost field.
 #[derive(Clone, Copy)]
 pub struct Remembered {
     pub next: usize,
@@ -71,7 +72,7 @@ impl Parser<'_> {
 
     // The first token from p on that is not trivia up to `last`.
     #[tactic(auto, using(crate::proofs::Laws::skips))]
-    pub fn skip(&self, last: SyntaxKind, p: usize) -> usize
+    fn skip(&self, last: SyntaxKind, p: usize) -> usize
         ensures { Found self.now.kinds.now p result (skip_of (trivia_to (kind_number last)) (drop p self.now.kinds.now)) }
     {
         // A while: a `for`, with the greater of p and the length behind it, takes a twentieth more where trivia is looked through.
@@ -93,7 +94,7 @@ impl Parser<'_> {
     }
 
     #[tactic(auto, using(crate::proofs::Bits::all_trivia))]
-    pub fn next_relevant_block_token(&self, p: usize) -> usize
+    fn next_relevant_block_token(&self, p: usize) -> usize
         ensures { Found self.now.kinds.now p result (skip_of is_trivia (drop p self.now.kinds.now)) }
     {
         self.skip(TRIVIA, p)
@@ -131,7 +132,7 @@ impl Parser<'_> {
 
     // Of the list behind `pub`, which starts at p.
     #[tactic(auto, using(crate::proofs::Ahead::one_on), unfolding(grammar::specs::Look::next_token_after_visibility))]
-    pub fn next_token_after_visibility(&self, p: usize) -> usize
+    fn next_token_after_visibility(&self, p: usize) -> usize
         ensures { Found self.now.kinds.now p result (after_visibility (drop p self.now.kinds.now)) }
     {
         let next = self.next_relevant_top_level_token(p);
@@ -166,7 +167,7 @@ impl Parser<'_> {
     }
 
     #[tactic(auto, using(crate::proofs::Ahead::one_on), unfolding(grammar::specs::Look::at_bare_while))]
-    pub fn at_bare_while(&self, p: usize) -> bool
+    fn at_bare_while(&self, p: usize) -> bool
         ensures { result ≡ bare_while (drop p self.now.kinds.now) }
     {
         self.at_keyword(p, Word::While) && !self.at_kind(p + 1, Dot)
@@ -194,7 +195,8 @@ impl Parser<'_> {
         }
     }
 
-    // At a newline. A run of trivia is looked through once: what is known is handed back.
+    // At a newline. A run of trivia is looked through once: what is known is handed back. One function for this and `starts_behind_doc`
+    // would take the trivia, the question and the definition of both, and be no plainer.
     #[tactic(auto, using(crate::proofs::Ahead::remembers))]
     pub fn line_break_starts_new_top_level_item(&self, p: usize, known: Remembered) -> Remembered
         requires here { at (is Newline) (drop p self.now.kinds.now) ≡ true }
