@@ -1,5 +1,5 @@
 // A type declaration.
-ghost use Rattle.std.specs.Prelude.{◌≡◌, true, false, drop, MatchOption};
+ghost use Rattle.std.specs.Prelude.{◌≡◌, drop, is_none, IfSome};
 ghost use Rattle.grammar.specs.Run.{scan};
 ghost use Rattle.grammar.specs.Nesting.{default};
 ghost use Rattle.grammar.specs.Line.{type_round, parse_type_body};
@@ -23,8 +23,8 @@ use parser::state::Parser;
 #[tactic(auto, unfolding(crate::specs::Parts::type_ends))]
 fn body_goes_on(parser: &Parser, at: Nested, known: Remembered) -> Option<Remembered>
     requires { BreakKnown parser.now.kinds.now at.c.pos known }
-    ensures { MatchOption result (type_ends at.nesting (drop at.c.pos parser.now.kinds.now) ≡ true)
-        (λ k. (type_ends at.nesting (drop at.c.pos parser.now.kinds.now) ≡ false) × BreakKnown parser.now.kinds.now at.c.pos k) }
+    ensures ends { is_none result ≡ type_ends at.nesting (drop at.c.pos parser.now.kinds.now) }
+    ensures known { IfSome result (λ k. BreakKnown parser.now.kinds.now at.c.pos k) }
 {
     if !at.nesting.is_root() || !parser.at_kind(at.c.pos, SyntaxKind::Newline) {
         return Some(known);
@@ -54,7 +54,7 @@ fn type_tokens(parser: &mut Parser, c0: Cursor) -> Cursor
     at.c
 }
 
-pub fn parse_type_body(parser: &mut Parser, c0: Cursor) -> Cursor
+fn parse_type_body(parser: &mut Parser, c0: Cursor) -> Cursor
     ensures { Ran parse_type_body (entry parser c0) (exit parser result) }
 {
     let a = parser.start_node(c0, SyntaxKind::TypeBody);

@@ -1,8 +1,7 @@
 -- Sets of numbers below 64 as the bits of a number, and the sets of trivia, which are runs. Assumes nothing.
 use Rattle.std.specs.Prelude.{ℕ, zero, suc, ◌+◌, ◌≤◌, ◌<◌, ◌^◌, ◌/◌, ◌%◌, ◌≡◌, refl, Bool, true, false, cond, ◌&&◌, ◌||◌, List, [], ◌∷◌, T, eqb, leb, ltb}
-use Rattle.std.proofs.Common.{sym, ap, ap₂, ◌∙◌, arith, add-zero, zero-add, add-suc, suc-add, le_of_suc-le-suc, not-suc-le-zero, ltb-true, ltb-false, lt-ltb, le-ltb, leb-true, eq-eqb, ne_eqb, eqb-true, ltb→lt}
-use Rattle.std.proofs.lemmas.Bool.{false≢true, eqb-false}
-use Rattle.std.specs.Bool.{beq}
+use Rattle.std.proofs.Common.{sym, ap, ap₂, ◌∙◌, arith, ltb-true, ltb-false, lt-ltb, le-ltb, leb-true, eq-eqb, ne_eqb, eqb-true, ltb→lt}
+use Rattle.std.proofs.lemmas.Bool.{false≢true, eqb-false, agree_below, agree_below_at}
 use Rattle.lexer.specs.Syntax.{Whitespace, Ident}
 use Rattle.grammar.specs.Words.{MARK, key}
 use Rattle.grammar.specs.Look.{one_of}
@@ -14,30 +13,17 @@ bit mask k = cond (ltb k 64) (eqb ((mask / 2 ^ k) % 2) 1) false
 unfoldable pub word_bit : ℕ → ℕ → Bool
 word_bit mask k = eqb (k % MARK) Ident && bit mask (k / MARK)
 
--- f and g agree at i, i + 1, ..: n numbers
-abbrev agree : (f g : ℕ → Bool) → ℕ → ℕ → Bool
-agree f g i zero = true
-agree f g i (suc n) = beq (f i) (g i) && agree f g (suc i) n
-
 both : (s t : Bool) → T (s && t) → T s × T t
 both true true h = (tt, tt)
 both true false h = absurd h
 both false t h = absurd h
 
-beq→eq : (s t : Bool) → T (beq s t) → s ≡ t
-beq→eq true true h = refl
-beq→eq true false h = absurd h
-beq→eq false true h = absurd h
-beq→eq false false h = refl
+is_true : (t : Bool) → T t → t ≡ true
+is_true true h = refl
+is_true false h = absurd h
 
-agree_from : (f g : ℕ → Bool) (i n k : ℕ) → T (agree f g i n) → k < n → f (i + k) ≡ g (i + k)
-agree_from f g i zero k t h = absurd (not-suc-le-zero h)
-agree_from f g i (suc n) zero t h = rw add-zero (beq→eq (f i) (g i) (both (beq (f i) (g i)) (agree f g (suc i) n) t).0)
-agree_from f g i (suc n) (suc k) t h =
-    rw (add-suc, ← suc-add) (agree_from f g (suc i) n k (both (beq (f i) (g i)) (agree f g (suc i) n) t).1 (le_of_suc-le-suc h))
-
-agree_at : (f g : ℕ → Bool) (n k : ℕ) → T (agree f g 0 n) → k < n → f k ≡ g k
-agree_at f g n k t h = rw zero-add at (agree_from f g 0 n k t h)
+agree_at : (f g : ℕ → Bool) (n k : ℕ) → T (agree_below f g n) → k < n → f k ≡ g k
+agree_at f g n k t h = agree_below_at f g n k (is_true _ t) h
 
 -- all of them below 64
 abbrev small : List ℕ → Bool
@@ -55,7 +41,7 @@ abbrev low : ℕ → ℕ → Bool
 low mask k = eqb ((mask / 2 ^ k) % 2) 1
 
 -- a set's bits say which numbers are in it: one computed test over 64 numbers
-pub bits_are : (mask : ℕ) (ks : List ℕ) (k : ℕ) → T (agree (low mask) (one_of ks) 0 64) → T (small ks) → bit mask k ≡ one_of ks k
+pub bits_are : (mask : ℕ) (ks : List ℕ) (k : ℕ) → T (agree_below (low mask) (one_of ks) 64) → T (small ks) → bit mask k ≡ one_of ks k
 unfolding bit
 bits_are mask ks k t s = by_test (ltb k 64) refl
   where
@@ -64,7 +50,7 @@ bits_are mask ks k t s = by_test (ltb k 64) refl
     by_test false e = sym (none_above ks k s (ltb-false k 64 e))
 
 -- what holds of each number in a set: one computed test over 64 numbers
-pub each_of : (mask : ℕ) (p : ℕ → Bool) (k : ℕ) → T (agree (λ i. low mask i && p i) (low mask) 0 64) → bit mask k ≡ true → p k ≡ true
+pub each_of : (mask : ℕ) (p : ℕ → Bool) (k : ℕ) → T (agree_below (λ i. low mask i && p i) (low mask) 64) → bit mask k ≡ true → p k ≡ true
 unfolding bit
 each_of mask p k t = by_test (ltb k 64) refl
   where
@@ -95,7 +81,7 @@ keys_are ws k = by_test (eqb (k % MARK) Ident) refl ws
     by_test true e (w ∷ ws) = ap₂ ◌||◌ (key_is w k ∙ ap (λ t. t && eqb w (k / MARK)) e) (by_test true e ws)
     by_test false e (w ∷ ws) = ap₂ ◌||◌ (key_is w k ∙ ap (λ t. t && eqb w (k / MARK)) e) (by_test false e ws)
 
-pub word_bits_are : (mask : ℕ) (ws : List ℕ) (k : ℕ) → T (agree (low mask) (one_of ws) 0 64) → T (small ws) → word_bit mask k ≡ one_of (keys ws) k
+pub word_bits_are : (mask : ℕ) (ws : List ℕ) (k : ℕ) → T (agree_below (low mask) (one_of ws) 64) → T (small ws) → word_bit mask k ≡ one_of (keys ws) k
 unfolding word_bit
 word_bits_are mask ws k t s = ap (λ u. eqb (k % MARK) Ident && u) (bits_are mask ws (k / MARK) t s) ∙ sym (keys_are ws k)
 
@@ -113,7 +99,7 @@ trivia_from last k = by_test (leb Whitespace k) (leb k last) refl refl
     by_test false v e f h = absurd (false≢true h)
 
 -- which kinds these are: one computed test over 64 numbers
-pub trivia_is : (last : ℕ) (ks : List ℕ) (k : ℕ) → T (agree (trivia_to last) (one_of ks) 0 64) → T (small (last ∷ ks)) → trivia_to last k ≡ one_of ks k
+pub trivia_is : (last : ℕ) (ks : List ℕ) (k : ℕ) → T (agree_below (trivia_to last) (one_of ks) 64) → T (small (last ∷ ks)) → trivia_to last k ≡ one_of ks k
 trivia_is last ks k t s = by_test (ltb k 64) refl
   where
     b : T (ltb last 64) × T (small ks)
