@@ -30,12 +30,8 @@ from f i (suc n) (suc k) h = from f (suc i) n k (le_of_suc-le-suc h) ∙ ap f (s
 pub entry : (f : ℕ → ℕ) (n k : ℕ) → k < n → get_or (tabulate f 0 n) k 0 ≡ f k
 entry f n k h = from f 0 n k h ∙ ap f (zero-add k)
 
--- advance_while, at the end, at a byte that goes on and at another
+-- advance_while, at a byte that goes on and at another
 module _ (p : ℕ → Bool) (s : List ℕ) (at : ℕ) where
-  run_none : length s ≤ at → advance_while p (drop at s) ≡ 0
-  unfolding advance_while
-  run_none h = rw (drop_of_length-le s h)
-
   run_more : at < length s → p (get_or s at 0) ≡ true → advance_while p (drop at s) ≡ suc (advance_while p (drop (at + 1) s))
   unfolding advance_while
   run_more h e = rw (next_byte s at h, e)
@@ -78,9 +74,6 @@ module _ (p : ℕ → Bool) where
 pub record Reaches (p : ℕ → Bool) (s : List ℕ) (a at : ℕ) : Type 0 where
   pub within : at ≤ length s
   pub goes : a + advance_while p (drop a s) ≡ at + advance_while p (drop at s)
-
-pub reaches_all : {p : ℕ → Bool} {s : List ℕ} {a at : ℕ} → Reaches p s a at → length s ≤ at → at ≡ a + advance_while p (drop a s)
-reaches_all {p} {s} {a} {at} g h = omega (arith, run_none p s at h)
 
 -- a byte further, and the end of the run
 module _ {p : ℕ → Bool} {s : List ℕ} {a at : ℕ} (g : Reaches p s a at) (h : at < length s) where

@@ -89,8 +89,10 @@ fn blocks_in_line(rest: &[u8]) -> usize
     ensures all_passed { advance_while in_line rest.now ≡ result + advance_while in_line (drop result rest.now) }
 {
     let mut at = 0;
-    // A while: the step is 16 bytes.
-    while 16 <= rest.len() - at && all_in_line(&rest[at..at + 16]) {
+    for block in rest.chunks_exact(16) {
+        if !all_in_line(block) {
+            break;
+        }
         at += 16;
     }
     at
