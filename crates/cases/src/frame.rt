@@ -75,8 +75,8 @@ fn put_part(
     }
 }
 
-// One frame, or `None` where the input ends, there is no such part, or a number is too large. It is answered here and not handed back: where
-// parts of `slices` are returned, 'the borrow checker does not cover this function yet: a `&mut` is passed on through another `&mut`'.
+// One frame, or `None` where the input ends, there is no such part, or a number is too large. It is answered here and not handed back with
+// its slices: of a `read_frame` that returns parts of `slices` the check says 'the borrow checker does not cover this function yet'.
 fn answer_frame(
     out: &mut impl Write,
     from: &mut impl Read,
