@@ -1,4 +1,4 @@
--- `lexer::slices::TokenSlices::push` meets its contract. Assumes nothing.
+-- `TokenSlices::push` meets its contract. Assumes nothing.
 use mathlib.Core.Path.{refl}
 use native.Mathlib.Omega.{arith}
 use Rattle.lexer.specs.Slices.{room_in}

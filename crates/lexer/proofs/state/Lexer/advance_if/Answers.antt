@@ -1,4 +1,4 @@
--- `lexer::runs::advance_if` meets its contract. Assumes nothing.
+-- `Lexer::advance_if` meets its contract. Assumes nothing.
 use Prim.Native.Nat.{ℕ}
 use mathlib.Core.Path.{◌≡◌, refl, ap, ◌∙◌}
 use mathlib.Core.Bool.{Bool, cond}

@@ -1,4 +1,4 @@
--- `lexer::runs::advance_tail` meets its contract: the run ends where the first byte stands that does not go on. Assumes nothing.
+-- `Lexer::advance_tail` meets its contract: the run ends where the first byte stands that does not go on. Assumes nothing.
 use mathlib.Core.Path.{◌≡◌, refl, sym, ap, ◌∙◌}
 use mathlib.Core.Bool.{not}
 use mathlib.Core.List.{List}

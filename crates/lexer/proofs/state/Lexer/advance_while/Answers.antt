@@ -1,4 +1,4 @@
--- `lexer::runs::advance_while` meets its contract: each byte that goes on is one step. Assumes nothing.
+-- `Lexer::advance_while` meets its contract: each byte that goes on is one step. Assumes nothing.
 use mathlib.Core.Path.{refl, sym, ◌∙◌}
 use native.Mathlib.Omega.{arith}
 use Rattle.lexer.proofs.Laws.{reaches_next, reaches_end}

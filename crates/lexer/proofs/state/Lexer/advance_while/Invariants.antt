@@ -1,4 +1,4 @@
--- `lexer::runs::advance_while` meets its contract: what the run takes from its start is what it takes from the cursor on.
+-- `Lexer::advance_while` meets its contract: what the run takes from its start is what it takes from the cursor on.
 use Prim.Native.Nat.{ℕ, ◌-◌}
 use mathlib.Core.Path.{◌≡◌}
 use mathlib.Core.Bool.{Bool}

@@ -1,4 +1,4 @@
--- `lexer::quoted::ahead` meets its contract: what is passed over changes nothing. Assumes nothing.
+-- `Lexer::ahead` meets its contract: what is passed over changes nothing. Assumes nothing.
 use mathlib.Core.Path.{sym, ap, ◌∙◌}
 use mathlib.Core.Bool.{true, false}
 use mathlib.Core.List.{List}

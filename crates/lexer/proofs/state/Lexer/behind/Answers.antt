@@ -1,4 +1,4 @@
--- `lexer::lexer::behind` meets its contract: at the class of the first byte the definition is that class's arm. Assumes nothing.
+-- `Lexer::behind` meets its contract: at the class of the first byte the definition is that class's arm. Assumes nothing.
 use Prim.Native.Nat.{ℕ}
 use mathlib.Core.Path.{◌≡◌, refl, sym, ap, ◌∙◌}
 use mathlib.Core.Bool.{false}

@@ -1,4 +1,4 @@
--- `lexer::lexer::comment` meets its contract. Assumes nothing.
+-- `Lexer::comment` meets its contract. Assumes nothing.
 use Rattle.lexer.specs.declared.syntax.SyntaxKind.TheVariants as kind
 use Rattle.lexer.specs.Syntax.{Comment, DocComment}
 use Rattle.lexer.specs.Lexer.{lex_while, in_line}

@@ -1,4 +1,4 @@
--- `lexer::lexer::dot` meets its contract. Assumes nothing.
+-- `Lexer::dot` meets its contract. Assumes nothing.
 use Rattle.lexer.specs.declared.syntax.SyntaxKind.TheVariants as kind
 use Rattle.lexer.specs.Syntax.{Dot, DotDot, DotDotDot}
 use Rattle.lexer.specs.Lexer.{lex_one, follow}

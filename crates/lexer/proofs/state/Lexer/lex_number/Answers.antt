@@ -1,4 +1,4 @@
--- `lexer::lexer::lex_number` meets its contract. Assumes nothing.
+-- `Lexer::lex_number` meets its contract. Assumes nothing.
 use borrow.Author.Tests.{ne_eqb}
 use Rattle.lexer.specs.Chars.{decimal}
 use Rattle.lexer.proofs.state.Lexer.lex_number.Goals as goal

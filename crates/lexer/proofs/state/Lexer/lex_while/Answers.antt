@@ -1,4 +1,4 @@
--- `lexer::lexer::lex_while` meets its contract. Assumes nothing.
+-- `Lexer::lex_while` meets its contract. Assumes nothing.
 use Rattle.lexer.proofs.Steps.{run}
 use Rattle.lexer.proofs.state.Lexer.lex_while.Goals as goal
 

@@ -1,4 +1,4 @@
--- `lexer::lexer::pair` meets its contract. Assumes nothing.
+-- `Lexer::pair` meets its contract. Assumes nothing.
 use Rattle.lexer.specs.Syntax.{kind_number}
 use Rattle.lexer.specs.Lexer.{lex_one}
 use Rattle.lexer.proofs.Steps.{nothing, followed, not_followed}

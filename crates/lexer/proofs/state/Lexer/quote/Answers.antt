@@ -1,4 +1,4 @@
--- `lexer::quoted::quote` meets its contract: the quote is what its rest comes to, from the cursor and the flags. Assumes nothing.
+-- `Lexer::quote` meets its contract: the quote is what its rest comes to, from the cursor and the flags. Assumes nothing.
 use Prim.Native.Nat.{ℕ, ◌≤◌, ◌<◌, ◌+◌}
 use mathlib.Core.Path.{◌≡◌, sym, ap, ◌∙◌}
 use mathlib.Core.Bool.{Bool, true, false, cond}

@@ -1,4 +1,4 @@
--- `lexer::lexer::special` meets its contract. Assumes nothing.
+-- `Lexer::special` meets its contract. Assumes nothing.
 use Prim.Native.Nat.{ℕ, ◌+◌, ◌-◌}
 use mathlib.Core.Path.{◌≡◌, ap, ap₂, ◌∙◌}
 use mathlib.Core.List.{List}

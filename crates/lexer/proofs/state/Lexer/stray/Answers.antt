@@ -1,4 +1,4 @@
--- `lexer::lexer::stray` meets its contract. Assumes nothing.
+-- `Lexer::stray` meets its contract. Assumes nothing.
 use Prim.Native.Nat.{ℕ, pred}
 use mathlib.Core.Path.{refl, ap}
 use native.Mathlib.Omega.{arith}

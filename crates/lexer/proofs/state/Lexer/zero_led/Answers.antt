@@ -1,4 +1,4 @@
--- `lexer::lexer::zero_led` meets its contract, by the byte that follows. Assumes nothing.
+-- `Lexer::zero_led` meets its contract, by the byte that follows. Assumes nothing.
 use Prim.Native.Nat.{ℕ}
 use mathlib.Core.Path.{◌≡◌, refl, sym, ap, ◌∙◌}
 use mathlib.Core.Logic.{◌⊎◌, inl, inr}
