@@ -25,10 +25,10 @@ impl Parser<'_> {
     {
         match nesting.bump(kind) {
             Ok(n) => Nested { c, nesting: n },
-            Err(x) => Nested {
-                c: self.error_here(c, Message::UnexpectedCloser(x)),
-                nesting,
-            },
+            Err(x) => {
+                let d = self.error_here(c, Message::UnexpectedCloser(x));
+                Nested { c: d, nesting }
+            }
         }
     }
 

@@ -8,4 +8,4 @@ returns-in-Ok c =
 
 pub returns-in-Err : goal.returns-in-Err
 returns-in-Err c =
-    counted_refused _ c.bump.ensures c.in-Err.is c.error_here.ensures
+    counted_refused _ c.bump.ensures c.in-Err.is c.error_here-d.ensures
