@@ -152,7 +152,10 @@ impl Iterator for Lexer<'_> {
     // Inlined, so that no `Option` goes through memory for each token.
     #[inline(always)]
     fn next(&mut self) -> Option<Token> {
-        let &b = self.source.get(self.offset)?;
+        if self.source.len() <= self.offset {
+            return None;
+        }
+        let b = self.source[self.offset];
         self.offset += 1;
         let kind = self.behind(b);
         let end = self.offset;

@@ -69,7 +69,7 @@ impl Lexer<'_> {
         }
     }
 
-    pub fn lex_quoted(&mut self) -> SyntaxKind
+    pub(crate) fn lex_quoted(&mut self) -> SyntaxKind
         ensures { Lexed (quoted false true) self.old result self.new }
     {
         match self.quote() {

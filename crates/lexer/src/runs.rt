@@ -17,7 +17,7 @@ impl Lexer<'_> {
     }
 
     // Over the run at the offset, with one test of the length for four bytes.
-    pub fn advance_while<F: Fn(u8) -> bool>(&mut self, goes_on: F)
+    pub(crate) fn advance_while<F: Fn(u8) -> bool>(&mut self, goes_on: F)
         requires { F.IsAlwaysCallable goes_on }
         ensures { (p : ℕ → Bool) → AnswersAs p (F.post goes_on) → Advanced (advance_while p) self.old self.new }
     {
@@ -44,7 +44,7 @@ impl Lexer<'_> {
     }
 
     // Over the rest of the line: advance_while up to a line end, blocks of 16 bytes first.
-    pub fn line_rest(&mut self)
+    pub(crate) fn line_rest(&mut self)
         ensures { Advanced (advance_while in_line) self.old self.new }
     {
         self.offset += blocks_in_line(&self.source[self.offset..]);
@@ -52,7 +52,7 @@ impl Lexer<'_> {
     }
 
     // if self.current_char() == Some(x) { self.advance_char(); }
-    pub fn advance_if(&mut self, x: u8) -> bool
+    pub(crate) fn advance_if(&mut self, x: u8) -> bool
         ensures { AdvanceIf x self.old result self.new }
     {
         let found = self.source.get(self.offset) == Some(&x);

@@ -16,7 +16,7 @@ use Rattle.grammar.specs.declared.message.Message.{Message}
 use Rattle.grammar.specs.Message.{number}
 use Rattle.grammar.specs.declared.nesting.Closer.{Closer}
 use Rattle.grammar.specs.declared.nesting.Nesting.{Nesting}
-use Rattle.grammar.specs.Nesting.{default, counted, bump_nesting, bump_by, NestingBelow, open_paren, open_bracket, open_brace, close_paren, close_bracket, close_brace}
+use Rattle.grammar.specs.Nesting.{default, counted, bump_nesting, bump_by, NestingBelow, open_paren, open_bracket, open_brace}
 use Rattle.parser.specs.Rep.{World, file, remaining, Ran, RanTo, ErrorHere, Bump}
 use Rattle.parser.specs.Counts.{reported, counts, BumpNesting, BumpNested}
 use Rattle.parser.proofs.Kit.{Leads, begins_as, goes_on, scan_go_eq, scan_warn_eq, like_to, done, ◌then◌, ◌then_to◌}

@@ -1,5 +1,5 @@
 -- `marks::unmark` meets its contract: what is still to be written, over what has been written, is the whole. Assumes nothing.
-use Prim.Native.Nat.{ℕ, ◌-◌}
+use Prim.Native.Nat.{ℕ}
 use mathlib.Core.Path.{◌≡◌}
 use mathlib.Core.List.{List, map}
 use lib.ListN.{length, drop}
