@@ -5,7 +5,7 @@ pub mod advice_map;
 pub mod attribute;
 pub mod constant;
 pub mod namespace;
-mod parts;
+pub mod parts;
 pub mod signature;
 pub mod submodule;
 pub mod type_decl;
