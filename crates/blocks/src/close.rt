@@ -72,7 +72,7 @@ fn block_ending(
 }
 
 // A round that ends the loop, and the block's closing event.
-pub(crate) fn close(parser: &mut Parser, c0: Cursor, owner: BlockOwner, k: Closing) -> BlockEnd
+pub fn close(parser: &mut Parser, c0: Cursor, owner: BlockOwner, k: Closing) -> BlockEnd
     ensures { Close k owner (entry parser c0) (exit parser result.c) result }
 {
     let (c, outcome) = block_ending(parser, c0, owner, k);
@@ -84,7 +84,7 @@ pub(crate) fn close(parser: &mut Parser, c0: Cursor, owner: BlockOwner, k: Closi
 }
 
 // The closing event of a block in which the file ended.
-pub(crate) fn ended_file(parser: &mut Parser, c0: Cursor) -> BlockEnd
+pub fn ended_file(parser: &mut Parser, c0: Cursor) -> BlockEnd
     ensures wrote { Wrote 0 (entry parser c0) (exit parser result.c) }
     ensures outcome { result.outcome ≡ ReachedEof }
     ensures item { result.item ≡ false }
@@ -114,7 +114,7 @@ pub fn closing(
 }
 
 // After a form's last block: its `end` where there is one, and the form's closing event.
-pub(crate) fn finish(parser: &mut Parser, b: BlockEnd, owner: BlockOwner) -> Form
+pub fn finish(parser: &mut Parser, b: BlockEnd, owner: BlockOwner) -> Form
     requires { ItemAt parser.old.kinds.now b.c.pos b.item }
     ensures { Finish owner b.outcome (entry parser b.c) (exit parser result.c) result }
 {
@@ -126,7 +126,7 @@ pub(crate) fn finish(parser: &mut Parser, b: BlockEnd, owner: BlockOwner) -> For
     }
 }
 
-pub(crate) fn found_terminator(outcome: BlockParseOutcome) -> bool
+pub fn found_terminator(outcome: BlockParseOutcome) -> bool
     ensures { result ≡ found_terminator outcome }
 {
     matches!(outcome, BlockParseOutcome::FoundTerminator)
@@ -139,7 +139,7 @@ fn reached_eof(outcome: BlockParseOutcome) -> bool
 }
 
 // Whether an `else` follows the block of an `if`.
-pub(crate) fn goes_to_else(parser: &Parser, p: usize, outcome: BlockParseOutcome) -> bool
+pub fn goes_to_else(parser: &Parser, p: usize, outcome: BlockParseOutcome) -> bool
     ensures { result ≡ (not (reached_eof outcome) && at (is else_word) (drop p parser.now.kinds.now)) }
 {
     !reached_eof(outcome) && parser.at_keyword(p, Word::Else)

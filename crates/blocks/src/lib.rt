@@ -1,12 +1,12 @@
 // Blocks and the four control forms.
 #![tactic(auto)]
 
-mod arm;
+pub mod arm;
 pub mod block;
 pub mod close;
-mod header;
+pub mod header;
 pub mod place;
-mod reject;
-mod rounds;
-mod step;
-mod suffix;
+pub mod reject;
+pub mod rounds;
+pub mod step;
+pub mod suffix;

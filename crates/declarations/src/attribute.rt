@@ -9,7 +9,7 @@ use lexer::syntax::SyntaxKind;
 use parser::cursor::{Cursor, Flow};
 use parser::state::Parser;
 
-fn parse_attribute(parser: &mut Parser, c0: Cursor) -> Cursor
+pub fn parse_attribute(parser: &mut Parser, c0: Cursor) -> Cursor
     ensures { Ran parse_attribute (entry parser c0) (exit parser result) }
 {
     let a = parser.start_node(c0, SyntaxKind::Attribute);

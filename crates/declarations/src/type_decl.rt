@@ -54,7 +54,7 @@ fn type_tokens(parser: &mut Parser, c0: Cursor) -> Cursor
     at.c
 }
 
-fn parse_type_body(parser: &mut Parser, c0: Cursor) -> Cursor
+pub fn parse_type_body(parser: &mut Parser, c0: Cursor) -> Cursor
     ensures { Ran parse_type_body (entry parser c0) (exit parser result) }
 {
     let a = parser.start_node(c0, SyntaxKind::TypeBody);

@@ -27,7 +27,7 @@ fn package_in_parens(parser: &mut Parser, c0: Cursor) -> Cursor
     e.c
 }
 
-fn parse_visibility(parser: &mut Parser, c0: Cursor) -> Cursor
+pub fn parse_visibility(parser: &mut Parser, c0: Cursor) -> Cursor
     ensures { Ran parse_visibility (entry parser c0) (exit parser result) }
 {
     let a = parser.start_node(c0, SyntaxKind::Visibility);

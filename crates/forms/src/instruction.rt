@@ -32,7 +32,7 @@ fn expects_operand(previous: Option<u16>) -> bool
 }
 
 #[tactic(auto, using(crate::proofs::At::continues), unfolding(grammar::specs::Instruction::should_continue_instruction_after_whitespace))]
-fn should_continue_instruction_after_whitespace(
+pub fn should_continue_instruction_after_whitespace(
     parser: &Parser,
     at: Nested,
     previous: Option<u16>,
@@ -61,7 +61,7 @@ fn at_next(parser: &Parser, p: usize) -> bool
 }
 
 #[tactic(auto, using(crate::proofs::At::continues), unfolding(grammar::specs::Instruction::should_stop_instruction_before))]
-fn should_stop_instruction_before(parser: &Parser, at: Nested, previous: Option<u16>) -> bool
+pub fn should_stop_instruction_before(parser: &Parser, at: Nested, previous: Option<u16>) -> bool
     requires { stands (is DocComment) (drop at.c.pos parser.now.kinds.now) ≡ false }
     ensures { result ≡ should_stop previous at.nesting (drop at.c.pos parser.now.kinds.now) }
 {

@@ -16,7 +16,7 @@ use lexer::syntax::SyntaxKind;
 use parser::cursor::Cursor;
 use parser::state::Parser;
 
-fn parse_doc_form(parser: &mut Parser, c0: Cursor) -> Cursor
+pub fn parse_doc_form(parser: &mut Parser, c0: Cursor) -> Cursor
     ensures { Ran parse_doc_form (entry parser c0) (exit parser result) }
 {
     let a = parser.start_node(c0, SyntaxKind::Doc);

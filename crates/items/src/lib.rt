@@ -1,7 +1,7 @@
 // The items, and the whole file.
 #![tactic(auto)]
 
-mod arm;
+pub mod arm;
 pub mod file;
-mod item;
-mod procedure;
+pub mod item;
+pub mod procedure;

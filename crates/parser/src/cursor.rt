@@ -46,7 +46,7 @@ fn low_half(n: usize) -> u32
 
 impl Parser<'_> {
     // One event more.
-    fn put(&mut self, c: Cursor, v: u16) -> Cursor
+    pub fn put(&mut self, c: Cursor, v: u16) -> Cursor
         ensures { Wrote v (entry self c) (exit self result) }
     {
         set_in_room(self.events, c.events, v);

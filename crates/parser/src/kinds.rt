@@ -33,7 +33,7 @@ pub fn in_set(mask: u64, k: u16) -> bool
 
 // Whether k is trivia, up to the kind `last`.
 #[tactic(auto, unfolding(crate::specs::Sets::trivia_to))]
-pub(crate) fn is_trivia_to(last: SyntaxKind, k: u16) -> bool
+pub fn is_trivia_to(last: SyntaxKind, k: u16) -> bool
     ensures { result ≡ trivia_to (kind_number last) k }
 {
     WHITESPACE <= k && k <= u16::from(last)
@@ -110,7 +110,7 @@ pub fn is_control_flow(k: u16) -> bool
 
 // DocComment, At, or a word that starts an item
 #[tactic(auto, using(crate::proofs::Bits::starters))]
-pub(crate) fn starts_item(k: u16) -> bool
+pub fn starts_item(k: u16) -> bool
     ensures { result ≡ starter k }
 {
     in_set(STARTER_KINDS, k) || in_words(STARTERS, k)

@@ -72,7 +72,7 @@ impl Parser<'_> {
 
     // The first token from p on that is not trivia up to `last`.
     #[tactic(auto, using(crate::proofs::Laws::skips))]
-    fn skip(&self, last: SyntaxKind, p: usize) -> usize
+    pub fn skip(&self, last: SyntaxKind, p: usize) -> usize
         ensures { Found self.now.kinds.now p result (skip_of (trivia_to (kind_number last)) (drop p self.now.kinds.now)) }
     {
         // A while: a `for`, with the greater of p and the length behind it, takes a twentieth more where trivia is looked through.
@@ -94,7 +94,7 @@ impl Parser<'_> {
     }
 
     #[tactic(auto, using(crate::proofs::Bits::all_trivia))]
-    fn next_relevant_block_token(&self, p: usize) -> usize
+    pub fn next_relevant_block_token(&self, p: usize) -> usize
         ensures { Found self.now.kinds.now p result (skip_of is_trivia (drop p self.now.kinds.now)) }
     {
         self.skip(TRIVIA, p)
@@ -132,7 +132,7 @@ impl Parser<'_> {
 
     // Of the list behind `pub`, which starts at p.
     #[tactic(auto, using(crate::proofs::Ahead::one_on), unfolding(grammar::specs::Look::next_token_after_visibility))]
-    fn next_token_after_visibility(&self, p: usize) -> usize
+    pub fn next_token_after_visibility(&self, p: usize) -> usize
         ensures { Found self.now.kinds.now p result (after_visibility (drop p self.now.kinds.now)) }
     {
         let next = self.next_relevant_top_level_token(p);
@@ -167,7 +167,7 @@ impl Parser<'_> {
     }
 
     #[tactic(auto, using(crate::proofs::Ahead::one_on), unfolding(grammar::specs::Look::at_bare_while))]
-    fn at_bare_while(&self, p: usize) -> bool
+    pub fn at_bare_while(&self, p: usize) -> bool
         ensures { result ≡ bare_while (drop p self.now.kinds.now) }
     {
         self.at_keyword(p, Word::While) && !self.at_kind(p + 1, Dot)

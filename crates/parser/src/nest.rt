@@ -19,7 +19,7 @@ pub struct Nested {
 
 impl Parser<'_> {
     // A closer without its opener is reported, and leaves the counts as they are.
-    fn bump_nesting(&mut self, c: Cursor, nesting: Nesting, kind: u16) -> Nested
+    pub fn bump_nesting(&mut self, c: Cursor, nesting: Nesting, kind: u16) -> Nested
         requires { NestingBelow (2 ^ 63) nesting }
         ensures { BumpNesting nesting kind (entry self c) (exit self result.c) result.nesting }
     {
