@@ -16,7 +16,7 @@ use Rattle.grammar.proofs.Theorems.NoFuel.{items_eq}
 use Rattle.grammar.proofs.Theorems.Rounds.{round_takes}
 use Rattle.grammar.specs.Words.{Sym, is}
 use Rattle.parser.specs.Rep.{World, remaining, Ran, RanTo}
-use Rattle.parser.proofs.Kit.{like_to, yes_to, no_to, done_to, ◌then◌, ◌then_to◌, begins, goes_on}
+use Rattle.parser.proofs.Kit.{like_to, yes_to, no_to, done_to, ◌then◌, ◌then_to◌, goes_on}
 use Rattle.parser.proofs.Laws.{past_here}
 use Rattle.items.proofs.file.source_items.Goals as goal
 
