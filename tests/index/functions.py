@@ -44,7 +44,7 @@ def defined(name, path):
     if path.endswith(".antt"):
         form = rf"^(?:\s*(?:abbrev|unfoldable) pub|pub (?:record|data)|pub) {name} "
     else:
-        form = rf'^\s*(?:pub )?(?:(?:extern "C" )?fn {name}[(<]|(?:struct|enum|const|static) {name}\b)'
+        form = rf'^\s*(?:pub(?:\(crate\))? )?(?:(?:extern "C" )?fn {name}[(<]|(?:struct|enum|const|static) {name}\b)'
     return re.search(form, read(path), re.MULTILINE)
 
 
@@ -74,7 +74,7 @@ def proofs_of(name, path):
     if not place:
         return []
     base = f"crates/{place[1]}/proofs" + ("" if place[2] == "lib" else f"/{place[2]}")
-    cycle = re.search(rf"^#\[cycle\((\w+)\)\]\n(?:#\[.*\n)*(?:pub )?fn {re.escape(name)}\b", read(path), re.MULTILINE)
+    cycle = re.search(rf"^#\[cycle\((\w+)\)\]\n(?:#\[.*\n)*(?:pub(?:\(crate\))? )?fn {re.escape(name)}\b", read(path), re.MULTILINE)
     folders = [f"{base}/+{cycle[1]}"] if cycle else [f"{base}/{name}"] + glob.glob(f"crates/{place[1]}/proofs/**/[A-Z]*/{name}", recursive=True)
     return [folder for folder in folders if any(os.path.exists(f"{folder}/{file}.antt") for file in FILES)]
 
