@@ -100,6 +100,10 @@ marked kind text = kind + MARK * number_of kind text
 abbrev pub mark : Token → ℕ
 mark t = marked t.kind t.text
 
+pub few_numbers : (text : List ℕ) → text_number text ≤ 18
+unfolding text_number words
+few_numbers text = at_most 0 (words ++ refused_texts) text
+
 -- Marked v, a token that starts at m is refused where v stands above the last word.
 abbrev pub refused_at : ℕ → ℕ → Option ℕ
 refused_at v m = cond (ltb (key 16) v) (Some m) None

@@ -2,3 +2,4 @@
 pub mod Marks
 pub mod Code
 pub mod Laws
+pub mod Filter

@@ -1,8 +1,8 @@
 -- The length of a character by its first byte's row.
-use Rattle.std.specs.Prelude.{◌≡◌, refl, List, [], ◌∷◌, cond, ℕ, zero, suc, ◌≤◌, ◌<◌, length, get_or, drop}
-use Rattle.std.proofs.Common.{arith}
-use Rattle.utf8.specs.Table.{◌⋯◌, Row, table_3_7, row_fits, length_in, char_length}
-use Rattle.utf8.specs.TableLaws.{in_range_yes, in_range_under, in_range_over, fits_on, fits_off, RowsRise, rows_rise}
+use Rattle.std.specs.Prelude.{◌≡◌, refl, List, [], ◌∷◌, Bool, true, false, cond, ℕ, zero, suc, ◌≤◌, ◌<◌, length, get_or, drop}
+use Rattle.std.proofs.Common.{sym, ◌∙◌, true≢false, arith}
+use Rattle.utf8.specs.Table.{Range, ◌⋯◌, Row, table_3_7, in_range, agree, row_fits, length_in, char_length}
+use Rattle.utf8.specs.TableLaws.{in_range_yes, in_range_under, in_range_over, fits_on, fits_off, fits_none, RowsRise, rows_rise}
 
 -- the length of a character whose bytes after the first are those of the row, 0 where the bytes do not start so
 abbrev pub tail_length : Row → List ℕ → ℕ
@@ -60,3 +60,20 @@ first_row i b bs f = in_row 0 table_3_7 rows_rise i b f bs
 
 pub no_row : (i b : ℕ) (bs : List ℕ) → Between i table_3_7 b → char_length (b ∷ bs) ≡ 0
 no_row i b bs f = in_none 0 table_3_7 rows_rise i b f bs
+
+-- a row's bytes one by one
+pub fits_one : (r : Range) (b : ℕ) (bs : List ℕ) → row_fits (r ∷ []) (b ∷ bs) ≡ in_range r b
+unfolding agree
+fits_one r b bs = by_test (in_range r b) refl
+  where
+    by_test : (t : Bool) → in_range r b ≡ t → row_fits (r ∷ []) (b ∷ bs) ≡ in_range r b
+    by_test true e = fits_on r [] b bs e ∙ sym e
+    by_test false e = fits_off r [] b bs e ∙ sym e
+
+pub fits_then : (r : Range) (row : Row) (bs : List ℕ) → row_fits (r ∷ []) bs ≡ true → row_fits (r ∷ row) bs ≡ row_fits row (drop 1 bs)
+fits_then r row [] e = absurd (true≢false (sym e ∙ fits_none r []))
+fits_then r row (b ∷ bs) e = fits_on r row b bs (sym (fits_one r b bs) ∙ e)
+
+pub fits_not : (r : Range) (row : Row) (bs : List ℕ) → row_fits (r ∷ []) bs ≡ false → row_fits (r ∷ row) bs ≡ false
+fits_not r row [] e = fits_none r row
+fits_not r row (b ∷ bs) e = fits_off r row b bs (sym (fits_one r b bs) ∙ e)
