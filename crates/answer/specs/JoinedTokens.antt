@@ -1,6 +1,6 @@
 -- From what a call gave to the tokens and symbols of the definitions: demand 3's premises.
 -- Assumes nothing.
-use Rattle.std.specs.Prelude.{ℕ, zero, suc, ◌+◌, ◌-◌, ◌<◌, ◌≡◌, refl, Bool, true, false, cond, ◌&&◌, ◌||◌, List, [], ◌∷◌, map, eqb, length, get_or}
+use Rattle.std.specs.Prelude.{ℕ, ◌+◌, ◌-◌, ◌<◌, ◌≡◌, refl, Bool, true, false, cond, ◌&&◌, ◌||◌, List, [], ◌∷◌, map, eqb, length}
 use Rattle.std.proofs.Common.{sym, ap, ap₂, ◌∙◌, arith, eqb-true, ne_eqb}
 use Rattle.std.proofs.lemmas.Bool.{false≢true, eqb-false}
 use Rattle.std.proofs.Math.Seq.{take-append_seam, drop-append_seam}
@@ -8,12 +8,13 @@ use Rattle.lexer.specs.Syntax.{Ident, Newline, RParen}
 use Rattle.lexer.specs.Lexer.{Token, same, tokenize}
 use Rattle.lexer.specs.Tokens.{token_kind, ends, token_kinds, token_ends}
 use Rattle.lexer.specs.Laws.{Every, token_bytes, last, lossless}
-use Rattle.grammar.specs.Words.{Sym, is, key, END, words, number_in, word_of, sym_of}
+use Rattle.grammar.specs.Words.{Sym, is, key, END, words, word_of, sym_of}
 use Rattle.grammar.specs.Look.{at, one_of, is_trivia, skip, next_relevant_block_token}
 use Rattle.grammar.specs.Source.{syms}
 use Rattle.grammar.specs.Source
 use Rattle.grammar.specs.Joins.{Tail, here, there}
 use Rattle.grammar.specs.Laws.Ahead.{tail_nil}
+use Rattle.grammar.specs.Laws.Words.{text_of_number}
 use Rattle.answer.specs.Given.{cut, end_text, is_end, end_before_last}
 
 -- kinds, ends and bytes make the tokens again
@@ -38,35 +39,13 @@ newline_last d [] e = e
 newline_last d (t ∷ []) e = newline_sym t e
 newline_last d (t ∷ u ∷ ts) e = newline_last d (u ∷ ts) e
 
--- the text with a word's number is that word
-no_less : (n m : ℕ) (ws : List (List ℕ)) (t : List ℕ) → 0 < m → m < n → number_in n ws t ≡ m → ⊥
-unfolding number_in
-no_less n m [] t p q e = omega arith
-no_less n m (w ∷ ws) t p q e = by_test (same w t) e (no_less (suc n) m ws t p (omega arith))
-  where
-    by_test : (u : Bool) → cond u n (number_in (suc n) ws t) ≡ m → (number_in (suc n) ws t ≡ m → ⊥) → ⊥
-    by_test true e ih = omega arith
-    by_test false e ih = ih e
-
-text_of : (n k : ℕ) (ws : List (List ℕ)) (t : List ℕ) → 0 < n → number_in n ws t ≡ n + k → same (get_or ws k []) t ≡ true
-unfolding number_in
-text_of n k [] t p e = absurd (omega arith)
-text_of n k (w ∷ ws) t p e = by_test k (same w t) refl e (λ k. text_of (suc n) k ws t (omega arith))
-  where
-    by_test : (k : ℕ) (u : Bool) → same w t ≡ u → cond u n (number_in (suc n) ws t) ≡ n + k
-        → ((k : ℕ) → number_in (suc n) ws t ≡ suc n + k → same (get_or ws k []) t ≡ true) → same (get_or (w ∷ ws) k []) t ≡ true
-    by_test zero true h e ih = h
-    by_test zero false h e ih = absurd (no_less (suc n) n ws t p (omega arith) (omega arith))
-    by_test (suc k) true h e ih = absurd (omega arith)
-    by_test (suc k) false h e ih = ih k (omega arith)
-
 -- `end` as the grammar reads it is an Ident `end`
 end_token : (t : Token) → t.kind < 60 → Source.token_symbol t ≡ END → is_end t ≡ true
 unfolding sym_of word_of words
 end_token t low e = by_test (eqb Ident t.kind) refl e
   where
     by_test : (u : Bool) → eqb Ident t.kind ≡ u → cond u (key (word_of t.text)) t.kind ≡ END → (u && same end_text t.text) ≡ true
-    by_test true h e = text_of 1 5 words t.text (omega arith) (omega arith)
+    by_test true h e = text_of_number 1 5 words t.text (omega arith) (omega arith)
     by_test false h e = absurd (omega arith)
 
 tail_one : {s : Sym} → Tail (s ∷ []) → ⊥

@@ -7,6 +7,7 @@ pub mod Slices
 pub mod Code
 pub mod Good
 pub mod Laws
+pub mod Agree
 pub mod Kinds
 pub mod Join
 pub mod Examples

@@ -2,4 +2,5 @@
 pub mod Marks
 pub mod Code
 pub mod Laws
+pub mod Found
 pub mod Filter

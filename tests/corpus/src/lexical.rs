@@ -1,6 +1,6 @@
 //! All short strings over small alphabets, each around one part of the lexer.
 
-use crate::{sequences, spellings::KEYWORDS};
+use crate::{near, sequences};
 
 const LINES_AND_QUOTES: [&str; 9] = ["\r", "\n", "\"", "\\", "a", " ", "#", "!", "é"];
 const NUMBERS: [&str; 10] = ["0", "1", "2", "x", "X", "b", "B", "a", "g", "."];
@@ -20,19 +20,10 @@ pub fn all(longer: u32) -> impl Iterator<Item = Vec<u8>> {
     bytes
         .chain(pairs)
         .chain(dollars)
-        .chain(KEYWORDS.iter().flat_map(|word| near(word)))
+        .chain(near::few())
         .chain(sequences::all(&LINES_AND_QUOTES, 5 + longer, ""))
         .chain(sequences::all(&NUMBERS, 4 + longer, ""))
         .chain(sequences::all(&PUNCTUATION, 5 + longer, ""))
-}
-
-/// Words that differ from a keyword by one letter, behind `begin`.
-fn near(word: &'static str) -> impl Iterator<Item = Vec<u8>> {
-    let shorter = word[..word.len() - 1].to_string();
-    let changed = format!("{}{}", &word[..word.len() - 1], 'q');
-    let capital = word[..1].to_uppercase() + &word[1..];
-    let words = [shorter, changed, capital, format!("{word}s"), format!("_{word}"), word.into()];
-    words.into_iter().map(|word| format!("begin {word} a end").into_bytes())
 }
 
 /// On both sides of every bound of a class of characters.

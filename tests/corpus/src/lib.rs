@@ -6,6 +6,7 @@ pub mod edges;
 pub mod examples;
 pub mod frame;
 pub mod lexical;
+pub mod near;
 pub mod nested;
 pub mod pairs;
 pub mod places;
@@ -74,7 +75,7 @@ pub enum Family {
     Slices,
     /// Two files joined.
     Pairs,
-    /// Every spelling in every place, and every class of characters at its bounds.
+    /// Every spelling in every place, every class of characters at its bounds, and names that are nearly a word.
     Places,
 }
 
@@ -176,7 +177,7 @@ fn sources(family: Family, size: Size) -> Sources {
         Family::Shapes => Box::new(shapes::all()),
         Family::Slices => Box::new(examples::documented().chain(sampled(200, any_source))),
         Family::Pairs => sampled(PAIRS, pairs::joined),
-        Family::Places => Box::new(places::all().chain(lexical::bounds())),
+        Family::Places => Box::new(places::all().chain(lexical::bounds()).chain(near::all())),
     }
 }
 

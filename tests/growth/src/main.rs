@@ -1,8 +1,10 @@
 //! Counts the instructions of the exported call on sources of n and of 2n bytes. Where the time is
-//! linear, the second count is about twice the first.
+//! linear, the second count is about twice the first. Names that are as long as no word take as
+//! many instructions whatever their letters.
 
 mod callgrind;
 mod measure;
+mod names;
 mod table;
 
 use std::{env, process::ExitCode};
@@ -72,24 +74,30 @@ fn read(options: &mut Options, mut words: impl Iterator<Item = String>) -> Optio
     Some(())
 }
 
-/// Prints the table; how many families grow too fast.
+/// Prints the table; how many families grow too fast, and one more where names are not told by their lengths.
 fn run(Options { size, only, markdown, program }: Options) -> Result<usize, String> {
     let counted = program.map_or_else(exported_call, Ok)?;
     let measure = Measure { counted, sizes: [size, 2 * size] };
     let table = Table { markdown, greatest: GREATEST };
     table.print_head(measure.sizes);
-    let (mut all, mut fast) = (0, 0);
+    let mut rows = Vec::new();
     let chosen: Vec<_> = families().filter(|(name, _)| name.contains(&only)).collect();
     for families in chosen.chunks(TOGETHER) {
         for row in measure.rows(families) {
             let row = row?;
             table.print(&row);
-            all += 1;
-            fast += usize::from(row.ratio() > GREATEST);
+            rows.push(row);
         }
     }
-    println!("growth: {all} families, {fast} above {GREATEST}");
-    Ok(fast)
+    let fast = rows.iter().filter(|row| row.ratio() > GREATEST).count();
+    let unlike = names::unlike(&rows);
+    if let Some(counts) = unlike {
+        println!(
+            "growth: names of no word's length take {counts:?} instructions, by their letters"
+        );
+    }
+    println!("growth: {} families, {fast} above {GREATEST}", rows.len());
+    Ok(fast + usize::from(unlike.is_some()))
 }
 
 /// The call in the archive, made by the program that is built beside this one.

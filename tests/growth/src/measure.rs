@@ -4,7 +4,7 @@ use std::thread;
 
 use corpus::{random::Random, script::script, shapes::SHAPES};
 
-use crate::callgrind::Counted;
+use crate::{callgrind::Counted, names};
 
 /// The most bytes of the script that is repeated; it is made a little shorter.
 const SCRIPT: usize = 8_192;
@@ -25,7 +25,7 @@ pub struct Row {
 }
 
 /// A family's source of a size.
-type Make = Box<dyn Fn(usize) -> Vec<u8> + Sync>;
+pub type Make = Box<dyn Fn(usize) -> Vec<u8> + Sync>;
 
 /// A family's name, and its sources.
 pub type Family = (&'static str, Make);
@@ -36,7 +36,7 @@ pub fn families() -> impl Iterator<Item = Family> {
         let make: Make = Box::new(|size| shape.sized(size));
         (shape.name, make)
     });
-    [("a script", scripts)].into_iter().chain(shapes)
+    [("a script", scripts)].into_iter().chain(shapes).chain(names::families())
 }
 
 /// One script again and again, so that both sizes hold the same mixture.

@@ -1,17 +1,21 @@
 //! The benchmark over a function with a known pace: linear growth passes, quadratic growth is
-//! found, and what runs outside the function is not counted.
+//! found, what runs outside the function is not counted, and names are told by their lengths.
 
 use std::process::{Command, Output};
 
-fn growth(pace: &str, function: &str) -> (bool, String) {
+fn growth(only: &str, pace: &str, function: &str) -> (bool, String) {
     let Output { status, stdout, stderr } = Command::new(env!("CARGO_BIN_EXE_growth"))
-        .args(["--size", "2048", "--only", "newlines behind", "--markdown"])
+        .args(["--size", "2048", "--only", only, "--markdown"])
         .args(["--program", env!("CARGO_BIN_EXE_pace"), function])
         .env("PACE", pace)
         .output()
         .unwrap();
     (status.success(), String::from_utf8([stdout, stderr].concat()).unwrap())
 }
+
+const NEWLINES: &str = "newlines behind";
+
+const NAMES: &str = "names ";
 
 /// Nothing can be counted without valgrind.
 fn can_count() -> bool {
@@ -25,17 +29,23 @@ fn growth_is_told() {
         return;
     }
     for pace in ["linear", "outside"] {
-        let (success, text) = growth(pace, "paced");
+        let (success, text) = growth(NEWLINES, pace, "paced");
         assert!(success && text.contains("growth: 1 families, 0 above 2.1"), "{pace}: {text}");
     }
 
-    let (success, text) = growth("quadratic", "paced");
+    let (success, text) = growth(NEWLINES, "quadratic", "paced");
     let found = |line: &str| line.starts_with("| newlines behind") && line.ends_with(" above |");
     assert!(!success && text.lines().any(found), "{text}");
 
-    let (success, text) = growth("refuse", "paced");
+    let (success, text) = growth(NEWLINES, "refuse", "paced");
     assert!(!success && text.contains("newlines behind `pub`: not accepted"), "{text}");
 
-    let (success, text) = growth("linear", "unpaced");
+    let (success, text) = growth(NAMES, "linear", "paced");
+    assert!(success && text.contains("growth: 2 families, 0 above 2.1"), "{text}");
+
+    let (success, text) = growth(NAMES, "letters", "paced");
+    assert!(!success && text.contains("names of no word's length take"), "{text}");
+
+    let (success, text) = growth(NEWLINES, "linear", "unpaced");
     assert!(!success && text.contains("nothing was counted in unpaced"), "{text}");
 }

@@ -1,6 +1,7 @@
 //! A function with a known pace in the place of the exported call, for testing the benchmark.
 //!
-//! `PACE` is `linear`, `quadratic` in runs of newlines, the same `outside` the function, or `refuse`.
+//! `PACE` is `linear`, `quadratic` in runs of newlines, the same `outside` the function, `letters`, which goes on to the letter `o`,
+//! or `refuse`.
 
 use std::{
     env,
@@ -15,7 +16,7 @@ fn main() {
     if pace == "outside" {
         black_box(quadratic(&source));
     }
-    let steps = paced(&source, pace == "quadratic");
+    let steps = paced(&source, &pace);
     let status = usize::from(pace == "refuse");
     println!("{status} {} 2 0", black_box(steps).min(source.len()));
 }
@@ -23,8 +24,17 @@ fn main() {
 /// What is counted.
 #[unsafe(no_mangle)]
 #[inline(never)]
-fn paced(source: &[u8], slowly: bool) -> usize {
-    if slowly { quadratic(source) } else { source.iter().map(black_box).count() }
+fn paced(source: &[u8], pace: &str) -> usize {
+    match pace {
+        "quadratic" => quadratic(source),
+        "letters" => source.split(|byte| *byte == b' ').map(to_letter).sum(),
+        _ => source.iter().map(black_box).count(),
+    }
+}
+
+/// How many bytes of a name stand before an `o`, and one.
+fn to_letter(name: &[u8]) -> usize {
+    1 + name.iter().map(black_box).take_while(|byte| **byte != b'o').count()
 }
 
 #[inline(never)]
