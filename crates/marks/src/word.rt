@@ -4,7 +4,8 @@ ghost use Rattle.marks.specs.Code.{text_number, found_number};
 
 use grammar::words::Word;
 
-// The word that a text is, if it is one. A match goes by the length first, and looks at few bytes of most texts.
+// The word that a text is, if it is one. A match tests the length once, before any byte (tests/growth, `names`), and looks at few bytes of
+// most texts.
 #[tactic(auto, using(crate::proofs::Texts::spelled, crate::proofs::Texts::none_spelled))]
 pub fn word_of(text: &[u8]) -> Option<Word>
     ensures { found_number result ≡ text_number text.now }
