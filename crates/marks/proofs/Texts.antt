@@ -4,6 +4,9 @@ use mathlib.Core.Path.{◌≡◌, refl, sym, ap, ◌∙◌}
 use mathlib.Core.Bool.{Bool, true, false, cond}
 use mathlib.Core.List.{List, [], ◌∷◌, ◌++◌, map}
 use lib.ListN.{length, get_or, drop}
+use Rattle.std.specs.Prelude.{eqb}
+use Rattle.std.proofs.Common.{eq-eqb}
+use Rattle.std.proofs.lemmas.Bool.{false≢true}
 use Rattle.lexer.specs.Chars.{tabulate}
 use Rattle.lexer.specs.Lexer.{same}
 use Rattle.lexer.specs.Laws.{same_equal}
@@ -68,6 +71,36 @@ their_numbers = refl
 pub spelled : (t : List ℕ) → Numbered 1 letters t
 spelled t = in_order 1 letters t their_numbers
 
-pub none_spelled : (t : List ℕ) → SpellsNone letters t → 0 ≡ text_number t
+none_spelled : (t : List ℕ) → SpellsNone letters t → 0 ≡ text_number t
 unfolding text_number
 none_spelled t h = sym (ap (λ (ws : List (List ℕ)). number_in 1 ws t) same_letters ∙ spells_none 1 letters t h)
+
+-- no word is as long as t
+abbrev pub NoneAsLong : List (List ℕ) → List ℕ → Type 0
+NoneAsLong [] t = Unit {0}
+NoneAsLong (w ∷ ws) t = (length t ≡ length w → ⊥) × NoneAsLong ws t
+
+other_lengths : (ws : List (List ℕ)) (t : List ℕ) → NoneAsLong ws t → SpellsNone ws t
+other_lengths [] t h = tt
+other_lengths (w ∷ ws) t h = (λ s. h.0 s.0, other_lengths ws t h.1)
+
+pub none_as_long : (t : List ℕ) → NoneAsLong letters t → 0 ≡ text_number t
+none_as_long t h = none_spelled t (other_lengths letters t h)
+
+-- the words of n letters
+abbrev pub of_length : ℕ → List (List ℕ) → List (List ℕ)
+of_length n [] = []
+of_length n (w ∷ ws) = cond (eqb (length w) n) (w ∷ of_length n ws) (of_length n ws)
+
+none_else : (n : ℕ) (ws : List (List ℕ)) (t : List ℕ) → length t ≡ n → SpellsNone (of_length n ws) t → SpellsNone ws t
+none_else n [] t l h = tt
+none_else n (w ∷ ws) t l h = by_test (eqb (length w) n) refl h (none_else n ws t l)
+  where
+    by_test : (u : Bool) → eqb (length w) n ≡ u → SpellsNone (cond u (w ∷ of_length n ws) (of_length n ws)) t
+        → (SpellsNone (of_length n ws) t → SpellsNone ws t) → SpellsNone (w ∷ ws) t
+    by_test true e h rest = (h.0, rest h.1)
+    by_test false e h rest = (λ s. false≢true (sym e ∙ eq-eqb (length w) n (sym s.0 ∙ l)), rest h)
+
+-- a text of n letters need only be none of the words of n letters
+pub none_of_length : (n : ℕ) (t : List ℕ) → length t ≡ n → SpellsNone (of_length n letters) t → 0 ≡ text_number t
+none_of_length n t l h = none_spelled t (none_else n letters t l h)
