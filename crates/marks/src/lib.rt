@@ -37,9 +37,10 @@ fn first_refusal(refusal: Option<usize>, kind: u16, start: usize) -> Option<usiz
 fn mark(kind: SyntaxKind, text: &[u8]) -> u16
     ensures { result ≡ marked (kind_number kind) text.now }
 {
+    let plain = u16::from(kind);
     match kind {
-        SyntaxKind::Ident => word_of(text).map_or(IDENT, Word::symbol),
-        _ => u16::from(kind),
+        SyntaxKind::Ident => word_of(text).map_or(plain, Word::symbol),
+        _ => plain,
     }
 }
 

@@ -23,14 +23,14 @@ module _ (k : SyntaxKind) (text : List ℕ) where
   other n = rw (not_ident k n) (omega arith)
 
   -- what was found, and what is written for it
-  ident : (r : Option Word) (v : ℕ) → k ≡ kind.Ident → found_number r ≡ text_number text → MatchOption r (v ≡ Ident) (λ w. v ≡ key (word_number w))
-      → v ≡ marked (kind_number k) text
+  ident : (r : Option Word) (p v : ℕ) → k ≡ kind.Ident → p ≡ kind_number k → found_number r ≡ text_number text
+      → MatchOption r (v ≡ p) (λ w. v ≡ key (word_number w)) → v ≡ marked (kind_number k) text
   unfolding number_of
-  ident None v e f h = rw (e, ← f, h) refl
-  ident (Some w) v e f h = rw (e, ← f, h) refl
+  ident None p v e q f h = h ∙ q ∙ rw (e, ← f) refl
+  ident (Some w) p v e q f h = rw (e, ← f, h) refl
 
 pub returns-in-Ident : goal.returns-in-Ident
-returns-in-Ident c = ident _ _ c.word_of.result _ c.in-Ident.is c.word_of.ensures c.map_or.ensures
+returns-in-Ident c = ident _ _ c.word_of.result _ _ c.in-Ident.is c.from-plain.ensures c.word_of.ensures c.map_or.ensures
 
 pub returns-in_default : goal.returns-in_default
-returns-in_default c = c.from.ensures ∙ other _ _ c.in_default.not-Ident
+returns-in_default c = c.from-plain.ensures ∙ other _ _ c.in_default.not-Ident
