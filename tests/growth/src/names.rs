@@ -8,8 +8,8 @@ use crate::measure::{Family, Make, Row};
 const ONWARD: &str = "names that go on from a word";
 const TURNED: &str = "names of the same letters";
 
-/// Letters of a name. No word has as many.
-const LETTERS: usize = 10;
+/// How long the names are: no word is, nor what stands behind `$`.
+const LENGTHS: [usize; 3] = [8, 10, 11];
 
 pub fn families() -> [Family; 2] {
     let onward: Make = Box::new(|size| block(size, str::to_string));
@@ -19,8 +19,11 @@ pub fn families() -> [Family; 2] {
 
 /// The longest block of all the names, again and again, of at most this size.
 fn block(size: usize, change: fn(&str) -> String) -> Vec<u8> {
-    let names = near::words().map(|word| change(&format!("{word:x<LETTERS$}")) + " ");
-    let piece: String = names.collect();
+    let longer = |word: &'static str| {
+        let lengths = LENGTHS.into_iter().filter(|length| *length > word.len());
+        lengths.map(move |length| change(&format!("{word:x<length$}")) + " ")
+    };
+    let piece: String = near::words().flat_map(longer).collect();
     let (head, tail) = ("begin\n", "\nend\n");
     let times = size.saturating_sub(head.len() + tail.len()) / piece.len();
     [head, &piece.repeat(times), tail].concat().into_bytes()
