@@ -1,7 +1,7 @@
 // The frames of the input: eight little-endian numbers (the part, bytes of the source, entries of the six slices), then the source.
-use crate::header::frame_number;
 use crate::{lexing, reading};
 use cst::Slices;
+use frames::header::frame_number;
 use std::io::{Read, Write};
 use std::{array, io};
 

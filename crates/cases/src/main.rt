@@ -8,7 +8,6 @@ use lexer::MAX_SOURCE;
 
 mod filling;
 mod frame;
-mod header;
 mod lexing;
 mod reading;
 
