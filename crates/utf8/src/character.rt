@@ -6,7 +6,7 @@ ghost use Rattle.utf8.specs.Passes.{Passes};
 use crate::Utf8Error;
 
 // Whether a character of three bytes starts with `first`, `tail` behind it: table 3-7's rows of three.
-#[tactic(auto, using(crate::proofs::ByRows::by_rows), unfolding(crate::specs::Table::table_3_7))]
+#[tactic(auto, unfolding(crate::specs::Table::table_3_7, crate::specs::Table::length_in, crate::specs::Table::agree))]
 fn is_three(first: u8, tail: &[u8]) -> bool
     ensures { IsTrue result ↔ (char_length (first ∷ tail.now) ≡ 3) }
 {
@@ -20,7 +20,7 @@ fn is_three(first: u8, tail: &[u8]) -> bool
 }
 
 // Whether one of four bytes does.
-#[tactic(auto, using(crate::proofs::ByRows::by_rows), unfolding(crate::specs::Table::table_3_7))]
+#[tactic(auto, unfolding(crate::specs::Table::table_3_7, crate::specs::Table::length_in, crate::specs::Table::agree))]
 fn is_four(first: u8, tail: &[u8]) -> bool
     ensures { IsTrue result ↔ (char_length (first ∷ tail.now) ≡ 4) }
 {
