@@ -1,0 +1,21 @@
+-- `utf8::character::is_three` meets its contract: the ways out at which search takes long. Assumes nothing.
+use native.Mathlib.Omega.{arith}
+use Rattle.utf8.specs.Table.{table_3_7}
+use Rattle.utf8.proofs.ByRows.{by_rows}
+use Rattle.utf8.proofs.character.is_three.Goals as goal
+
+pub returns-in-224-160-to-191 : goal.returns-in-224-160-to-191
+unfolding table_3_7
+returns-in-224-160-to-191 c = grind (arith, by_rows)
+
+pub returns-in-224-160-to-191-2 : goal.returns-in-224-160-to-191-2
+unfolding table_3_7
+returns-in-224-160-to-191-2 c = grind (arith, by_rows)
+
+pub returns-in-224-160-to-191-3 : goal.returns-in-224-160-to-191-3
+unfolding table_3_7
+returns-in-224-160-to-191-3 c = grind (arith, by_rows)
+
+pub returns-in-224-160-to-191-4 : goal.returns-in-224-160-to-191-4
+unfolding table_3_7
+returns-in-224-160-to-191-4 c = grind (arith, by_rows)
