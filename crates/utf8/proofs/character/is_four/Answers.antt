@@ -16,18 +16,6 @@ pub returns-in-240-144-to-191-3 : goal.returns-in-240-144-to-191-3
 unfolding table_3_7
 returns-in-240-144-to-191-3 c = grind (arith, by_rows)
 
-pub returns-in_default : goal.returns-in_default
-unfolding table_3_7
-returns-in_default c = grind (arith, by_rows)
-
-pub returns-in_default-2 : goal.returns-in_default-2
-unfolding table_3_7
-returns-in_default-2 c = grind (arith, by_rows)
-
 pub returns-in_default-12 : goal.returns-in_default-12
 unfolding table_3_7
 returns-in_default-12 c = grind (arith, by_rows)
-
-pub returns-in_default-16 : goal.returns-in_default-16
-unfolding table_3_7
-returns-in_default-16 c = grind (arith, by_rows)
