@@ -25,12 +25,12 @@ word_with : ℕ → Option Word
 word_with n = get_or at_number n None
 
 -- a word's number is its own, is that of its text, and is above 0
-record Numbered (w : Word) : Type 0 where
+record WordNumber (w : Word) : Type 0 where
   back : word_with (word_number w) ≡ Some w
   text : text_number (word_text w) ≡ word_number w
   above : word_number w ≡ 1 + pred (word_number w)
 
-numbered : (w : Word) → Numbered w
+numbered : (w : Word) → WordNumber w
 unfolding text_number number_in words word_text same word_with at_number
 numbered word.AdvMap = record { back = refl; text = refl; above = refl }
 numbered word.Begin = record { back = refl; text = refl; above = refl }
