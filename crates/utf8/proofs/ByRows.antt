@@ -25,7 +25,7 @@ abbrev pub RowsSay : List Row → ℕ → List ℕ → ℕ → Type 0
 RowsSay [] b bs n = Unit {0}
 RowsSay (row ∷ rows) b bs n = (StartsRow row b bs → n ≡ length row) × RowsSay rows b bs n
 
-fits : (row : Row) (k : ℕ) (s : List ℕ) → RowAt row k s → row_fits row (drop k s) ≡ true
+pub fits : (row : Row) (k : ℕ) (s : List ℕ) → RowAt row k s → row_fits row (drop k s) ≡ true
 unfolding agree
 fits [] k s h = refl
 fits (low ⋯ high ∷ row) k s h =
@@ -41,7 +41,7 @@ first_of low high row b bs e = by_test (in_range (low ⋯ high) b) refl
     by_test true i = let w = bounds low high b i in (w.0, w.1, sym (fits_on (low ⋯ high) row b bs i) ∙ e)
     by_test false i = absurd (true≢false (sym e ∙ fits_off (low ⋯ high) row b bs i))
 
-found : (row : Row) (k : ℕ) (s : List ℕ) → row_fits row (drop k s) ≡ true → RowAt row k s
+pub found : (row : Row) (k : ℕ) (s : List ℕ) → row_fits row (drop k s) ≡ true → RowAt row k s
 found [] k s e = tt
 found (low ⋯ high ∷ row) k s e = by_end (ltb k (length s)) refl (found row (k + 1) s)
   where

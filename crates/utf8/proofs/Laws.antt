@@ -47,7 +47,7 @@ module _ (s : List ℕ) (at : ℕ) where
   unfolding validate_from
   ends h = rw (drop_of_length-le s h)
 
-  pub stops_at : at < length s → char_length (drop at s) ≡ 0 → validate_from 0 at (drop at s) ≡ Err (error_at at)
+  pub stops_at : at < length s → char_length (drop at s) ≡ 0 → validate_from 0 at (drop at s) ≡ Err (error_at at (drop at s))
   stops_at h e = stops at (drop at s) (omega (arith, length-drop at s)) e
 
 pub passes_both : {s : List ℕ} {a b c : ℕ} → Passes s a b → Passes s b c → Passes s a c

@@ -2,11 +2,14 @@ pub mod Table
 pub mod TableLaws
 pub mod Width
 pub mod WellFormed
+pub mod ErrorLen
+pub mod ErrorLenLaws
 pub mod Validate
 pub mod Passes
 pub mod FirstByte
 pub mod Rows
 pub mod Laws
 pub mod Characters
+pub mod CutOff
 pub mod Last
 pub mod Scalar

@@ -1,9 +1,11 @@
 // Characters one by one, by the rows of table 3-7.
 ghost use Rattle.std.specs.Prelude.{◌≡◌, ◌↔◌, IsTrue, ◌∷◌, ◌≤◌, ◌<◌, length, drop, SomeIff, IfOk, IfErr};
 ghost use Rattle.utf8.specs.Table.{char_length};
+ghost use Rattle.utf8.specs.ErrorLen.{error_len};
 ghost use Rattle.utf8.specs.Passes.{Passes};
 
 use crate::Utf8Error;
+use crate::error_len::error_len;
 
 // Whether a character of three bytes starts with `first`, `tail` behind it: table 3-7's rows of three.
 #[tactic(auto, unfolding(crate::specs::Table::table_3_7, crate::specs::Table::length_in, crate::specs::Table::agree))]
@@ -55,14 +57,17 @@ pub fn walk(source: &[u8], from: usize, to: usize) -> Result<usize, Utf8Error>
     requires within { to ≤ length source.now }
     ensures ok { IfOk result (λ at. (to ≤ at) × Passes source.now from at) }
     ensures err { IfErr result (λ e. (e.valid_up_to < to) × Passes source.now from e.valid_up_to
-        × (char_length (drop e.valid_up_to source.now) ≡ 0)) }
+        × (char_length (drop e.valid_up_to source.now) ≡ 0) × (e.error_len ≡ error_len (drop e.valid_up_to source.now))) }
 {
     let mut at = from;
     // A while: the step is the character's length.
     while at < to {
         let first = source[at];
         let Some(n) = char_length(first, &source[at + 1..]) else {
-            return Err(Utf8Error { valid_up_to: at });
+            return Err(Utf8Error {
+                valid_up_to: at,
+                error_len: error_len(&source[at..]),
+            });
         };
         at += n;
     }

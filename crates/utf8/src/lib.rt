@@ -1,4 +1,4 @@
-// UTF-8: whether bytes are well formed, and else where their longest well-formed start ends.
+// UTF-8: whether bytes are well formed, and else where and how they break off.
 #![tactic(auto)]
 
 ghost use Rattle.std.specs.Prelude.{◌≡◌};
@@ -7,14 +7,17 @@ ghost use Rattle.utf8.specs.Validate.{validate};
 
 mod ascii;
 mod character;
+mod error_len;
 mod last;
 
 pub use last::last_char;
 
-// What is not UTF-8: its longest well-formed start ends at `valid_up_to`.
+// What is not UTF-8: its longest well-formed start ends at `valid_up_to`. `error_len` is 0 where the bytes from there on are cut off in the
+// middle of a character, and else how many of them are wrong together; Rust's has None in place of 0.
 #[derive(Clone, Copy, PartialEq, Eq, Debug)]
 pub struct Utf8Error {
     pub valid_up_to: usize,
+    pub error_len: usize,
 }
 
 // A character's length in bytes, by its first byte.
