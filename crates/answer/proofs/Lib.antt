@@ -1,9 +1,11 @@
--- JoinedCalls: demand 3. Facts, MissingEnds: what specs/ says under these names of every call that returned 0.
+-- JoinedCalls: demand 3. Facts, MissingEnds: what specs/ says under these names of every call that returned 0. CutOff: of every call that
+-- returned 2.
 -- Cases: the premises of demand 3 as cases have them. Needed: which premises are needed. Instances: demand 3 and the bounds at concrete
 -- calls.
 pub mod JoinedCalls
 pub mod Facts
 pub mod MissingEnds
+pub mod CutOff
 pub mod Cases
 pub mod Needed
 pub mod Instances

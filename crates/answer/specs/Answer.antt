@@ -109,10 +109,10 @@ from_row_3 source s =
     (outcome (TokenRoom (length (tokenize source))) s)
     (from_row_4 (first_refused 0 (tokenize source)) source s)
 
--- Row 2: not UTF-8, the longest valid start ends at n. Behind it the tokens that fit are in the slices, whatever is answered.
+-- Row 2: not UTF-8. Behind it the tokens that fit are in the slices, whatever is answered.
 unfoldable pub from_row_2 : Validity → List ℕ → Slices → Outcome
 from_row_2 (Ok _) source s = from_row_3 source (with_tokens source s)
-from_row_2 (Err e) source s = outcome (NotUtf8 e.valid_up_to) s
+from_row_2 (Err e) source s = outcome (NotUtf8 e) s
 
 -- Row 1, too long, and so the whole: the reading of any bytes into any slices.
 unfoldable pub parse_text : List ℕ → Slices → Outcome

@@ -20,7 +20,7 @@ row status first second third = record { status = status; first = first; second 
 
 abbrev pub numbers : Answer → FourNumbers
 numbers TooLong = row 1 0 0 0
-numbers (NotUtf8 n) = row 2 n 0 0
+numbers (NotUtf8 e) = row 2 e.valid_up_to e.error_len 0
 numbers (TokenRoom t) = row 3 t 0 0
 numbers (Refused n) = row 4 n 0 0
 numbers (OutputRoom t e d) = row 5 t e d

@@ -4,6 +4,8 @@
 ghost use Rattle.std.specs.Prelude.{◌≡◌};
 ghost use Rattle.answer.specs.Numbers.{status_number, row, numbers};
 
+use utf8::Utf8Error;
+
 // The six lent slices: kinds and ends of tokens, events, and messages, starts and stops of diagnostics. Slices of numbers side by side, and
 // none of structs, since C lends them so.
 #[derive(Drop)]
@@ -41,7 +43,7 @@ impl From<Status> for u64 {
 #[derive(Clone, Copy)]
 pub enum Answer {
     TooLong,
-    NotUtf8(usize),
+    NotUtf8(Utf8Error),
     TokenRoom(usize),
     Refused(usize),
     OutputRoom {
@@ -84,7 +86,7 @@ impl From<Answer> for FourNumbers {
     fn from(answer: Answer) -> FourNumbers {
         match answer {
             Answer::TooLong => row(Status::TooLong, 0, 0, 0),
-            Answer::NotUtf8(n) => row(Status::NotUtf8, n, 0, 0),
+            Answer::NotUtf8(e) => row(Status::NotUtf8, e.valid_up_to, e.error_len, 0),
             Answer::TokenRoom(t) => row(Status::TokenRoom, t, 0, 0),
             Answer::Refused(n) => row(Status::Refused, n, 0, 0),
             Answer::OutputRoom {

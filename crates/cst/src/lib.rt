@@ -36,7 +36,7 @@ impl<'a> TryFrom<&'a [u8]> for Text<'a> {
             return Err(Answer::TooLong);
         }
         match utf8::validate(source) {
-            Err(e) => Err(Answer::NotUtf8(e.valid_up_to)),
+            Err(e) => Err(Answer::NotUtf8(e)),
             Ok(()) => Ok(Text { bytes: source }),
         }
     }

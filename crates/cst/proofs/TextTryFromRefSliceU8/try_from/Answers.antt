@@ -19,7 +19,7 @@ module _ (source : List ℕ) where
   unfolding parse_text
   too_long h s = rw (lt-ltb MAX_SOURCE (length source) h) refl
 
-  not_utf8 : (e : Utf8Error) → length source ≤ MAX_SOURCE → validate source ≡ Err e → Refuses source (NotUtf8 e.valid_up_to)
+  not_utf8 : (e : Utf8Error) → length source ≤ MAX_SOURCE → validate source ≡ Err e → Refuses source (NotUtf8 e)
   unfolding parse_text from_row_2
   not_utf8 e h v s = rw (le-ltb MAX_SOURCE (length source) h, v) refl
 
