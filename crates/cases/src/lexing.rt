@@ -12,15 +12,15 @@ fn tokenize(source: &[u8], slices: &mut Slices<'_>) -> Result<usize, Answer> {
     Ok(lexer::tokenize(text.bytes, slices.kinds, slices.ends))
 }
 
-// The three lines of an answer. The first has the status, and the number of tokens or the refusal's offset.
+// The three lines of an answer. The first has the status, and the number of tokens or the refusal's two numbers.
 pub fn put_lexing(out: &mut impl Write, source: &[u8], slices: &mut Slices<'_>) -> io::Result<()> {
     slices.kinds.fill(filling::SHORT);
     slices.ends.fill(filling::LONG);
     match tokenize(source, slices) {
-        Ok(count) => write_line(out, &[Status::Accepted.into(), count as u64])?,
+        Ok(count) => write_line(out, &[Status::Accepted.into(), count as u64, 0])?,
         Err(refusal) => {
             let row = FourNumbers::from(refusal);
-            write_line(out, &[row.status, row.first])?;
+            write_line(out, &[row.status, row.first, row.second])?;
         }
     }
     write_line(out, slices.kinds)?;

@@ -1,8 +1,8 @@
 -- How long a proper start the bytes begin with, row by row of table 3-7. Assumes nothing.
 use Rattle.std.specs.Prelude.{◌≡◌, refl, List, [], ◌∷◌, Bool, true, false, cond, ℕ, zero, suc, pred, ◌≤◌, ◌<◌, ◌⊎◌, leb, min, length, take}
-use Rattle.std.proofs.Common.{sym, ap, ◌∙◌, inl, inr, arith, leb-true, leb-false, length-take-le}
+use Rattle.std.proofs.Common.{inl, inr, arith, leb-true, leb-false, length-take-le}
 use Rattle.std.proofs.lemmas.Bool.{eqb-true, eq-eqb}
-use Rattle.utf8.specs.Table.{Range, ◌⋯◌, Row, table_3_7, in_range, agree}
+use Rattle.utf8.specs.Table.{Row, table_3_7, in_range, agree}
 use Rattle.utf8.specs.ErrorLen.{start_in, start_length}
 use Rattle.utf8.specs.ErrorLenLaws.{few_starts}
 use Rattle.utf8.proofs.ByRows.{RowAt, fits, found}

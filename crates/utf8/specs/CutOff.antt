@@ -1,7 +1,7 @@
 -- Cut off or wrong: what the second number of an error says. It is 0 exactly where bytes behind the text would make it well formed.
 -- Assumes nothing.
 use Rattle.std.specs.Prelude.{◌≡◌, ◌↔◌, refl, List, [], ◌∷◌, ◌++◌, Bool, true, false, ℕ, suc, ◌+◌, ◌-◌, ◌≤◌, ◌<◌, leb, length, take, drop, Err}
-use Rattle.std.proofs.Common.{sym, ap, ◌∙◌, subst, append-nil, append_assoc, arith, leb-true, leb-false, length-append, length-drop, take-append-drop, length-take-le}
+use Rattle.std.proofs.Common.{sym, ap, ◌∙◌, append-nil, append_assoc, arith, leb-true, leb-false, length-append, length-drop, take-append-drop, length-take-le}
 use Rattle.std.proofs.lemmas.List.{take-append-le}
 use Rattle.std.proofs.Math.Seq.{take-append-add}
 use Rattle.utf8.specs.Table.{table_3_7, char_length}
@@ -11,7 +11,7 @@ use Rattle.utf8.specs.Width.{width, width_pos}
 use Rattle.utf8.specs.ErrorLen.{ProperStart, ErrorLen}
 use Rattle.utf8.specs.ErrorLenLaws.{error_len_is, zero_of_start, start_of_zero, error_len_few}
 use Rattle.utf8.specs.declared.Utf8Error.{Utf8Error}
-use Rattle.utf8.specs.Validate.{validate, validate_from}
+use Rattle.utf8.specs.Validate.{validate}
 use Rattle.utf8.specs.Laws.{validate_after, valid_from, accepts, longest, breaks, append}
 use Rattle.utf8.specs.Characters.{character_starts}
 

@@ -1,9 +1,9 @@
 -- The second number as computed is the one declared, and it is 0 exactly where bytes behind would make the text well formed.
-use Rattle.std.specs.Prelude.{◌≡◌, ◌↔◌, refl, List, [], ◌∷◌, ◌++◌, Bool, true, false, cond, ℕ, zero, suc, ◌+◌, ◌-◌, ◌≤◌, ◌<◌, ◌⊎◌, eqb, leb, max, min, pred, length, take, drop, Err}
-use Rattle.std.proofs.Common.{sym, ap, ◌∙◌, subst, inl, inr, true≢false, arith, leb-true, leb-false, append-nil, append_assoc, length-append, take-append-drop, length-take-le}
+use Rattle.std.specs.Prelude.{◌≡◌, refl, List, [], ◌∷◌, ◌++◌, Bool, true, false, cond, ℕ, zero, suc, ◌≤◌, ◌<◌, eqb, leb, max, min, pred, length, take}
+use Rattle.std.proofs.Common.{sym, ap, ◌∙◌, true≢false, arith, leb-true, leb-false, length-append, length-take-le}
 use Rattle.std.proofs.lemmas.Bool.{eqb-true, eq-eqb}
 use Rattle.std.proofs.Math.Seq.{take-length}
-use Rattle.utf8.specs.Table.{◌⋯◌, Row, table_3_7, in_range, agree, char_length}
+use Rattle.utf8.specs.Table.{◌⋯◌, Row, table_3_7, in_range, agree}
 use Rattle.utf8.specs.TableLaws.{in_range_yes, bounds, sequence_length}
 use Rattle.utf8.specs.WellFormed.{Sequence, done, byte, Character, here, there}
 use Rattle.utf8.specs.ErrorLen.{ProperStart, LongestStart, ErrorLen, cut_off, longest_start, no_start, start_in, start_length, error_len}

@@ -19,6 +19,7 @@ pub mod sequences;
 pub mod shapes;
 pub mod spellings;
 pub mod spread;
+pub mod tails;
 pub mod utf8;
 pub mod written;
 
@@ -26,6 +27,7 @@ use random::Random;
 use reference::MAX_SOURCE;
 use rooms::Plan;
 use spellings::{GLUED, SPELLINGS};
+use tails::Standing;
 
 /// A source and the rooms lent for it.
 #[derive(Debug, Clone, PartialEq, Eq)]
@@ -77,11 +79,13 @@ pub enum Family {
     Pairs,
     /// Every spelling in every place, every class of characters at its bounds, and names that are nearly a word.
     Places,
+    /// Bytes that are no UTF-8 behind texts that are, and scripts that are cut off.
+    Tails,
 }
 
 impl Family {
-    /// The families for the whole reader; the first ten are the lexer's.
-    pub const ALL: [Self; 16] = [
+    /// The families for the whole reader; the first ten are the lexer's, and the first sixteen those that programs are asked.
+    pub const ALL: [Self; 17] = [
         Self::Examples,
         Self::Spaced,
         Self::Joined,
@@ -98,8 +102,10 @@ impl Family {
         Self::Slices,
         Self::Pairs,
         Self::Places,
+        Self::Tails,
     ];
     pub const LEXER: &'static [Self] = Self::ALL.split_at(10).0;
+    pub const PROGRAM: &'static [Self] = Self::ALL.split_at(16).0;
 
     pub fn name(self) -> String {
         format!("{self:?}").to_lowercase()
@@ -178,6 +184,10 @@ fn sources(family: Family, size: Size) -> Sources {
         Family::Slices => Box::new(examples::documented().chain(sampled(200, any_source))),
         Family::Pairs => sampled(PAIRS, pairs::joined),
         Family::Places => Box::new(places::all().chain(lexical::bounds()).chain(near::all())),
+        Family::Tails => {
+            let standing = if size == Size::Ci { Standing::One } else { Standing::Bounds };
+            Box::new(tails::all(standing).chain(sampled(30_000, tails::broken_script)))
+        },
     }
 }
 

@@ -30,6 +30,15 @@ fn wrong_count(source: &[u8], mut lent: Lent) -> u64 {
     status
 }
 
+/// Says of every source that is no UTF-8 that it is cut off.
+fn wrong_second(source: &[u8], mut lent: Lent) -> u64 {
+    let status = answer_into(source, &mut lent);
+    if status == 2 {
+        lent.counts[1] = 0;
+    }
+    status
+}
+
 /// Drops the diagnostics of long sources, so that those of a join are not its parts'.
 fn wrong_join(source: &[u8], mut lent: Lent) -> u64 {
     let status = answer_into(source, &mut lent);
@@ -51,6 +60,13 @@ fn faults_are_found() {
     for fault in [wrong_status, wrong_entry, wrong_count] {
         assert!(!run(fault, some_cases()).agrees());
     }
+}
+
+#[test]
+fn second_numbers_are_compared() {
+    let some = || cases(&[Family::Tails], Size::Ci).step_by(97);
+    assert!(run(right, some()).agrees());
+    assert!(!run(wrong_second, some()).agrees());
 }
 
 #[test]

@@ -17,13 +17,13 @@ pub fn part(limits: Limits) -> Part {
     }
 }
 
-/// Answer: status and value, kinds, ends. The other slices are empty.
+/// Answer: status and two values, kinds, ends. The other slices are empty.
 fn exchange(case: &Case, limits: Limits) -> Exchange {
-    let (status, value, tokens) = match answer::text(&case.source) {
-        Err([status, value, ..]) => (status, value, Vec::new()),
+    let (row, tokens) = match answer::text(&case.source) {
+        Err([status, first, second, _]) => ([status, first, second], Vec::new()),
         Ok(text) => {
             let tokens = reference::tokens(text);
-            (0, tokens.len() as u64, tokens)
+            ([0, tokens.len() as u64, 0], tokens)
         },
     };
     let needs = Needs { tokens: tokens.len(), ..Needs::default() };
@@ -33,7 +33,7 @@ fn exchange(case: &Case, limits: Limits) -> Exchange {
     slices.write_tokens(&tokens);
 
     let mut expected = Vec::new();
-    push_line(&mut expected, [status, value]);
+    push_line(&mut expected, row);
     push_line(&mut expected, slices.token_kinds);
     push_line(&mut expected, slices.token_ends);
     Exchange { frame: frame(Asked::Tokens, &case.source, rooms), expected }

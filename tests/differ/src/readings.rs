@@ -13,7 +13,7 @@ use crate::part::{Exchange, Limits, Part, push_line};
 pub fn part(limits: Limits) -> Part {
     Part {
         name: "readings",
-        families: &Family::ALL,
+        families: Family::PROGRAM,
         exchange: Box::new(move |case| exchange(case, limits)),
     }
 }

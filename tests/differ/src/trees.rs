@@ -12,7 +12,7 @@ use crate::part::{Exchange, Part};
 const LONGEST: usize = 2_049;
 
 pub fn part() -> Part {
-    Part { name: "trees", families: &Family::ALL, exchange: Box::new(exchange) }
+    Part { name: "trees", families: Family::PROGRAM, exchange: Box::new(exchange) }
 }
 
 /// Answer: what `tree` prints. The rooms are those of `tree`.

@@ -31,6 +31,7 @@ fn wrong_tokens_are_caught() {
 fn wrong_refusals_are_caught() {
     LEXER.caught("limit", "--family edges", "mismatch in edges");
     LEXER.caught("offset", "--every 13", "mismatch in utf8");
+    LEXER.caught("second", "--every 13", "mismatch in utf8");
     LEXER.caught("touch", "--every 13", "mismatch in lexical");
     LEXER.caught("accept", "--family utf8", "source   \\xed\\xa0\\x80");
 }

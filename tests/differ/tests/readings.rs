@@ -44,6 +44,7 @@ fn wrong_counts_are_caught() {
 fn wrong_refusals_are_caught() {
     READER.caught("limit", "--family edges", "mismatch in edges");
     READER.caught("offset", "--family utf8", "mismatch in utf8");
+    READER.caught("second", "--family utf8", "mismatch in utf8");
     READER.caught("tokens", "--family slices", "mismatch in slices");
     READER.caught("first", "--family spaced --every 9", "mismatch in spaced");
     READER.caught("touch", "--family samples --every 9", "mismatch in samples");

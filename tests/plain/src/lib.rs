@@ -1,6 +1,6 @@
 //! A lexer of bytes as one writes it by hand in Rust. It is independent of the reference.
 
-use std::str;
+use std::str::{self, Utf8Error};
 
 /// The kinds' numbers; a token of kind Error is 1.
 pub mod kind {
@@ -40,9 +40,9 @@ pub mod kind {
     pub const STAR: u16 = 59;
 }
 
-/// The number of tokens, or where the bytes stop being UTF-8. Tokens that fit are written.
-pub fn lex(source: &[u8], kinds: &mut [u16], ends: &mut [u32]) -> Result<usize, usize> {
-    str::from_utf8(source).map_err(|error| error.valid_up_to())?;
+/// The number of tokens, or how the bytes stop being UTF-8. Tokens that fit are written.
+pub fn lex(source: &[u8], kinds: &mut [u16], ends: &mut [u32]) -> Result<usize, Utf8Error> {
+    str::from_utf8(source)?;
     let room = kinds.len().min(ends.len());
     let (mut start, mut count) = (0, 0);
     while start < source.len() {

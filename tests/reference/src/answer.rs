@@ -146,7 +146,10 @@ pub fn text(source: &[u8]) -> Result<&str, [u64; 4]> {
     if source.len() > MAX_SOURCE {
         return Err([1, 0, 0, 0]);
     }
-    str::from_utf8(source).map_err(|error| [2, error.valid_up_to() as u64, 0, 0])
+    str::from_utf8(source).map_err(|error| {
+        let second = error.error_len().unwrap_or(0);
+        [2, error.valid_up_to() as u64, second as u64, 0]
+    })
 }
 
 pub fn reading(source: &[u8]) -> Reading {

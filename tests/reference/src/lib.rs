@@ -10,6 +10,7 @@ pub mod ast;
 pub mod joined;
 pub mod messages;
 pub mod parsed;
+pub mod second;
 pub mod tree;
 
 // Names that the upstream sources expect at the crate root.

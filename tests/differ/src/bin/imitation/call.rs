@@ -61,7 +61,10 @@ impl Call {
         let source = self.source.clone();
         let text = match std::str::from_utf8(&source) {
             Ok(text) => text,
-            Err(error) => return [2, error.valid_up_to() as u64, 0, 0],
+            Err(error) => {
+                let second = error.error_len().unwrap_or_default();
+                return [2, error.valid_up_to() as u64, second as u64, 0];
+            },
         };
         let tokens = tokens(text);
         self.put_tokens(&tokens);

@@ -51,6 +51,7 @@ pub fn spoil(fault: &str, call: &mut Call, numbers: &mut [u64; 4]) {
         "event" => replace(&mut call.events, 60, 1),
         "message" => replace(&mut call.messages, 9, 8),
         "offset" if status == 2 && numbers[1] > 30 => numbers[1] += 1,
+        "second" if status == 2 && numbers[2] == 3 => numbers[2] = 2,
         "tokens" if status == 3 => call.kinds.fill(43690),
         "first" if status == 4 && numbers[1] > 0 => numbers[1] -= 1,
         "touch" if status == 4 && !call.events.is_empty() => call.events[0] = 2,

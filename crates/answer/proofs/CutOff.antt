@@ -1,0 +1,100 @@
+-- A call returns 2 exactly where the source is not too long and not UTF-8, and what it then says.
+-- Assumes nothing.
+use Rattle.std.specs.Prelude.{Option, None, Some, Ok, Err, ℕ, ◌≤◌, ◌≡◌, refl, Bool, true, false, cond, ◌||◌, List, ◌∷◌, ltb, length, drop}
+use Rattle.std.proofs.Common.{sym, ap, ◌∙◌, subst, arith}
+use borrow.Author.Tests.{ltb-false, le-ltb}
+use Rattle.utf8.specs.WellFormed.{WellFormed}
+use Rattle.utf8.specs.declared.Utf8Error.{Utf8Error}
+use Rattle.utf8.specs.Validate.{Validity, validate}
+use Rattle.utf8.specs.Laws.{accepted, longest}
+use Rattle.utf8.specs.CutOff.{breaks_off}
+use Rattle.lexer.specs.Lexer.{tokenize}
+use Rattle.lexer.specs.Tokens.{MAX_SOURCE}
+use Rattle.marks.specs.Marks.{first_refused}
+use Rattle.answer.specs.declared.Answer.{Answer}
+use Rattle.answer.specs.declared.Answer.TheVariants as answer
+use Rattle.answer.specs.Answer.{Slices, Outcome, token_room, with_tokens, short}
+use Rattle.answer.specs.Answer.{from_row_5, from_row_4, from_row_3, from_row_2, parse_text}
+use Rattle.answer.specs.Numbers.{numbers}
+use Rattle.answer.specs.Call.{Reply, reply, answer_reply, call, MasmParseText}
+use Rattle.answer.specs.CutOff.{BrokenText}
+
+abbrev status_of : Outcome → ℕ
+status_of o = (numbers o.answer).status
+
+-- row 2 does not hold, or it answers
+pub record SecondRow (source : List ℕ) (counts : List ℕ) : Type 0 where
+  pub words : 3 ≤ length counts
+  pub small : length source ≤ MAX_SOURCE
+  pub error : Utf8Error
+  pub refuses : validate source ≡ Err error
+
+module _ (source : List ℕ) where
+  -- no row behind row 2 returns 2
+  not_from_row_5 : (s : Slices) → status_of (from_row_5 source s) ≡ 2 → ⊥
+  unfolding from_row_5
+  not_from_row_5 s = by_room (short source s) _ _ _
+    where
+      by_room : (t : Bool) (n e d : ℕ) → (numbers (cond t answer.OutputRoom answer.Accepted n e d)).status ≡ 2 → ⊥
+      by_room true n e d h = absurd (omega arith)
+      by_room false n e d h = absurd (omega arith)
+
+  not_from_row_4 : (q : Option ℕ) (s : Slices) → status_of (from_row_4 q source s) ≡ 2 → ⊥
+  unfolding from_row_4
+  not_from_row_4 None s h = not_from_row_5 s h
+  not_from_row_4 (Some n) s h = absurd (omega arith)
+
+  not_from_row_3 : (s : Slices) → status_of (from_row_3 source s) ≡ 2 → ⊥
+  unfolding from_row_3
+  not_from_row_3 s = by_room (ltb (token_room s) (length (tokenize source)))
+    where
+      by_room : (t : Bool) → status_of (cond t (record { answer = answer.TokenRoom (length (tokenize source)); slices = s }) (from_row_4 (first_refused 0 (tokenize source)) source s)) ≡ 2 → ⊥
+      by_room true h = absurd (omega arith)
+      by_room false h = not_from_row_4 (first_refused 0 (tokenize source)) s h
+
+  from_row_2_errs : (v : Validity) (s : Slices) → status_of (from_row_2 v source s) ≡ 2 → (e : Utf8Error) × (v ≡ Err e)
+  unfolding from_row_2
+  from_row_2_errs (Ok _) s h = absurd (not_from_row_3 (with_tokens source s) h)
+  from_row_2_errs (Err e) s h = (e, refl)
+
+  second_row : (s : Slices) (counts : List ℕ) → (call source s counts).status ≡ 2 → SecondRow source counts
+  unfolding call parse_text
+  second_row s counts = by_words (ltb (length counts) 3) refl
+    where
+      by_length : (t : Bool) → ltb MAX_SOURCE (length source) ≡ t → 3 ≤ length counts
+          → status_of (cond t (record { answer = answer.TooLong; slices = s }) (from_row_2 (validate source) source s)) ≡ 2 → SecondRow source counts
+      by_length true k w h = absurd (omega arith)
+      by_length false k w h =
+          let r = from_row_2_errs (validate source) s h in
+          record { words = w; small = ltb-false MAX_SOURCE (length source) k; error = r.0; refuses = r.1 }
+
+      by_words : (t : Bool) → ltb (length counts) 3 ≡ t
+          → (cond t (reply 6 s counts) (answer_reply (parse_text source s) counts)).status ≡ 2 → SecondRow source counts
+      by_words true k h = absurd (omega arith)
+      by_words false k h = by_length (ltb MAX_SOURCE (length source)) refl (ltb-false (length counts) 3 k) h
+
+  reply_of_second_row : (s : Slices) (counts : List ℕ) (r : SecondRow source counts)
+      → call source s counts ≡ reply 2 s (r.error.valid_up_to ∷ r.error.error_len ∷ 0 ∷ drop 3 counts)
+  unfolding call parse_text from_row_2
+  reply_of_second_row s counts r = rw (le-ltb (length counts) 3 r.words, le-ltb MAX_SOURCE (length source) r.small, r.refuses) refl
+
+  module _ (s : Slices) (counts : List ℕ) {r : ℕ} {s' : Slices} {counts' : List ℕ} (c : MasmParseText source s counts r s' counts') where
+    pub broken_text : r ≡ 2 → BrokenText source s counts s' counts'
+    broken_text z =
+        let row = second_row s counts (sym c.status_is ∙ z) in
+        let k = reply_of_second_row s counts row in
+        rw (c.counts_are ∙ ap (λ (x : Reply). x.counts) k)
+        record {
+          longest = longest source row.error row.refuses;
+          breaks_off = breaks_off source row.error row.refuses;
+          third = refl;
+          slices_are = c.slices_are ∙ ap (λ (x : Reply). x.slices) k;
+        }
+
+    pub not_utf8_refused : 3 ≤ length counts → length source ≤ MAX_SOURCE → (WellFormed source → ⊥) → r ≡ 2
+    not_utf8_refused words small broken = by_validity (validate source) refl
+      where
+        by_validity : (v : Validity) → validate source ≡ v → r ≡ 2
+        by_validity (Ok _) e = absurd (broken (accepted source e))
+        by_validity (Err e) refuses =
+            c.status_is ∙ ap (λ (x : Reply). x.status) (reply_of_second_row s counts record { words = words; small = small; error = e; refuses = refuses })
