@@ -46,13 +46,20 @@ extern "C" {
 enum masm_status {
     MASM_ACCEPTED = 0,     /* T, E, D, the numbers of tokens, events and diagnostics; all of them */
     MASM_TOO_LONG = 1,     /* 0, 0, 0: over MASM_MAX_SOURCE bytes; nothing */
-    MASM_NOT_UTF8 = 2,     /* offset, 0, 0: where the longest well-formed start ends; nothing */
+    MASM_NOT_UTF8 = 2,     /* offset, length, 0: where the longest well-formed start ends, and how
+                              many bytes are wrong there, or MASM_CUT_OFF; nothing */
     MASM_TOKEN_SHORT = 3,  /* T, 0, 0: more tokens than fit; the first that fit */
     MASM_UNWANTED = 4,     /* offset, 0, 0: of the first `use` or `extern`; all tokens */
     MASM_OUTPUT_SHORT = 5, /* T, E, D: more events or diagnostics than fit; all tokens, and the
                               first events and diagnostics that fit */
     MASM_COUNTS_SHORT = 6  /* nothing, counts too: it is shorter than MASM_COUNTS */
 };
+
+/* In counts[1] behind MASM_NOT_UTF8: the source ends in the middle of a character, as when its
+   transfer breaks off, and more bytes could make it well formed. Otherwise no bytes behind it could:
+   1, 2 or 3 bytes from the offset on are wrong together, the longest start of a character that
+   stands there, or the one byte that starts none. */
+#define MASM_CUT_OFF 0u
 
 /* Kinds. 1 to 26 are nodes, 27 to 59 tokens; a token may also be of kind MASM_ERROR. */
 enum masm_kind {

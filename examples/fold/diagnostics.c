@@ -109,13 +109,26 @@ void show_diagnostics(const struct reading *r)
     end_row();
 }
 
+/* Bytes that are not UTF-8 and why: the file was cut off, or it holds something else. */
+static void show_broken_text(const struct reading *r, const char *label)
+{
+    size_t offset = r->counts[0], wrong = r->counts[1];
+    if (wrong == MASM_CUT_OFF)
+        show_report(r, offset, r->length, label,
+                    "the file ends in the middle of a character, as when a transfer breaks off");
+    else
+        show_report(r, offset, offset + wrong, label,
+                    wrong == 1 ? "a byte that cannot stand here: the file is not UTF-8"
+                               : "bytes that cannot stand here: the file is not UTF-8");
+}
+
 void show_refusal(const struct reading *r, uint64_t status)
 {
     static const char LABEL[] = "refused";
     size_t offset = r->counts[0], end = offset;
     show_title("   line    item", r->name);
     if (status == MASM_NOT_UTF8) {
-        show_report(r, offset, end, LABEL, "from this byte on it is not UTF-8");
+        show_broken_text(r, LABEL);
     } else if (status == MASM_UNWANTED) {
         end += r->source[offset] == 'u' ? strlen("use") : strlen("extern");
         show_report(r, offset, end, LABEL, "`use` and `extern` are not allowed");

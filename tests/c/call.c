@@ -78,7 +78,7 @@ static struct row row_of(const struct full *full, struct rooms rooms)
     if (full->status == MASM_TOO_LONG)
         return (struct row){ .status = MASM_TOO_LONG };
     if (full->status == MASM_NOT_UTF8)
-        return (struct row){ .status = MASM_NOT_UTF8, .counts = { full->offset } };
+        return (struct row){ .status = MASM_NOT_UTF8, .counts = { full->offset, full->second } };
     if (t > tokens)
         return (struct row){ .status = MASM_TOKEN_SHORT, .counts = { t }, .tokens = tokens };
     if (full->status == MASM_UNWANTED)

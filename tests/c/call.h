@@ -15,6 +15,7 @@ struct list {
 struct full {
     uint64_t status; /* 0, 1, 2 or 4 */
     uint64_t offset; /* for 2 and 4 */
+    uint64_t second; /* for 2 */
     struct list token_kinds, token_ends, events, messages, starts, ends;
 };
 

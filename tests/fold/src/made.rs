@@ -1,6 +1,6 @@
 //! Scripts without end: those of the fuzzer, and what matters to a view put into them.
 
-use corpus::random::Random;
+use corpus::{random::Random, tails::broken_script};
 use fuzz::{check::Input, generate::case};
 
 /// Quotes over lines, line ends of all sorts, letters, delimiters left open, words that start items.
@@ -17,12 +17,18 @@ const PIECES: [&str; 44] = [
 /// A line that is wrapped more than once.
 const LONGEST: usize = 300;
 
+/// One in so many scripts is cut in a character, or has a wrong byte in one.
+const BROKEN: usize = 20;
+
 /// One in so many scripts stands behind blocks up to the limit of depth, or beyond it.
 const DEEP: usize = 40;
 
 /// The script of a number; the same for the same seed.
 pub fn script(seed: u64, number: u64) -> (Vec<u8>, Random) {
     let (input, mut random) = case(seed, number);
+    if random.one_in(BROKEN) {
+        return (broken_script(&mut random), random);
+    }
     let mut source = match input {
         Input::Source(source) => source,
         Input::Pair(first, second) => [first, second].concat(),

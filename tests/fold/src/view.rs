@@ -18,6 +18,8 @@ use crate::{
 
 const MISSING: &str = "no_such_name";
 
+const CUT_OFF: &str = "the file ends in the middle of a character, as when a transfer breaks off";
+
 /// How `fold` is called.
 #[derive(Debug, Clone)]
 pub struct View {
@@ -89,11 +91,11 @@ impl View {
                 (i32::from(!tree.diagnostics.is_empty()), self.check_rows(&tree, &rows)?)
             },
             Reading::Refused(numbers) => {
-                self.check_refusal(source, numbers[0], numbers[1] as usize, &rows)?;
+                self.check_refusal(source, numbers, &rows)?;
                 (2, Seen::default())
             },
             Reading::Unwanted(_, offset) => {
-                self.check_refusal(source, 4, *offset, &rows)?;
+                self.check_refusal(source, &[4, *offset as u64, 0, 0], &rows)?;
                 (2, Seen::default())
             },
         };
@@ -141,14 +143,16 @@ impl View {
     fn check_refusal(
         &self,
         source: &[u8],
-        status: u64,
-        offset: usize,
+        numbers: &[u64; 4],
         rows: &[Row],
     ) -> Result<(), String> {
         let [head, rows @ ..] = rows else { return Err("no rows".to_string()) };
         check_head(head, "   line    item")?;
+        let [status, offset, second] = [0, 1, 2].map(|at| numbers[at] as usize);
         let (words, length) = match status {
-            2 => ("from this byte on it is not UTF-8", 0),
+            2 if second == 0 => (CUT_OFF, source.len() - offset),
+            2 if second == 1 => ("a byte that cannot stand here: the file is not UTF-8", 1),
+            2 => ("bytes that cannot stand here: the file is not UTF-8", second),
             4 if source[offset] == b'u' => ("`use` and `extern` are not allowed", 3),
             4 => ("`use` and `extern` are not allowed", 6),
             _ => {
