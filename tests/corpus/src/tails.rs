@@ -24,6 +24,9 @@ const CLASSES: [(u8, u8); 14] = [
     (0xF5, 0xFF),
 ];
 
+/// Characters of two bytes to four.
+const WIDE: [char; 7] = ['é', '\u{7FF}', '€', '\u{D7FF}', '\u{FFFD}', '😀', '\u{10FFFF}'];
+
 /// Which bytes stand for a class.
 #[derive(Debug, Clone, Copy, PartialEq, Eq)]
 pub enum Standing {
@@ -45,7 +48,8 @@ pub fn starts() -> Vec<Vec<u8>> {
 
 /// All tails of one byte and of up to four.
 pub fn tails(standing: Standing) -> impl Iterator<Item = Vec<u8>> {
-    let bytes: Vec<u8> = CLASSES.into_iter().flat_map(|class| standing_for(class, standing)).collect();
+    let bytes: Vec<u8> =
+        CLASSES.into_iter().flat_map(|class| standing_for(class, standing)).collect();
     (1..=LONGEST).flat_map(move |length| {
         let bytes = bytes.clone();
         (0..bytes.len().pow(length)).map(move |number| spelled(&bytes, number, length))
@@ -79,7 +83,7 @@ pub fn broken_script(random: &mut Random) -> Vec<u8> {
     let mut text = script(random, 200);
     for _ in 0..random.between(1, 8) {
         let at = text.floor_char_boundary(random.below(text.len() + 1));
-        text.insert(at, random.pick(&['é', '\u{7FF}', '€', '\u{D7FF}', '\u{FFFD}', '😀', '\u{10FFFF}']));
+        text.insert(at, random.pick(&WIDE));
     }
     let wide: Vec<usize> = (0..text.len()).filter(|at| text.as_bytes()[*at] >= 0x80).collect();
     let mut bytes = text.into_bytes();

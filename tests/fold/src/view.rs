@@ -140,12 +140,7 @@ impl View {
         Ok(seen)
     }
 
-    fn check_refusal(
-        &self,
-        source: &[u8],
-        numbers: &[u64; 4],
-        rows: &[Row],
-    ) -> Result<(), String> {
+    fn check_refusal(&self, source: &[u8], numbers: &[u64; 4], rows: &[Row]) -> Result<(), String> {
         let [head, rows @ ..] = rows else { return Err("no rows".to_string()) };
         check_head(head, "   line    item")?;
         let [status, offset, second] = [0, 1, 2].map(|at| numbers[at] as usize);

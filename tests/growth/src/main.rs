@@ -2,6 +2,7 @@
 //! linear, the second count is about twice the first. Names that are as long as no word take as
 //! many instructions whatever their letters.
 
+mod broken;
 mod callgrind;
 mod measure;
 mod names;
@@ -81,7 +82,7 @@ fn run(Options { size, only, markdown, program }: Options) -> Result<usize, Stri
     let table = Table { markdown, greatest: GREATEST };
     table.print_head(measure.sizes);
     let mut rows = Vec::new();
-    let chosen: Vec<_> = families().filter(|(name, _)| name.contains(&only)).collect();
+    let chosen: Vec<_> = families().filter(|(name, ..)| name.contains(&only)).collect();
     for families in chosen.chunks(TOGETHER) {
         for row in measure.rows(families) {
             let row = row?;

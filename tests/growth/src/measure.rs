@@ -4,10 +4,13 @@ use std::thread;
 
 use corpus::{random::Random, script::script, shapes::SHAPES};
 
-use crate::{callgrind::Counted, names};
+use crate::{broken, callgrind::Counted, names};
 
 /// The most bytes of the script that is repeated; it is made a little shorter.
 const SCRIPT: usize = 8_192;
+
+/// What the call returns of a source that it reads whole.
+pub const ACCEPTED: u64 = 0;
 
 /// Counts for one function and two sizes.
 pub struct Measure {
@@ -27,16 +30,18 @@ pub struct Row {
 /// A family's source of a size.
 pub type Make = Box<dyn Fn(usize) -> Vec<u8> + Sync>;
 
-/// A family's name, and its sources.
-pub type Family = (&'static str, Make);
+/// A family's name, what the call returns, and its sources.
+pub type Family = (&'static str, u64, Make);
 
 pub fn families() -> impl Iterator<Item = Family> {
     let scripts: Make = Box::new(scripts);
     let shapes = SHAPES.iter().map(|shape| {
         let make: Make = Box::new(|size| shape.sized(size));
-        (shape.name, make)
+        (shape.name, ACCEPTED, make)
     });
-    [("a script", scripts)].into_iter().chain(shapes).chain(names::families())
+    let accepted =
+        [("a script", ACCEPTED, scripts)].into_iter().chain(shapes).chain(names::families());
+    accepted.chain(broken::families())
 }
 
 /// One script again and again, so that both sizes hold the same mixture.
@@ -53,23 +58,29 @@ impl Measure {
         thread::scope(|scope| {
             let measured: Vec<_> = families
                 .iter()
-                .map(|(name, make)| scope.spawn(move || self.row(name, self.sizes.map(make))))
+                .map(|(name, status, make)| {
+                    scope.spawn(move || self.row(name, *status, self.sizes.map(make)))
+                })
                 .collect();
             measured.into_iter().map(|row| row.join().expect("a row is measured")).collect()
         })
     }
 
-    /// Every family's source is accepted: its answer is 0 and the number of tokens, then more.
-    fn row(&self, name: &'static str, sources: [Vec<u8>; 2]) -> Result<Row, String> {
+    /// The answer to every family's source is its status and, where it is accepted, the number of tokens, then more.
+    fn row(&self, name: &'static str, status: u64, sources: [Vec<u8>; 2]) -> Result<Row, String> {
         let mut row = Row { name, bytes: sources[1].len(), tokens: 0, instructions: [0; 2] };
         for (source, instructions) in sources.iter().zip(&mut row.instructions) {
             let run = self.counted.run(source)?;
             let numbers: Vec<u64> =
                 run.answer.split(' ').filter_map(|number| number.parse().ok()).collect();
-            let [0, tokens, ..] = numbers[..] else {
-                return Err(format!("{name}: not accepted, but answered `{}`", run.answer));
+            let [returned, first, ..] = numbers[..] else {
+                return Err(format!("{name}: answered `{}`", run.answer));
             };
-            (row.tokens, *instructions) = (tokens, run.instructions);
+            if returned != status {
+                return Err(format!("{name}: not {status}, but answered `{}`", run.answer));
+            }
+            row.tokens = if status == ACCEPTED { first } else { 0 };
+            *instructions = run.instructions;
         }
         Ok(row)
     }

@@ -3,7 +3,7 @@
 
 use corpus::near;
 
-use crate::measure::{Family, Make, Row};
+use crate::measure::{ACCEPTED, Family, Make, Row};
 
 const ONWARD: &str = "names that go on from a word";
 const TURNED: &str = "names of the same letters";
@@ -14,7 +14,7 @@ const LENGTHS: [usize; 3] = [8, 10, 11];
 pub fn families() -> [Family; 2] {
     let onward: Make = Box::new(|size| block(size, str::to_string));
     let turned: Make = Box::new(|size| block(size, turned));
-    [(ONWARD, onward), (TURNED, turned)]
+    [(ONWARD, ACCEPTED, onward), (TURNED, ACCEPTED, turned)]
 }
 
 /// The longest block of all the names, again and again, of at most this size.

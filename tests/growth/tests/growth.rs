@@ -38,7 +38,7 @@ fn growth_is_told() {
     assert!(!success && text.lines().any(found), "{text}");
 
     let (success, text) = growth(NEWLINES, "refuse", "paced");
-    assert!(!success && text.contains("newlines behind `pub`: not accepted"), "{text}");
+    assert!(!success && text.contains("newlines behind `pub`: not 0, but answered `1 "), "{text}");
 
     let (success, text) = growth(NAMES, "linear", "paced");
     assert!(success && text.contains("growth: 2 families, 0 above 2.1"), "{text}");
