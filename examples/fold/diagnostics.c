@@ -118,8 +118,8 @@ static void show_broken_text(const struct reading *r, const char *label)
                     "the file ends in the middle of a character, as when a transfer breaks off");
     else
         show_report(r, offset, offset + wrong, label,
-                    wrong == 1 ? "a byte that cannot stand here: the file is not UTF-8"
-                               : "bytes that cannot stand here: the file is not UTF-8");
+                    wrong == 1 ? "a byte that cannot stand here: not UTF-8"
+                               : "bytes that cannot stand here: not UTF-8");
 }
 
 void show_refusal(const struct reading *r, uint64_t status)

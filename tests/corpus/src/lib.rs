@@ -27,7 +27,6 @@ use random::Random;
 use reference::MAX_SOURCE;
 use rooms::Plan;
 use spellings::{GLUED, SPELLINGS};
-use tails::Standing;
 
 /// A source and the rooms lent for it.
 #[derive(Debug, Clone, PartialEq, Eq)]
@@ -185,8 +184,7 @@ fn sources(family: Family, size: Size) -> Sources {
         Family::Pairs => sampled(PAIRS, pairs::joined),
         Family::Places => Box::new(places::all().chain(lexical::bounds()).chain(near::all())),
         Family::Tails => {
-            let standing = if size == Size::Ci { Standing::One } else { Standing::Bounds };
-            Box::new(tails::all(standing).chain(sampled(30_000, tails::broken_script)))
+            Box::new(tails::behind_starts().chain(sampled(30_000, tails::broken_script)))
         },
     }
 }

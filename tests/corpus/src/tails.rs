@@ -70,9 +70,9 @@ fn spelled(bytes: &[u8], number: usize, length: u32) -> Vec<u8> {
 }
 
 /// Every tail behind every start.
-pub fn all(standing: Standing) -> impl Iterator<Item = Vec<u8>> {
+pub fn behind_starts() -> impl Iterator<Item = Vec<u8>> {
     let starts = starts();
-    tails(standing).flat_map(move |tail| {
+    tails(Standing::Bounds).flat_map(move |tail| {
         let behind = starts.iter().map(|start| [start, &tail[..]].concat());
         behind.collect::<Vec<_>>()
     })

@@ -18,7 +18,7 @@ const PIECES: [&str; 44] = [
 const LONGEST: usize = 300;
 
 /// One in so many scripts is cut in a character, or has a wrong byte in one.
-const BROKEN: usize = 20;
+const BROKEN: u64 = 20;
 
 /// One in so many scripts stands behind blocks up to the limit of depth, or beyond it.
 const DEEP: usize = 40;
@@ -26,7 +26,7 @@ const DEEP: usize = 40;
 /// The script of a number; the same for the same seed.
 pub fn script(seed: u64, number: u64) -> (Vec<u8>, Random) {
     let (input, mut random) = case(seed, number);
-    if random.one_in(BROKEN) {
+    if number.is_multiple_of(BROKEN) {
         return (broken_script(&mut random), random);
     }
     let mut source = match input {

@@ -146,8 +146,8 @@ impl View {
         let [status, offset, second] = [0, 1, 2].map(|at| numbers[at] as usize);
         let (words, length) = match status {
             2 if second == 0 => (CUT_OFF, source.len() - offset),
-            2 if second == 1 => ("a byte that cannot stand here: the file is not UTF-8", 1),
-            2 => ("bytes that cannot stand here: the file is not UTF-8", second),
+            2 if second == 1 => ("a byte that cannot stand here: not UTF-8", 1),
+            2 => ("bytes that cannot stand here: not UTF-8", second),
             4 if source[offset] == b'u' => ("`use` and `extern` are not allowed", 3),
             4 => ("`use` and `extern` are not allowed", 6),
             _ => {
