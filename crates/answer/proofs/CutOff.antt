@@ -1,7 +1,7 @@
 -- A call returns 2 exactly where the source is not too long and not UTF-8, and what it then says.
 -- Assumes nothing.
-use Rattle.std.specs.Prelude.{Option, None, Some, Ok, Err, ℕ, ◌≤◌, ◌≡◌, refl, Bool, true, false, cond, ◌||◌, List, ◌∷◌, ltb, length, drop}
-use Rattle.std.proofs.Common.{sym, ap, ◌∙◌, subst, arith}
+use Rattle.std.specs.Prelude.{Option, None, Some, Ok, Err, ℕ, ◌≤◌, ◌≡◌, refl, Bool, true, false, cond, List, ◌∷◌, ltb, length, drop}
+use Rattle.std.proofs.Common.{sym, ap, ◌∙◌, arith}
 use borrow.Author.Tests.{ltb-false, le-ltb}
 use Rattle.utf8.specs.WellFormed.{WellFormed}
 use Rattle.utf8.specs.declared.Utf8Error.{Utf8Error}
@@ -11,9 +11,8 @@ use Rattle.utf8.specs.CutOff.{breaks_off}
 use Rattle.lexer.specs.Lexer.{tokenize}
 use Rattle.lexer.specs.Tokens.{MAX_SOURCE}
 use Rattle.marks.specs.Marks.{first_refused}
-use Rattle.answer.specs.declared.Answer.{Answer}
 use Rattle.answer.specs.declared.Answer.TheVariants as answer
-use Rattle.answer.specs.Answer.{Slices, Outcome, token_room, with_tokens, short}
+use Rattle.answer.specs.Answer.{Slices, Outcome, outcome, token_room, with_tokens, short}
 use Rattle.answer.specs.Answer.{from_row_5, from_row_4, from_row_3, from_row_2, parse_text}
 use Rattle.answer.specs.Numbers.{numbers}
 use Rattle.answer.specs.Call.{Reply, reply, answer_reply, call, MasmParseText}
@@ -48,7 +47,10 @@ module _ (source : List ℕ) where
   unfolding from_row_3
   not_from_row_3 s = by_room (ltb (token_room s) (length (tokenize source)))
     where
-      by_room : (t : Bool) → status_of (cond t (record { answer = answer.TokenRoom (length (tokenize source)); slices = s }) (from_row_4 (first_refused 0 (tokenize source)) source s)) ≡ 2 → ⊥
+      t : ℕ
+      t = length (tokenize source)
+
+      by_room : (f : Bool) → status_of (cond f (outcome (answer.TokenRoom t) s) (from_row_4 (first_refused 0 (tokenize source)) source s)) ≡ 2 → ⊥
       by_room true h = absurd (omega arith)
       by_room false h = not_from_row_4 (first_refused 0 (tokenize source)) s h
 
@@ -62,7 +64,7 @@ module _ (source : List ℕ) where
   second_row s counts = by_words (ltb (length counts) 3) refl
     where
       by_length : (t : Bool) → ltb MAX_SOURCE (length source) ≡ t → 3 ≤ length counts
-          → status_of (cond t (record { answer = answer.TooLong; slices = s }) (from_row_2 (validate source) source s)) ≡ 2 → SecondRow source counts
+          → status_of (cond t (outcome answer.TooLong s) (from_row_2 (validate source) source s)) ≡ 2 → SecondRow source counts
       by_length true k w h = absurd (omega arith)
       by_length false k w h =
           let r = from_row_2_errs (validate source) s h in
@@ -97,4 +99,5 @@ module _ (source : List ℕ) where
         by_validity : (v : Validity) → validate source ≡ v → r ≡ 2
         by_validity (Ok _) e = absurd (broken (accepted source e))
         by_validity (Err e) refuses =
-            c.status_is ∙ ap (λ (x : Reply). x.status) (reply_of_second_row s counts record { words = words; small = small; error = e; refuses = refuses })
+            let row : SecondRow source counts = record { words = words; small = small; error = e; refuses = refuses } in
+            c.status_is ∙ ap (λ (x : Reply). x.status) (reply_of_second_row s counts row)

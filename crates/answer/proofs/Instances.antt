@@ -1,15 +1,18 @@
--- Demand 3 and the bounds of Facts at concrete calls, so that a premise more or a bound less sharp is refused.
+-- Demand 3, the bounds of Facts and M-105's numbers at concrete calls, so that a premise more or a bound less sharp is refused.
 -- Assumes nothing.
 use Rattle.std.specs.Prelude.{ℕ, ◌≤◌, ◌≡◌, refl, List, [], ◌∷◌}
 use Rattle.std.proofs.Common.{arith}
 use Rattle.utf8.specs.Laws.{accepted as well_formed}
+use Rattle.utf8.specs.CutOff.{Completable}
 use Rattle.grammar.specs.Compute.{bytes}
 use Rattle.grammar.specs.Theorems.FewOpen.{peak}
 use Rattle.answer.specs.Answer.{Slices}
+use Rattle.answer.specs.Call.{Reply}
 use Rattle.answer.specs.Given.{token_count, event_count, diagnostic_count, JoinReply}
 use Rattle.answer.specs.Facts.{Facts, enough_room}
 use Rattle.answer.specs.Cases.{loan, zeros, loan_slices, made, called}
 use Rattle.answer.proofs.Cases.{concluded}
+use Rattle.answer.proofs.CutOff.{broken_text}
 
 -- ---- Demand 3. A, with a diagnostic in its block.
 first : Slices
@@ -81,3 +84,31 @@ unfolding made
 room_for_one =
     enough_room (bytes "x") (loan_slices (loan 1 9 2)) (zeros 3) (called (bytes "x") (loan 1 9 2))
     (omega arith) (well_formed (bytes "x") refl) (refl, tt) (omega arith) (omega arith) (omega arith) (omega arith)
+
+-- ---- M-105. What a call says of these bytes behind `#` and LF.
+abbrev broken : List ℕ → Reply
+broken bs = made (0x23 ∷ 0x0A ∷ bs) (loan 2 4 0)
+
+-- Cut off behind one byte, two and three.
+cut_off : ((broken (0xC3 ∷ [])).counts ≡ 2 ∷ 0 ∷ 0 ∷ [])
+    × ((broken (0xE2 ∷ 0x82 ∷ [])).counts ≡ 2 ∷ 0 ∷ 0 ∷ [])
+    × ((broken (0xF0 ∷ 0x9F ∷ 0x98 ∷ [])).counts ≡ 2 ∷ 0 ∷ 0 ∷ [])
+unfolding made
+cut_off = (refl, refl, refl)
+
+-- Wrong: a byte that starts nothing, and starts of one byte to three with LF behind them.
+wrong : ((broken (0xFF ∷ [])).counts ≡ 2 ∷ 1 ∷ 0 ∷ [])
+    × ((broken (0xC3 ∷ 0x0A ∷ [])).counts ≡ 2 ∷ 1 ∷ 0 ∷ [])
+    × ((broken (0xE2 ∷ 0x82 ∷ 0x0A ∷ [])).counts ≡ 2 ∷ 2 ∷ 0 ∷ [])
+    × ((broken (0xF0 ∷ 0x9F ∷ 0x98 ∷ 0x0A ∷ [])).counts ≡ 2 ∷ 3 ∷ 0 ∷ [])
+unfolding made
+wrong = (refl, refl, refl, refl)
+
+-- The one that is cut off can be completed, the wrong one cannot.
+of_cut_off : Completable (0x23 ∷ 0x0A ∷ 0xC3 ∷ [])
+unfolding made
+of_cut_off = (broken_text (0x23 ∷ 0x0A ∷ 0xC3 ∷ []) _ _ (called _ (loan 2 4 0)) refl).breaks_off.whole.0 refl
+
+of_wrong : Completable (0x23 ∷ 0x0A ∷ 0xFF ∷ []) → ⊥
+unfolding made
+of_wrong c = absurd (omega (arith, (broken_text (0x23 ∷ 0x0A ∷ 0xFF ∷ []) _ _ (called _ (loan 2 4 0)) refl).breaks_off.whole.1 c))

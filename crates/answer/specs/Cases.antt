@@ -2,6 +2,7 @@
 -- Assumes nothing.
 use Rattle.std.specs.Prelude.{ℕ, ◌+◌, ◌≤◌, ◌≡◌, refl, true, false, List, [], ◌++◌, eqb, length, replicate}
 use Rattle.utf8.specs.Table
+use Rattle.utf8.specs.ErrorLen
 use Rattle.utf8.specs.Validate
 use Rattle.lexer.specs.Tokens.{MAX_SOURCE}
 use Rattle.lexer.specs.Syntax.{Newline, RParen}
@@ -37,7 +38,7 @@ loan_slices l =
 -- The call on a source with these lent. To unfold `made` is to unfold what its line names: all that computes.
 unfoldable pub made : List ℕ → Loan → Reply
 unfolding again call parse_text from_row_2 from_row_3 from_row_4 from_row_5
-    Marks.first_refused Marks.is_refused Validate.validate_from Table.length_in Table.table_3_7 Table.agree
+    Marks.first_refused Marks.is_refused Validate.validate_from Table.length_in Table.table_3_7 Table.agree ErrorLen.start_in
 made source l = call source (loan_slices l) (zeros l.words)
 
 pub called : (source : List ℕ) (l : Loan)

@@ -27,7 +27,8 @@ module _ (b : ℕ) (bs t : List ℕ) (none : char_length (b ∷ bs) ≡ 0) (well
   abbrev here : List ℕ
   here = b ∷ bs
 
-  by_length : (f : Bool) → leb (width b) (length here) ≡ f → Character table_3_7 (take (width b) (here ++ t)) → width b ≤ suc (length (bs ++ t)) → ProperStart here
+  by_length : (f : Bool) → leb (width b) (length here) ≡ f → Character table_3_7 (take (width b) (here ++ t))
+      → width b ≤ suc (length (bs ++ t)) → ProperStart here
   by_length true e c w =
       let k = rw (take-append-le (width b) here t (leb-true (width b) (length here) e)) at c in
       let l = char_length_lem k (drop (width b) here) in

@@ -185,3 +185,10 @@ module _ (bs : List ℕ) where
       by_end : (t : Bool) → cond t 0 (max 1 (start_length bs)) ≤ 3
       by_end true = omega arith
       by_end false = omega (arith, few_starts bs)
+
+-- There must be a byte: of none the declared number is 1, and the computed one 0.
+none_at_all : ErrorLen [] 1 × (error_len [] ≡ 0)
+unfolding start_in table_3_7 agree
+none_at_all =
+    let some : (m : ℕ) → m ≤ 0 → ProperStart (take m []) → ⊥ = λ m h p. absurd (omega (arith, p.begun, length-take-le {A = ℕ} m [] h)) in
+    (no_start (λ p. absurd (omega (arith, p.begun))) some, refl)

@@ -4,7 +4,7 @@ ghost use Rattle.utf8.specs.ErrorLen.{start_length, error_len};
 
 // The length of the longest proper start of a character that the bytes begin with, 0 where there is none: table 3-7 without the last bytes
 // of its rows.
-#[tactic(auto, using(crate::proofs::Starts::starts), unfolding(crate::specs::Table::table_3_7))]
+#[tactic(auto, using(crate::proofs::StartLength::starts), unfolding(crate::specs::Table::table_3_7))]
 fn start_length(bytes: &[u8]) -> usize
     ensures { result ≡ start_length bytes.now }
 {
