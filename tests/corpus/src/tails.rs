@@ -27,6 +27,10 @@ const CLASSES: [(u8, u8); 14] = [
 /// Characters of two bytes to four.
 const WIDE: [char; 7] = ['é', '\u{7FF}', '€', '\u{D7FF}', '\u{FFFD}', '😀', '\u{10FFFF}'];
 
+/// One for each row of table 3-7 but the first.
+const WIDE_ROWS: [char; 8] =
+    ['é', '\u{800}', '€', '\u{D7FF}', '\u{FFFD}', '😀', '\u{40000}', '\u{10FFFF}'];
+
 /// Which bytes stand for a class.
 #[derive(Debug, Clone, Copy, PartialEq, Eq)]
 pub enum Standing {
@@ -76,6 +80,17 @@ pub fn behind_starts() -> impl Iterator<Item = Vec<u8>> {
         let behind = starts.iter().map(|start| [start, &tail[..]].concat());
         behind.collect::<Vec<_>>()
     })
+}
+
+/// Every proper start of a character of each row, cut off and with LF behind it, and bytes that start none; behind a comment's start.
+pub fn few() -> impl Iterator<Item = Vec<u8>> {
+    let starts = WIDE_ROWS.into_iter().flat_map(|character| {
+        let bytes = character.to_string().into_bytes();
+        (1..bytes.len()).map(move |length| bytes[..length].to_vec())
+    });
+    let broken = starts.chain([0x80, 0xBF, 0xC0, 0xF5, 0xFF].map(|byte| vec![byte]));
+    broken
+        .flat_map(|bytes| ["", "\n"].map(|end| ["# é".as_bytes(), &bytes, end.as_bytes()].concat()))
 }
 
 /// A script with wide characters in it, that ends anywhere or has a byte changed.

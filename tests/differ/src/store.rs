@@ -2,7 +2,7 @@
 
 use std::{fs, io, path::Path};
 
-use corpus::{Case, Family, edges, examples, near, rooms::Plan, spread::spread_over, utf8};
+use corpus::{Case, Family, edges, examples, near, rooms::Plan, spread::spread_over, tails, utf8};
 
 use crate::part::{Exchange, Part};
 
@@ -35,15 +35,15 @@ fn exchanges(part: &Part, count: usize) -> impl Iterator<Item = Exchange> {
     cases.map(|case| (part.exchange)(&case))
 }
 
-/// The examples and names that are nearly a word, with room enough; the bounds of table 3-7, or for `tree` those of its room.
+/// The examples, names that are nearly a word and texts that break off, with room enough; the bounds of table 3-7, or for `tree` those of its room.
 fn always(part: &str) -> impl Iterator<Item = Case> {
     let bounds: Vec<Vec<u8>> = match part {
         "trees" => edges::tree_bounds().collect(),
         _ => utf8::bounds().collect(),
     };
     let longest = if part == "lexer" { LEXER_LONGEST } else { usize::MAX };
-    let examples = examples::all().chain(near::few()).filter(move |source| source.len() <= longest);
-    let sources = examples.chain(bounds);
+    let examples = examples::all().chain(near::few()).chain(tails::few());
+    let sources = examples.filter(move |source| source.len() <= longest).chain(bounds);
     sources.map(|source| Case { family: Family::Examples, source, plan: Plan::AMPLE })
 }
 
