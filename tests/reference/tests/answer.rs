@@ -42,7 +42,15 @@ fn one_too_long() {
 
 #[test]
 fn two_not_utf8() {
-    check(b"use \xC3", Rooms { token_kinds: 0, ..ROOMS }, (2, [4, 0, 0], [true; 3]));
+    let second = |end: &[u8], second: u64| {
+        let rooms = Rooms { token_kinds: 0, ..ROOMS };
+        check(&[b"use ", end].concat(), rooms, (2, [4, second, 0], [true; 3]));
+    };
+    second(b"\xC3", 0);
+    second(b"\xF0\x9F\x98", 0);
+    second(b"\xFF", 1);
+    second(b"\xE2\x82\n", 2);
+    second(b"\xF0\x9F\x98\n", 3);
 }
 
 #[test]

@@ -113,7 +113,8 @@ fn program_tree() {
                     = 31 10 13\n-\n= 28 13 14\n-\n";
     assert_eq!(String::from_utf8(tree(b"begin add end\n")).unwrap(), expected);
     assert_eq!(tree(&[b' '; 2_049]), b"long\n");
-    assert_eq!(tree(b"a\xFF"), b"no 2 1 0 0\n");
+    assert_eq!(tree(b"a\xFF"), b"no 2 1 1 0\n");
+    assert_eq!(tree(b"a\xC3"), b"no 2 1 0 0\n");
     let expected = "ok 2 6 2\n+ 2\n= 28 0 1\n+ 1\n= 1 1 3\n-\n-\n\
                     ! 2 1 1 3 unexpected top-level token\n! 2 1 1 3 unrecognized token `$x`\n";
     assert_eq!(String::from_utf8(tree(b"\n$x")).unwrap(), expected);
