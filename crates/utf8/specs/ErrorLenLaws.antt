@@ -1,7 +1,8 @@
--- The second number as computed is the one declared, and it is 0 exactly where bytes behind would make the text well formed.
+-- The second number that is computed is the declared one, and no other is.
 use Rattle.std.specs.Prelude.{◌≡◌, refl, List, [], ◌∷◌, ◌++◌, Bool, true, false, cond, ℕ, zero, suc, ◌≤◌, ◌<◌, eqb, leb, max, min, pred, length, take}
-use Rattle.std.proofs.Common.{sym, ap, ◌∙◌, true≢false, arith, leb-true, leb-false, length-append, length-take-le}
-use Rattle.std.proofs.lemmas.Bool.{eqb-true, eq-eqb}
+use Rattle.std.proofs.Common.{sym, ap, ◌∙◌, inl, inr, arith, leb-true, leb-false, length-append, length-take-le}
+use Rattle.std.proofs.lemmas.Bool.{eq-eqb}
+use Rattle.std.proofs.lemmas.Bool.Decides.{eqb_tells}
 use Rattle.std.proofs.Math.Seq.{take-length}
 use Rattle.utf8.specs.Table.{◌⋯◌, Row, table_3_7, in_range, agree}
 use Rattle.utf8.specs.TableLaws.{in_range_yes, bounds, sequence_length}
@@ -118,13 +119,12 @@ module _ (bs : List ℕ) where
   start_whole : 0 < length bs → start_length bs ≡ length bs → ProperStart bs
   start_whole h e = rw take-length at (proper_start (length bs) h (omega (arith, e)))
 
-  -- the computed number where the bytes are no proper start
+  -- the computed number where the bytes are a proper start, and where they are none
+  pub zero_of_start : ProperStart bs → error_len bs ≡ 0
+  zero_of_start p = rw (eq-eqb (start_length bs) (length bs) (whole_start p)) refl
+
   not_cut : 0 < length bs → (ProperStart bs → ⊥) → error_len bs ≡ max 1 (start_length bs)
-  not_cut h np = by_test (eqb (start_length bs) (length bs)) refl
-    where
-      by_test : (t : Bool) → eqb (start_length bs) (length bs) ≡ t → cond t 0 (max 1 (start_length bs)) ≡ max 1 (start_length bs)
-      by_test true e = absurd (np (start_whole h (eqb-true (start_length bs) (length bs) e)))
-      by_test false e = refl
+  not_cut h np = elim (eqb_tells (start_length bs) (length bs)) [ inl w ↦ absurd (np (start_whole h w.1)) | inr w ↦ rw (w.0) refl ]
 
   longest_is : (n : ℕ) → LongestStart bs n → n ≡ max 1 (start_length bs)
   longest_is n w =
@@ -144,40 +144,29 @@ module _ (bs : List ℕ) where
 
   -- The declared number is the one computed, and no other is.
   pub error_len_only : (n : ℕ) → 0 < length bs → ErrorLen bs n → n ≡ error_len bs
-  error_len_only n h (cut_off p) = rw (eq-eqb (start_length bs) (length bs) (whole_start p)) refl
+  error_len_only n h (cut_off p) = sym (zero_of_start p)
   error_len_only n h (longest_start np w) = longest_is n w ∙ sym (not_cut h np)
   error_len_only n h (no_start np nm) = sym (not_cut h np ∙ ap (λ (m : ℕ). max 1 m) (none_found nm))
 
+  by_start : (n : ℕ) → start_length bs ≡ n → (ProperStart bs → ⊥) → ErrorLen bs (max 1 n)
+  by_start zero l np = no_start np (λ m j p. absurd (omega (arith, start_most m j p, p.begun, length-take-le m bs j)))
+  by_start (suc n) l np =
+      longest_start np record {
+        within = omega (arith, start_within table_3_7 bs);
+        start = proper_start (max 1 (suc n)) (omega arith) (omega arith);
+        most = λ m j p. omega (arith, start_most m j p);
+      }
+
   pub error_len_is : 0 < length bs → ErrorLen bs (error_len bs)
-  error_len_is h = by_end (eqb (start_length bs) (length bs)) refl
-    where
-      not_whole : eqb (start_length bs) (length bs) ≡ false → ProperStart bs → ⊥
-      not_whole e p = absurd (true≢false (sym (eq-eqb (start_length bs) (length bs) (whole_start p)) ∙ e))
-
-      by_start : (n : ℕ) → start_length bs ≡ n → (ProperStart bs → ⊥) → ErrorLen bs (max 1 n)
-      by_start zero l np =
-          no_start np (λ m j p. absurd (omega (arith, start_most m j p, p.begun, length-take-le m bs j)))
-      by_start (suc n) l np =
-          longest_start np record {
-            within = omega (arith, start_within table_3_7 bs);
-            start = proper_start (max 1 (suc n)) (omega arith) (omega arith);
-            most = λ m j p. omega (arith, start_most m j p);
-          }
-
-      by_end : (t : Bool) → eqb (start_length bs) (length bs) ≡ t → ErrorLen bs (cond t 0 (max 1 (start_length bs)))
-      by_end true e = cut_off (start_whole h (eqb-true (start_length bs) (length bs) e))
-      by_end false e = by_start (start_length bs) refl (not_whole e)
-
-  -- it is 0 of a proper start alone, and else 1, 2 or 3
-  pub zero_of_start : ProperStart bs → error_len bs ≡ 0
-  zero_of_start p = sym (error_len_only 0 p.begun (cut_off p))
+  error_len_is h =
+      elim (eqb_tells (start_length bs) (length bs)) [
+        | inl w ↦ rw (w.0) (cut_off (start_whole h w.1))
+        | inr w ↦ rw (w.0) (by_start (start_length bs) refl (λ p. w.1 (whole_start p)))
+      ]
 
   pub start_of_zero : 0 < length bs → error_len bs ≡ 0 → ProperStart bs
-  start_of_zero h e = by_end (eqb (start_length bs) (length bs)) refl e
-    where
-      by_end : (t : Bool) → eqb (start_length bs) (length bs) ≡ t → cond t 0 (max 1 (start_length bs)) ≡ 0 → ProperStart bs
-      by_end true t e = start_whole h (eqb-true (start_length bs) (length bs) t)
-      by_end false t e = absurd (omega (arith, e))
+  start_of_zero h e =
+      elim (eqb_tells (start_length bs) (length bs)) [ inl w ↦ start_whole h w.1 | inr w ↦ absurd (omega (arith, rw (w.0) at e)) ]
 
   pub error_len_few : error_len bs ≤ 3
   error_len_few = by_end (eqb (start_length bs) (length bs))
