@@ -87,6 +87,8 @@ module _ (source : List ℕ) where
         let k = reply_of_second_row s counts row in
         rw (c.counts_are ∙ ap (λ (x : Reply). x.counts) k)
         record {
+          words = row.words;
+          small = row.small;
           longest = longest source row.error row.refuses;
           breaks_off = breaks_off source row.error row.refuses;
           third = refl;

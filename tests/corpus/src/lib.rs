@@ -123,7 +123,7 @@ pub fn cases(families: &[Family], size: Size) -> impl Iterator<Item = Case> + Se
         let mut random = Random::new(family as u64);
         sources(family, size).flat_map(move |source| {
             let plans = match family {
-                Family::Rooms => vec![Plan::odd(&mut random)],
+                Family::Rooms | Family::Tails => vec![Plan::odd(&mut random)],
                 Family::Slices => Plan::each(),
                 _ => vec![Plan::AMPLE],
             };
