@@ -21,8 +21,8 @@ use Rattle.answer.specs.CutOff.{BrokenText}
 abbrev status_of : Outcome → ℕ
 status_of o = (numbers o.answer).status
 
--- row 2 does not hold, or it answers
-pub record SecondRow (source : List ℕ) (counts : List ℕ) : Type 0 where
+-- Row 2 of the table is the first that holds.
+pub record RowTwo (source : List ℕ) (counts : List ℕ) : Type 0 where
   pub words : 3 ≤ length counts
   pub small : length source ≤ MAX_SOURCE
   pub error : Utf8Error
@@ -59,32 +59,32 @@ module _ (source : List ℕ) where
   from_row_2_errs (Ok _) s h = absurd (not_from_row_3 (with_tokens source s) h)
   from_row_2_errs (Err e) s h = (e, refl)
 
-  second_row : (s : Slices) (counts : List ℕ) → (call source s counts).status ≡ 2 → SecondRow source counts
+  row_two : (s : Slices) (counts : List ℕ) → (call source s counts).status ≡ 2 → RowTwo source counts
   unfolding call parse_text
-  second_row s counts = by_words (ltb (length counts) 3) refl
+  row_two s counts = by_words (ltb (length counts) 3) refl
     where
       by_length : (t : Bool) → ltb MAX_SOURCE (length source) ≡ t → 3 ≤ length counts
-          → status_of (cond t (outcome answer.TooLong s) (from_row_2 (validate source) source s)) ≡ 2 → SecondRow source counts
+          → status_of (cond t (outcome answer.TooLong s) (from_row_2 (validate source) source s)) ≡ 2 → RowTwo source counts
       by_length true k w h = absurd (omega arith)
       by_length false k w h =
           let r = from_row_2_errs (validate source) s h in
           record { words = w; small = ltb-false MAX_SOURCE (length source) k; error = r.0; refuses = r.1 }
 
       by_words : (t : Bool) → ltb (length counts) 3 ≡ t
-          → (cond t (reply 6 s counts) (answer_reply (parse_text source s) counts)).status ≡ 2 → SecondRow source counts
+          → (cond t (reply 6 s counts) (answer_reply (parse_text source s) counts)).status ≡ 2 → RowTwo source counts
       by_words true k h = absurd (omega arith)
       by_words false k h = by_length (ltb MAX_SOURCE (length source)) refl (ltb-false (length counts) 3 k) h
 
-  reply_of_second_row : (s : Slices) (counts : List ℕ) (r : SecondRow source counts)
+  reply_of_row_two : (s : Slices) (counts : List ℕ) (r : RowTwo source counts)
       → call source s counts ≡ reply 2 s (r.error.valid_up_to ∷ r.error.error_len ∷ 0 ∷ drop 3 counts)
   unfolding call parse_text from_row_2
-  reply_of_second_row s counts r = rw (le-ltb (length counts) 3 r.words, le-ltb MAX_SOURCE (length source) r.small, r.refuses) refl
+  reply_of_row_two s counts r = rw (le-ltb (length counts) 3 r.words, le-ltb MAX_SOURCE (length source) r.small, r.refuses) refl
 
   module _ (s : Slices) (counts : List ℕ) {r : ℕ} {s' : Slices} {counts' : List ℕ} (c : MasmParseText source s counts r s' counts') where
     pub broken_text : r ≡ 2 → BrokenText source s counts s' counts'
     broken_text z =
-        let row = second_row s counts (sym c.status_is ∙ z) in
-        let k = reply_of_second_row s counts row in
+        let row = row_two s counts (sym c.status_is ∙ z) in
+        let k = reply_of_row_two s counts row in
         rw (c.counts_are ∙ ap (λ (x : Reply). x.counts) k)
         record {
           words = row.words;
@@ -101,5 +101,5 @@ module _ (source : List ℕ) where
         by_validity : (v : Validity) → validate source ≡ v → r ≡ 2
         by_validity (Ok _) e = absurd (broken (accepted source e))
         by_validity (Err e) refuses =
-            let row : SecondRow source counts = record { words = words; small = small; error = e; refuses = refuses } in
-            c.status_is ∙ ap (λ (x : Reply). x.status) (reply_of_second_row s counts row)
+            let row : RowTwo source counts = record { words = words; small = small; error = e; refuses = refuses } in
+            c.status_is ∙ ap (λ (x : Reply). x.status) (reply_of_row_two s counts row)
