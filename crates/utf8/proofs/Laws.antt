@@ -62,6 +62,15 @@ passes_next {s} {b = b} {n = n} p h l =
     let k = rw (first_and_tail s b h) at l in
     passes_both p (passes_char s b n p.within (omega arith) (sym k.1))
 
+-- no character at the next byte
+pub none_next : (s : List ℕ) (b : ℕ) → b < length s
+    → (0 < char_length (get_or s b 0 ∷ take (length s - (b + 1)) (drop (b + 1) s)) → ⊥) → char_length (drop b s) ≡ 0
+none_next s b h none = by_length (char_length (drop b s)) (rw (first_and_tail s b h) at none)
+  where
+    by_length : (n : ℕ) → (0 < n → ⊥) → n ≡ 0
+    by_length zero k = refl
+    by_length (suc n) k = absurd (k (omega arith))
+
 -- a run of ASCII
 passes_ascii : (s : List ℕ) (n at : ℕ) → at + n ≤ length s → ((k : ℕ) → k < n → get_or s (at + k) 0 < 0x80) → Passes s at (at + n)
 passes_ascii s zero at h a = rw add-zero (passes_none s at (omega arith))
