@@ -1,4 +1,4 @@
-//! What the cases reach in the reference.
+//! What the cases reach in the reference; the tails, most of which it refuses, are left out where they would only take time.
 
 use std::collections::{BTreeMap, BTreeSet};
 
@@ -15,7 +15,7 @@ fn every_kind_message_and_status_occurs() {
     let looked_at = |case: &(usize, Case)| {
         case.0.is_multiple_of(STEP) || matches!(case.1.family, Family::Examples | Family::Edges)
     };
-    for (_, case) in cases(&Family::ALL, Size::Ci).enumerate().filter(looked_at) {
+    for (_, case) in cases(Family::PROGRAM, Size::Ci).enumerate().filter(looked_at) {
         let reading = reading(&case.source);
         let found = reading.answer(case.plan.rooms(Needs::of(&reading)));
         statuses.insert(found.status);
@@ -36,7 +36,7 @@ fn every_kind_message_and_status_occurs() {
 /// What document 01 says of every parse.
 #[test]
 fn bounds_hold() {
-    for case in cases(&Family::ALL, Size::Ci).step_by(STEP) {
+    for case in cases(Family::PROGRAM, Size::Ci).step_by(STEP) {
         let Reading::Parsed(parsed) = reading(&case.source) else { continue };
         let tokens = parsed.tokens.len();
         assert!(parsed.events.len() <= 7 * tokens + 2);
@@ -61,7 +61,7 @@ fn most_open(events: &[u16]) -> usize {
 
 #[test]
 fn cases_are_the_same_at_every_run() {
-    let sample = || cases(&Family::ALL, Size::Ci).step_by(997).collect::<Vec<Case>>();
+    let sample = || cases(Family::PROGRAM, Size::Ci).step_by(997).collect::<Vec<Case>>();
     assert!(sample() == sample());
 }
 
