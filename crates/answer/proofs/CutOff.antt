@@ -2,7 +2,7 @@
 -- Assumes nothing.
 use Rattle.std.specs.Prelude.{Option, None, Some, Ok, Err, ℕ, ◌≤◌, ◌≡◌, refl, Bool, true, false, cond, List, ◌∷◌, ltb, length, drop}
 use Rattle.std.proofs.Common.{sym, ap, ◌∙◌, arith}
-use borrow.Author.Tests.{ltb-false, le-ltb}
+use borrow.Author.Tests.{le-ltb}
 use Rattle.utf8.specs.WellFormed.{WellFormed}
 use Rattle.utf8.specs.declared.Utf8Error.{Utf8Error}
 use Rattle.utf8.specs.Validate.{Validity, validate}
@@ -15,7 +15,8 @@ use Rattle.answer.specs.declared.Answer.TheVariants as answer
 use Rattle.answer.specs.Answer.{Slices, Outcome, outcome, token_room, with_tokens, short}
 use Rattle.answer.specs.Answer.{from_row_5, from_row_4, from_row_3, from_row_2, parse_text}
 use Rattle.answer.specs.Numbers.{numbers}
-use Rattle.answer.specs.Call.{Reply, reply, answer_reply, call, MasmParseText}
+use Rattle.answer.specs.Call.{Reply, reply, call, MasmParseText}
+use Rattle.answer.specs.Accepts.{past_row_1, past_row_6}
 use Rattle.answer.specs.CutOff.{BrokenText}
 
 abbrev status_of : Outcome → ℕ
@@ -60,20 +61,11 @@ module _ (source : List ℕ) where
   from_row_2_errs (Err e) s h = (e, refl)
 
   row_two : (s : Slices) (counts : List ℕ) → (call source s counts).status ≡ 2 → RowTwo source counts
-  unfolding call parse_text
-  row_two s counts = by_words (ltb (length counts) 3) refl
-    where
-      by_length : (t : Bool) → ltb MAX_SOURCE (length source) ≡ t → 3 ≤ length counts
-          → status_of (cond t (outcome answer.TooLong s) (from_row_2 (validate source) source s)) ≡ 2 → RowTwo source counts
-      by_length true k w h = absurd (omega arith)
-      by_length false k w h =
-          let r = from_row_2_errs (validate source) s h in
-          record { words = w; small = ltb-false MAX_SOURCE (length source) k; error = r.0; refuses = r.1 }
-
-      by_words : (t : Bool) → ltb (length counts) 3 ≡ t
-          → (cond t (reply 6 s counts) (answer_reply (parse_text source s) counts)).status ≡ 2 → RowTwo source counts
-      by_words true k h = absurd (omega arith)
-      by_words false k h = by_length (ltb MAX_SOURCE (length source)) refl (ltb-false (length counts) 3 k) h
+  row_two s counts h =
+      let p = past_row_6 source s counts 2 (λ e. absurd (omega (arith, e))) h in
+      let q = past_row_1 source s 2 (λ e. absurd (omega (arith, e))) p.1 in
+      let r = from_row_2_errs (validate source) s q.1 in
+      record { words = p.0; small = q.0; error = r.0; refuses = r.1 }
 
   reply_of_row_two : (s : Slices) (counts : List ℕ) (r : RowTwo source counts)
       → call source s counts ≡ reply 2 s (r.error.valid_up_to ∷ r.error.error_len ∷ 0 ∷ drop 3 counts)

@@ -78,30 +78,32 @@ module _ (source : List ℕ) (s : Slices) where
       by_test true k h = absurd (omega (arith, rw k at h))
       by_test false k h = (omega (arith, ltb-false (token_room (with_tokens source s)) t k, same_room), rw k at h)
 
-  by_length : status_of (parse_text source s).answer ≡ 0
-      → (length source ≤ MAX_SOURCE) × (status_of (from_row_2 (validate source) source s).answer ≡ 0)
+  -- the number of an answer that is not row 1's, and of a call whose number is not row 6's
+  pub past_row_1 : (n : ℕ) → (1 ≡ n → ⊥) → status_of (parse_text source s).answer ≡ n
+      → (length source ≤ MAX_SOURCE) × (status_of (from_row_2 (validate source) source s).answer ≡ n)
   unfolding parse_text
-  by_length = by_test (ltb MAX_SOURCE (length source)) refl
+  past_row_1 n other = by_test (ltb MAX_SOURCE (length source)) refl
     where
-      by_test : (u : Bool) → ltb MAX_SOURCE (length source) ≡ u → status_of (parse_text source s).answer ≡ 0
-          → (length source ≤ MAX_SOURCE) × (status_of (from_row_2 (validate source) source s).answer ≡ 0)
-      by_test true k h = absurd (omega (arith, rw k at h))
+      by_test : (u : Bool) → ltb MAX_SOURCE (length source) ≡ u → status_of (parse_text source s).answer ≡ n
+          → (length source ≤ MAX_SOURCE) × (status_of (from_row_2 (validate source) source s).answer ≡ n)
+      by_test true k h = absurd (other (rw k at h))
       by_test false k h = (ltb-false MAX_SOURCE (length source) k, rw k at h)
 
-  by_words : (counts : List ℕ) → (call source s counts).status ≡ 0 → (3 ≤ length counts) × (status_of (parse_text source s).answer ≡ 0)
+  pub past_row_6 : (counts : List ℕ) (n : ℕ) → (6 ≡ n → ⊥) → (call source s counts).status ≡ n
+      → (3 ≤ length counts) × (status_of (parse_text source s).answer ≡ n)
   unfolding call
-  by_words counts = by_test (ltb (length counts) 3) refl
+  past_row_6 counts n other = by_test (ltb (length counts) 3) refl
     where
-      by_test : (u : Bool) → ltb (length counts) 3 ≡ u → (call source s counts).status ≡ 0
-          → (3 ≤ length counts) × (status_of (parse_text source s).answer ≡ 0)
-      by_test true k h = absurd (omega (arith, rw k at h))
+      by_test : (u : Bool) → ltb (length counts) 3 ≡ u → (call source s counts).status ≡ n
+          → (3 ≤ length counts) × (status_of (parse_text source s).answer ≡ n)
+      by_test true k h = absurd (other (rw k at h))
       by_test false k h = (ltb-false (length counts) 3 k, rw k at h)
 
   pub last_row_of_status : (counts : List ℕ) → (call source s counts).status ≡ 0 → LastRow source s counts
   unfolding from_row_5
   last_row_of_status counts h =
-      let p = by_words counts h in
-      let q = by_length p.1 in
+      let p = past_row_6 counts 0 (λ e. absurd (omega (arith, e))) h in
+      let q = past_row_1 0 (λ e. absurd (omega (arith, e))) p.1 in
       let v = is_valid (validate source) q.1 in
       let k = by_tokens v.1 in
       let n = not_refused (first_refused 0 (tokenize source)) k.1 in

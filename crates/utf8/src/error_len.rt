@@ -24,7 +24,8 @@ fn start_length(bytes: &[u8]) -> usize
     }
 }
 
-// 0 where the bytes to their end are such a start, which more bytes could complete; else how many bytes are wrong together. Rust's `error_len`.
+// 0 where the bytes to their end are such a start, which more bytes could complete; else how many bytes are wrong together. Rust's
+// `error_len`.
 pub fn error_len(bytes: &[u8]) -> usize
     ensures { result ≡ error_len bytes.now }
 {
