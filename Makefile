@@ -13,7 +13,7 @@ read: target/read
 	@target/read $(FILE) || [ $$? -eq 1 ]
 
 C_FLAGS := -std=c11 -O2 -Wall -Wextra -Iinclude
-archive := target/staticlib/libcst.a
+archive := target/staticlib/libmasm.a
 
 target/fold: $(wildcard examples/fold/* include/*.h) $(archive)
 	$(CC) $(C_FLAGS) $(filter %.c,$^) $(archive) -o $@

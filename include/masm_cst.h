@@ -1,14 +1,16 @@
-/* The reader of Miden Assembly scripts: one call, no heap, nothing kept after it.
+/* The reader of Miden Assembly scripts, and the lines and columns of places in them: two calls, no
+   heap, nothing kept after them.
 
    No diagnostic does not mean a valid script. The reader finds items, blocks and instructions by
    their shape, to fold them; it checks no instruction, name, type or number of operands. After
    `const FEE = 10 * (2 + 3` all the rest of a file is the constant's, with no diagnostic.
 
-   tools/archive writes the archive to link, target/staticlib/libcst.a. It has this call and no
+   tools/archive writes the archive to link, target/staticlib/libmasm.a. It has these calls and no
    other name, and needs nothing but `memset`.
 
    masm_names.h names kinds and statuses, masm_messages.h has the texts of the diagnostics, and
-   docs/TREE.md says what stands under each node. examples/read.c is a program to start from. */
+   docs/TREE.md says what stands under each node. examples/read.c is a program to start from, and
+   examples/lines.c shows the second call. */
 #ifndef MASM_CST_H
 #define MASM_CST_H
 
@@ -138,8 +140,7 @@ enum masm_kind {
    messages, starts, ends: a diagnostic's number (masm_messages.h) and its bytes, from start to
    before end; at the end of the file start is the last character's offset, and end equals it. The
    room for diagnostics is the shortest length. Starts never fall: no diagnostic starts before the
-   one before it (proved: starts-in-order, docs/PROOFS.md). Its line is 1 plus the LF bytes before
-   start, its column 1 plus the bytes since the last LF.
+   one before it (proved: `starts_in_order`, docs/PROOFS.md). `masm_lines` has its line and column.
 
    Slices can also be sized by calls. On `begin add end` and LF, each call reading it anew:
 
@@ -164,6 +165,24 @@ uint64_t masm_parse_text(const uint8_t *source, size_t source_len,
                          uint32_t *starts, size_t starts_len,
                          uint32_t *ends, size_t ends_len,
                          uint64_t *counts, size_t counts_len);
+
+/* Lines and columns of offsets in a source, which need not be one that is accepted, nor UTF-8.
+
+   CR LF, a CR alone and an LF alone each end a line, in quotes and comments too. A line end is
+   completed at the offset behind its last byte: between the CR and the LF of a CR LF nothing has
+   ended yet. The line of an offset is 1 plus the line ends completed at or before it, its column 1
+   plus the bytes since the last of them.
+
+   For each i below the shortest of the three lengths, lines[i] and columns[i] become those of
+   offsets[i]; an offset above source_len counts as source_len. All else is as it was. Returns how
+   many it wrote; of a source over MASM_MAX_SOURCE bytes 0, and nothing is written.
+
+   Offsets that never fall, such as `starts`, take one walk over the source; any others take up to
+   1,024 bytes more each. The caller keeps what it keeps for the call above. */
+uint64_t masm_lines(const uint8_t *source, size_t source_len,
+                    const uint32_t *offsets, size_t offsets_len,
+                    uint32_t *lines, size_t lines_len,
+                    uint32_t *columns, size_t columns_len);
 
 #ifdef __cplusplus
 }

@@ -4,7 +4,7 @@
 
 use std::{env, path::PathBuf};
 
-const DEFAULT_ARCHIVE: &str = "target/staticlib/libcst.a";
+const DEFAULT_ARCHIVE: &str = "target/staticlib/libmasm.a";
 
 fn main() {
     println!("cargo::rerun-if-env-changed=MASM_CST_ARCHIVE");
