@@ -1,0 +1,24 @@
+-- What `masm_lines` returns and leaves: 'for each i below the shortest of the three lengths it writes the line and the column of offsets[i], an
+-- offset above the source's length counting as that length; it returns how many it wrote and leaves the rest unchanged; of a source above
+-- 1,048,576 bytes it writes nothing and returns 0.'
+-- Assumes nothing: these are definitions.
+use Rattle.std.specs.Prelude.{ℕ, ◌≡◌, cond, List, map, min, ltb, length}
+use Rattle.room.specs.Over.{fit}
+use Rattle.lexer.specs.Tokens.{MAX_SOURCE}
+use Rattle.lines.specs.Ends.{line, column}
+
+abbrev pub lines_of : List ℕ → List ℕ → List ℕ
+lines_of source offsets = map (λ o. line source (min o (length source))) offsets
+
+abbrev pub columns_of : List ℕ → List ℕ → List ℕ
+columns_of source offsets = map (λ o. column source (min o (length source))) offsets
+
+-- how many are written
+abbrev pub positions_written : List ℕ → List ℕ → List ℕ → List ℕ → ℕ
+positions_written source offsets lines columns =
+    cond (ltb MAX_SOURCE (length source)) 0 (min (min (length offsets) (length lines)) (length columns))
+
+pub record MasmLines (source offsets lines columns : List ℕ) (r : ℕ) (lines' columns' : List ℕ) : Type 0 where
+  pub returned : r ≡ positions_written source offsets lines columns
+  pub lines_are : lines' ≡ fit r (lines_of source offsets) lines
+  pub columns_are : columns' ≡ fit r (columns_of source offsets) columns
