@@ -1,16 +1,18 @@
-// The frames of the input: eight little-endian numbers (the part, bytes of the source, entries of the six slices), then the source.
-use crate::{lexing, reading};
+// The frames of the input: eight little-endian numbers (the part, bytes of the source, entries of the six slices), then the source, and for
+// lines and columns the offsets.
+use crate::{lexing, positions, reading};
 use cst::Slices;
 use frames::header::frame_number;
 use std::io::{Read, Write};
 use std::{array, io};
 
-// What is printed of a source: the lexer's slices, the whole reading, or the text of `tree`.
+// What is printed of a source: the lexer's slices, the whole reading, the text of `tree`, or lines and columns.
 #[derive(Clone, Copy)]
 enum Part {
     Lexer,
     Reading,
     Tree,
+    Lines,
 }
 
 // A number that names no part.
@@ -25,6 +27,7 @@ impl TryFrom<usize> for Part {
             0 => Ok(Part::Lexer),
             1 => Ok(Part::Reading),
             2 => Ok(Part::Tree),
+            3 => Ok(Part::Lines),
             _ => Err(UnknownPart(number)),
         }
     }
@@ -61,17 +64,22 @@ fn read_header(from: &mut impl Read) -> Option<Header> {
     })
 }
 
-// Answers a source.
+// Answers a source, or `None` where the input ends. Offsets stand where a reading has the ends of tokens, their lines where it has starts,
+// their columns where stops.
 fn put_part(
     out: &mut impl Write,
+    from: &mut impl Read,
     part: Part,
     source: &[u8],
     slices: &mut Slices<'_>,
-) -> io::Result<()> {
+) -> Option<io::Result<()>> {
     match part {
-        Part::Lexer => lexing::put_lexing(out, source, slices),
-        Part::Reading => reading::put_reading(out, source, slices),
-        Part::Tree => show::write_tree(out, source, slices),
+        Part::Lexer => Some(lexing::put_lexing(out, source, slices)),
+        Part::Reading => Some(reading::put_reading(out, source, slices)),
+        Part::Tree => Some(show::write_tree(out, source, slices)),
+        Part::Lines => {
+            positions::put_positions(out, from, source, slices.ends, slices.starts, slices.stops)
+        }
     }
 }
 
@@ -94,7 +102,7 @@ fn answer_frame(
         stops: slices.stops.get_mut(..header.stops)?,
     };
     from.read_exact(source).ok()?;
-    Some(put_part(out, header.part, source, &mut lent))
+    put_part(out, from, header.part, source, &mut lent)
 }
 
 // All frames. The count makes the loop end, and no input has as many frames.

@@ -1,5 +1,5 @@
-// Reads framed cases from standard input, and answers each: what the lexer, or the whole reading, leaves in its slices, or the text of
-// `tree`.
+// Reads framed cases from standard input, and answers each: what the lexer, the whole reading or `masm_lines` leaves in its slices, or the
+// text of `tree`.
 #![tactic(auto)]
 
 use cst::Slices;
@@ -9,6 +9,7 @@ use lexer::MAX_SOURCE;
 mod filling;
 mod frame;
 mod lexing;
+mod positions;
 mod reading;
 
 // The entries of the slices: of tokens and diagnostics, and of events.

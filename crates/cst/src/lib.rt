@@ -68,7 +68,7 @@ pub fn parse_text(source: &[u8], slices: &mut Slices) -> Answer
     }
 }
 
-// The unit's call: the status, and the other three numbers in the first words of `counts`. The programs call it here, and C in cst_c, since
+// The unit's call: the status, and the other three numbers in the first words of `counts`. The programs call it here, and C in masm, since
 // no crate can stand on a static library.
 pub fn masm_parse_text(
     source: &[u8],

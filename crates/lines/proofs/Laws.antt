@@ -1,7 +1,7 @@
 -- What follows of the line ends completed by an offset.
 -- Assumes nothing.
-use Rattle.std.specs.Prelude.{ℕ, zero, suc, ◌+◌, ◌-◌, ◌≤◌, ◌<◌, ◌≡◌, refl, Bool, true, false, cond, List, [], ◌∷◌, length, get_or}
-use Rattle.std.proofs.Common.{sym, ap, ◌∙◌, arith, add-one}
+use Rattle.std.specs.Prelude.{ℕ, zero, suc, ◌+◌, ◌≤◌, Bool, true, false, cond, List, ◌∷◌, length, get_or}
+use Rattle.std.proofs.Common.{arith}
 use Rattle.lines.specs.Ends.{completed, ends_by, line_start, line, column}
 
 -- a line starts at or before its places

@@ -1,7 +1,7 @@
 -- A spot goes on by a byte.
 -- Assumes nothing.
-use Rattle.std.specs.Prelude.{ℕ, suc, ◌+◌, ◌<◌, ◌≤◌, ◌≡◌, refl, true, false, List, length, get_or}
-use Rattle.std.proofs.Common.{sym, ap, ◌∙◌, arith, add-one, subst, replicate}
+use Rattle.std.specs.Prelude.{ℕ, suc, ◌+◌, ◌<◌, ◌≤◌, ◌≡◌, refl, true, false, List, length}
+use Rattle.std.proofs.Common.{sym, arith, add-one, subst, replicate}
 use Rattle.lines.specs.declared.spot.Spot.{Spot}
 use Rattle.std.proofs.lemmas.List.{get_or-replicate, length-replicate}
 use Rattle.lines.specs.Ends.{completed}

@@ -1,7 +1,7 @@
 -- One entry more is written.
 -- Assumes nothing.
 use Rattle.std.specs.Prelude.{ℕ, zero, suc, ◌+◌, ◌^◌, ◌≤◌, ◌<◌, ◌≡◌, refl, List, [], ◌∷◌, length, get_or, set, map, min}
-use Rattle.std.proofs.Common.{sym, ap, ◌∙◌, arith, add-one, subst}
+use Rattle.std.proofs.Common.{ap, ◌∙◌, arith, add-one, subst}
 use Rattle.std.proofs.lemmas.List.{length-map, get_or-map}
 use Rattle.room.specs.Over.{fit}
 use Rattle.lexer.specs.Tokens.{MAX_SOURCE}

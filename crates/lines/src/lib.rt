@@ -6,9 +6,8 @@ ghost use Rattle.lines.specs.MasmLines.{MasmLines};
 mod spot;
 mod walk;
 
-pub use walk::{Position, SourceWalk};
-
 use lexer::MAX_SOURCE;
+pub use walk::{Position, SourceWalk};
 
 // The unit's call: the line and the column of each offset, as far as the shortest slice goes; how many it wrote. Of a source that is too
 // long none. C calls it in masm, since no crate can stand on a static library.

@@ -34,7 +34,11 @@ impl<'s> SourceWalk<'s> {
         SourceWalk {
             source,
             spot: Spot::START,
-            marks: [Spot { at: 0, line: 1, line_start: 0 }; MARKS],
+            marks: [Spot {
+                at: 0,
+                line: 1,
+                line_start: 0,
+            }; MARKS],
         }
     }
 
@@ -73,7 +77,9 @@ impl<'s> SourceWalk<'s> {
         self.jump(to);
         self.run_to(to);
         let Spot {
-            line, line_start, ..
+            line,
+            line_start,
+            ..
         } = self.spot;
         Position {
             line,

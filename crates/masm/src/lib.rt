@@ -1,10 +1,12 @@
-// The unit's call for C: cst's, under a name that the archive exports. A static library has it alone, since no crate can stand on one.
+// The unit's calls for C, under names that the archive exports: each is the function of the same name and contract in the crate below. They
+// stand here alone, since no crate can stand on a static library.
 #![tactic(auto)]
 
 ghost use Rattle.answer.specs.Answer.{entry_slices, exit_slices};
 ghost use Rattle.answer.specs.Call.{MasmParseText};
+ghost use Rattle.lines.specs.MasmLines.{MasmLines};
 
-// The unit's call: the status, and the other three numbers in the first words of `counts`.
+// The reading: the status, and the other three numbers in the first words of `counts`.
 #[unsafe(no_mangle)]
 pub extern "C" fn masm_parse_text(
     source: &[u8],
@@ -21,4 +23,19 @@ pub extern "C" fn masm_parse_text(
         result (exit_slices kinds ends events messages starts stops) counts.new }
 {
     cst::masm_parse_text(source, kinds, ends, events, messages, starts, stops, counts)
+}
+
+// The line and the column of each offset, and how many were written.
+#[unsafe(no_mangle)]
+pub extern "C" fn masm_lines(
+    source: &[u8],
+    offsets: &[u32],
+    lines: &mut [u32],
+    columns: &mut [u32],
+) -> u64
+    ensures { MasmLines
+        source.now offsets.now lines.old columns.old
+        result lines.new columns.new }
+{
+    lines::masm_lines(source, offsets, lines, columns)
 }

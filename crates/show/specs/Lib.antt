@@ -1,2 +1,0 @@
--- Lines and columns.
-pub mod Lines
