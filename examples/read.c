@@ -11,7 +11,23 @@ static uint16_t kinds[MASM_TOKEN_ROOM(N)], events[MASM_EVENT_ROOM(N)];
 static uint16_t messages[MASM_DIAGNOSTIC_ROOM(N)];
 static uint32_t token_ends[MASM_TOKEN_ROOM(N)];
 static uint32_t starts[MASM_DIAGNOSTIC_ROOM(N)], ends[MASM_DIAGNOSTIC_ROOM(N)];
+static uint32_t lines[MASM_TOKEN_ROOM(N)], columns[MASM_TOKEN_ROOM(N)];
 static uint64_t counts[MASM_COUNTS];
+
+/* A node starts where the token before it ends: one call gives the lines of all these offsets. */
+static void print_nodes(size_t length)
+{
+    masm_lines(source, length, token_ends, counts[0], SLICE(lines), SLICE(columns));
+    for (size_t i = 0, open = 0, token = 0; i < counts[1]; i++) {
+        if (events[i] >= MASM_WHITESPACE)
+            token++;
+        else if (events[i] == MASM_CLOSE)
+            open--;
+        else if (open++ == 1)
+            printf("line %u: %s\n", (unsigned)(token == 0 ? 1 : lines[token - 1]),
+                   masm_kind_name(events[i]));
+    }
+}
 
 int main(int count, char **words)
 {
@@ -31,15 +47,7 @@ int main(int count, char **words)
     puts(masm_status_text(status));
     if (status != MASM_ACCEPTED)
         return 2;
-    for (size_t i = 0, open = 0, token = 0, at = 0, line = 1; i < counts[1]; i++) {
-        if (events[i] >= MASM_WHITESPACE) /* the next token: lines are counted over its bytes */
-            for (token++; at < token_ends[token - 1]; at++)
-                line += source[at] == '\n';
-        else if (events[i] == MASM_CLOSE)
-            open--;
-        else if (open++ == 1)
-            printf("line %zu: %s\n", line, masm_kind_name(events[i]));
-    }
+    print_nodes(length);
     printf("diagnostics: %llu\n", (unsigned long long)counts[2]);
     return fflush(stdout) != 0 ? 3 : counts[2] > 0;
 }

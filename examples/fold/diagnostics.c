@@ -53,25 +53,29 @@ static struct part part_from(const struct reading *r, size_t from, size_t end)
     return part;
 }
 
-/* The whole line if it fits, else a part of it around `start`. */
-static struct part part_around(const struct reading *r, size_t start)
+/* Where the text of the line around an offset ends. */
+static size_t end_around(const struct reading *r, size_t offset)
 {
-    size_t line = line_of(r, start), line_start = r->line_starts[line - 1];
-    size_t end = text_end(r, line_start, line_end(r, line));
-    struct part part = part_from(r, line_start, end);
+    size_t start = line_start(r, offset);
+    return text_end(r, start, line_end(r, start, r->length));
+}
+
+/* The whole line if it fits, else a part of it around `start`. */
+static struct part part_around(const struct reading *r, size_t start, size_t end)
+{
+    struct part part = part_from(r, line_start(r, start), end);
     if (part.to < end)
-        part = part_from(r, part_start(r, start, line_start), end);
+        part = part_from(r, part_start(r, start, line_start(r, start)), end);
     return part;
 }
 
 /* The line around `start`, or a part of it, and carets below the text up to `end`. */
 static void show_place(const struct reading *r, size_t start, size_t end)
 {
-    size_t line = line_of(r, start);
-    struct part part = part_around(r, start);
-    bool whole = part.from == r->line_starts[line - 1]
-        && part.to >= text_end(r, part.from, line_end(r, line));
-    start_row('|', "%7zu    %s", line, whole ? "line" : "part");
+    size_t line_text_end = end_around(r, start);
+    struct part part = part_around(r, start, line_text_end);
+    bool whole = part.from == line_start(r, start) && part.to >= line_text_end;
+    start_row('|', "%7zu    %s", line_of(r, start), whole ? "line" : "part");
     put_text(r->source + part.from, part.to - part.from);
     end_row();
     start_row('>', "");

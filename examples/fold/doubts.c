@@ -74,14 +74,15 @@ static void add_line(struct survey *s, struct lines *lines, size_t token)
 static struct doubts find_doubts(const struct reading *r, struct survey *s, const struct item *item)
 {
     struct doubts d = { 0 };
-    bool begins_line = false, in_body = false;
+    bool in_body = false;
     uint16_t before = MASM_NEWLINE;
     size_t end = item->token_end < s->limit ? item->token_end : s->limit;
+    size_t line = first_line(r, item->token); /* in which the word before ends */
     for (size_t i = item->token; i < end; i++) {
         uint16_t kind = r->token_kinds[i];
-        begins_line |= kind == MASM_NEWLINE;
         if (is_blank(kind) || is_comment(kind))
             continue;
+        bool begins_line = first_line(r, i) > line;
         bool proper = (s->facts[i].flags & PROPER) != 0;
         if (begins_line && !proper && starter_at(r, i) != NULL)
             add_line(s, &d.starters, i);
@@ -89,7 +90,7 @@ static struct doubts find_doubts(const struct reading *r, struct survey *s, cons
             add_line(s, &d.strays, i);
         count_delimiter(&d, kind, i);
         in_body |= item->kind == MASM_TYPE_DECL && (kind == MASM_EQUAL || kind == MASM_COLON);
-        begins_line = false;
+        line = last_line(r, i);
         before = kind;
     }
     return d;

@@ -51,13 +51,13 @@ void show_title(const char *left, const char *name);
 void complain(const char *outside, const char *words);
 bool finish_output(void);
 
-/* A source, where its lines start, and what the call gave of it. A line ends at LF. */
+/* A source, the line and column of each offset up to its length, and what the call gave of it. */
 struct reading {
     const char *name;
     uint8_t *source;
     size_t length;
-    size_t *line_starts;
-    size_t lines;
+    uint32_t *lines;
+    uint32_t *columns;
     uint16_t *token_kinds;
     uint32_t *token_ends;
     size_t tokens;
@@ -76,10 +76,11 @@ int read_source(struct reading *r, const char *name);
 void release(struct reading *r);
 size_t line_of(const struct reading *r, size_t offset);
 size_t column_of(const struct reading *r, size_t offset);
-size_t line_end(const struct reading *r, size_t line);
-bool starts_row(const struct reading *r, size_t offset);
-size_t row_end(const struct reading *r, size_t from, size_t end);
+bool starts_line(const struct reading *r, size_t offset);
+size_t line_start(const struct reading *r, size_t offset);
+size_t line_end(const struct reading *r, size_t from, size_t end);
 size_t text_end(const struct reading *r, size_t from, size_t to);
+size_t line_count(const struct reading *r);
 
 /* tokens.c */
 enum { TOO_DEEP = 49 }; /* the message where blocks lie too deep (docs/MESSAGES.md) */

@@ -68,7 +68,7 @@ static size_t row_start(const struct reading *r, size_t token)
     if (token == 0 || r->token_kinds[token - 1] != MASM_WHITESPACE)
         return start;
     size_t blank = token_start(r, token - 1);
-    return starts_row(r, blank) ? blank : start;
+    return starts_line(r, blank) ? blank : start;
 }
 
 /* A row goes on with tokens of the same item; items that could not be read share rows. */
@@ -90,21 +90,13 @@ static void add_token(const struct reading *r, struct row *row, const struct fac
     }
     row->flags |= flags;
     while (start < end) {
-        row->to = start = row_end(r, start, end);
-        if (!starts_row(r, start))
+        row->to = start = line_end(r, start, end);
+        if (!starts_line(r, start))
             return;
         end_piece(r, row);
         row->from = start;
         row->flags = fact->label == MASM_ERROR ? REPORTED : 0;
     }
-}
-
-/* Ends the row at a line break. A CR without LF is shown. */
-static void add_newline(const struct reading *r, struct row *row, size_t token)
-{
-    if (row->to > 0 && r->source[r->token_ends[token] - 1] == '\r')
-        row->to = r->token_ends[token];
-    end_piece(r, row);
 }
 
 /* The row for the fold that starts at a token; the first token behind it. */
@@ -130,14 +122,14 @@ static size_t show_fold(const struct reading *r, const struct survey *s, const s
     return end;
 }
 
+/* Adds a token to the row under way, or ends the row where a line ends in blanks. */
 static size_t show_token(const struct reading *r, const struct survey *s, struct row *row,
                          size_t token)
 {
-    uint16_t kind = r->token_kinds[token];
-    if (kind == MASM_NEWLINE)
-        add_newline(r, row, token);
-    else if (kind != MASM_WHITESPACE)
+    if (!is_blank(r->token_kinds[token]))
         add_token(r, row, &s->facts[token], token);
+    else if (starts_line(r, r->token_ends[token]))
+        end_piece(r, row);
     return token + 1;
 }
 
@@ -168,9 +160,8 @@ void show_folded(const struct reading *r, struct survey *s, const struct options
     fold_items(r, s, o);
     show_title("   line    item", r->name);
     show_rows(r, s, &totals);
-    bool ended = r->length == 0 || r->source[r->length - 1] == '\n';
     start_row('>', "");
-    put_words("lines: %zu, folded: %zu in %zu fold%s; diagnostics: %zu", r->lines - ended,
+    put_words("lines: %zu, folded: %zu in %zu fold%s; diagnostics: %zu", line_count(r),
               totals.lines, totals.folds, totals.folds == 1 ? "" : "s", r->diagnostics);
     end_row();
 }

@@ -1,14 +1,14 @@
 /* The unfolded view: every line of the source behind its number and the depth of its blocks. */
 #include "fold.h"
 
-/* What the tokens of one row say. */
+/* What the tokens of one line say. */
 struct mark {
     unsigned depth;
     uint8_t flags;
 };
 
-/* The depth is that of the first token that is no blank, also where the row begins inside it.
-   Blocks open and close at tokens that start in the row. `token` is the first one that ends behind
+/* The depth is that of the first token that is no blank, also where the line begins inside it.
+   Blocks open and close at tokens that start in the line. `token` is the first one that ends behind
    `from`. */
 static struct mark look(const struct reading *r, const struct survey *s, size_t *token, size_t from,
                         size_t to)
@@ -35,14 +35,10 @@ static char sign_of(struct mark mark)
     return (mark.flags & CLOSES) != 0 ? '-' : ' ';
 }
 
-static void put_row(const struct reading *r, size_t from, size_t to, struct mark mark)
+static void put_line(const struct reading *r, size_t from, size_t to, struct mark mark)
 {
     const char *unread = (mark.flags & UNREAD) != 0 ? "unread" : "";
-    size_t line = line_of(r, from);
-    if (r->line_starts[line - 1] == from)
-        start_row('|', "%7zu %3u %c %s", line, mark.depth, sign_of(mark), unread);
-    else
-        start_row('|', "%7s %3u %c %s", "", mark.depth, sign_of(mark), unread);
+    start_row('|', "%7zu %3u %c %s", line_of(r, from), mark.depth, sign_of(mark), unread);
     put_text(r->source + from, text_end(r, from, to) - from);
     end_row();
 }
@@ -63,12 +59,11 @@ void show_open(const struct reading *r, struct survey *s)
     size_t token = 0, next = 0;
     show_title("   line dep", r->name);
     for (size_t from = 0, to; from < r->length; from = to) {
-        to = row_end(r, from, r->length);
+        to = line_end(r, from, r->length);
         show_notes(r, s, &next, from, to);
-        put_row(r, from, to, look(r, s, &token, from, to));
+        put_line(r, from, to, look(r, s, &token, from, to));
     }
-    bool ended = r->length == 0 || r->source[r->length - 1] == '\n';
     start_row('>', "");
-    put_words("lines: %zu; diagnostics: %zu", r->lines - ended, r->diagnostics);
+    put_words("lines: %zu; diagnostics: %zu", line_count(r), r->diagnostics);
     end_row();
 }

@@ -1,4 +1,4 @@
-/* A source: read from a file, its lines, and where rows end in it. */
+/* A source: read from a file, and its lines, which `masm_lines` alone finds. */
 #include <errno.h>
 #include <stdio.h>
 #include <stdlib.h>
@@ -17,16 +17,17 @@ void *need(size_t count, size_t size)
     return memory;
 }
 
+/* The line and the column of every offset, in one call. A source that is too long has none. */
 static void find_lines(struct reading *r)
 {
-    r->lines = 1;
-    for (size_t i = 0; i < r->length; i++)
-        r->lines += r->source[i] == '\n';
-    r->line_starts = need(r->lines, sizeof *r->line_starts);
-    size_t line = 1;
-    for (size_t i = 0; i < r->length; i++)
-        if (r->source[i] == '\n')
-            r->line_starts[line++] = i + 1;
+    size_t count = r->length + 1;
+    uint32_t *offsets = need(count, sizeof *offsets);
+    for (size_t i = 0; i < count; i++)
+        offsets[i] = (uint32_t)i;
+    r->lines = need(count, sizeof *r->lines);
+    r->columns = need(count, sizeof *r->columns);
+    masm_lines(r->source, r->length, offsets, count, r->lines, count, r->columns, count);
+    free(offsets);
 }
 
 /* Reads a file, or standard input for `-`: one byte more than a source may have, so that a longer
@@ -52,7 +53,8 @@ int read_source(struct reading *r, const char *name)
 void release(struct reading *r)
 {
     free(r->source);
-    free(r->line_starts);
+    free(r->lines);
+    free(r->columns);
     free(r->token_kinds);
     free(r->token_ends);
     free(r->events);
@@ -61,59 +63,56 @@ void release(struct reading *r)
     free(r->ends);
 }
 
-/* The line of an offset, counted from 1: the last that starts there or before. */
+/* Counted from 1. */
 size_t line_of(const struct reading *r, size_t offset)
 {
-    size_t low = 0, high = r->lines;
-    while (high - low > 1) {
-        size_t middle = low + (high - low) / 2;
-        if (r->line_starts[middle] <= offset)
-            low = middle;
-        else
-            high = middle;
-    }
-    return low + 1;
+    return r->lines[offset];
 }
 
 /* Bytes, counted from 1. */
 size_t column_of(const struct reading *r, size_t offset)
 {
-    return offset - r->line_starts[line_of(r, offset) - 1] + 1;
+    return r->columns[offset];
 }
 
-/* Where a line's text ends; its LF is not part of it. */
-size_t line_end(const struct reading *r, size_t line)
+/* Whether a line starts at an offset: at the start and behind each line end. */
+bool starts_line(const struct reading *r, size_t offset)
 {
-    return line < r->lines ? r->line_starts[line] - 1 : r->length;
+    return column_of(r, offset) == 1;
 }
 
-/* Whether a row starts at an offset. A CR without LF ends a row too, though no line: both end a
-   comment, so both must show. */
-bool starts_row(const struct reading *r, size_t offset)
+/* Where the line of an offset starts. */
+size_t line_start(const struct reading *r, size_t offset)
 {
-    if (offset == 0)
-        return true;
-    uint8_t last = r->source[offset - 1];
-    bool before_lf = offset < r->length && r->source[offset] == '\n';
-    return last == '\n' || (last == '\r' && !before_lf);
+    return offset - (column_of(r, offset) - 1);
 }
 
-/* Where the row ends that `from` stands in, or `end` if that comes first. */
-size_t row_end(const struct reading *r, size_t from, size_t end)
+/* Where the line that `from` stands in ends, or `end` if that comes first. */
+size_t line_end(const struct reading *r, size_t from, size_t end)
 {
     size_t to = from + 1;
-    while (to < end && !starts_row(r, to))
+    while (to < end && !starts_line(r, to))
         to++;
     return to < end ? to : end;
 }
 
-/* Where the text of a row ends that ends at `to`: before LF, and before the CR of CR LF. */
+/* Whether a piece of one line, read by itself, ends in a line end or in the CR of one. */
+static bool ends_line(const struct reading *r, size_t from, size_t to)
+{
+    uint32_t behind = (uint32_t)(to - from), line, column;
+    return masm_lines(r->source + from, behind, &behind, 1, &line, 1, &column, 1) == 1 && line > 1;
+}
+
+/* Where the text of a piece of one line ends: before the one or two bytes of the line end. */
 size_t text_end(const struct reading *r, size_t from, size_t to)
 {
-    if (to > from && r->source[to - 1] == '\n')
-        to--;
-    bool before_lf = to < r->length && r->source[to] == '\n';
-    if (to > from && r->source[to - 1] == '\r' && before_lf)
+    while (to > from && ends_line(r, from, to))
         to--;
     return to;
+}
+
+/* What stands behind the last line end is a line too, unless it is empty. */
+size_t line_count(const struct reading *r)
+{
+    return line_of(r, r->length) - starts_line(r, r->length);
 }
