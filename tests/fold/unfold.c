@@ -1,12 +1,12 @@
 /* Reads what `fold FILE --open` printed and writes the source that it shows, byte for byte but for
-   the CR of CR LF, which is not shown. A LF is written behind the last row, be there one in the
-   source or not. */
+   line ends, which are not shown: a LF is written for each, and behind the last row, be there one in
+   the source or not. */
 #include <stdbool.h>
 #include <stdio.h>
 #include <stdlib.h>
 #include <string.h>
 
-enum { NUMBER = 7, SIGN = 22, TEXT = 24, LONGEST = 8192 };
+enum { SIGN = 22, TEXT = 24, LONGEST = 8192 };
 
 /* Writes the byte that a piece of text shows; the piece's length. */
 static size_t put_shown(const char *text)
@@ -15,7 +15,7 @@ static size_t put_shown(const char *text)
         putchar(text[0]);
         return 1;
     }
-    const char *at = strchr("\\\\t\tr\r", text[1]);
+    const char *at = strchr("\\\\t\t", text[1]);
     if (text[1] == 'x') {
         char digits[3] = { text[2], text[3], '\0' };
         putchar((int)strtoul(digits, NULL, 16));
@@ -33,9 +33,8 @@ int main(void)
     if (fgets(row, sizeof row, stdin) == NULL)
         return 2;
     while (fgets(row, sizeof row, stdin) != NULL && strlen(row) >= TEXT) {
-        bool numbered = strspn(row, " ") < NUMBER;
         char sign = row[SIGN] == ':' ? before : row[SIGN];
-        if (sign == '|' && row[SIGN] == '|' && any && numbered)
+        if (row[SIGN] == '|' && any)
             putchar('\n');
         before = sign;
         if (strncmp(row + TEXT, "lines: ", 7) == 0 && sign == '>')

@@ -6,6 +6,7 @@ use std::{collections::BTreeSet, ops::Range};
 use reference::syntax::SyntaxKind as Kind;
 
 use crate::{
+    lines::is_break,
     marks::{doubts, reported},
     shown::Row,
     tree::{Item, Tree, is_blank, is_comment},
@@ -75,10 +76,9 @@ impl Check<'_, '_> {
         let (mut at, source) = (self.done, self.tree.source);
         while at < source.len() {
             let token = &self.tree.tokens[self.tree.token_at(at)];
-            let breaks = source[at] == b'\n' || source[at..].starts_with(b"\r\n");
             if is_blank(token.kind) {
                 at = token.end;
-            } else if at > token.start && breaks {
+            } else if at > token.start && is_break(source[at]) {
                 at += 1;
             } else {
                 return Some(at);
@@ -151,7 +151,7 @@ impl Check<'_, '_> {
         let (tree, source) = (self.tree, self.tree.source);
         let token = tree.token_at(next);
         let starts_token = tree.tokens[token].start == next;
-        if !starts_token && !tree.starts_row(next) {
+        if !starts_token && !tree.starts_line(next) {
             return Err("the row before ends inside a token".to_string());
         }
         let indent = self.indent(next, token);
@@ -179,7 +179,7 @@ impl Check<'_, '_> {
             Some(blank)
                 if blank.end == next
                     && blank.kind == Kind::Whitespace as u16
-                    && self.tree.starts_row(blank.start) =>
+                    && self.tree.starts_line(blank.start) =>
             {
                 blank.end - blank.start
             },
@@ -187,14 +187,11 @@ impl Check<'_, '_> {
         }
     }
 
-    /// No line ends inside the row, and it ends in no blank and no CR of CR LF.
+    /// No line ends inside the row, and it ends in no blank and no part of a line end.
     fn one_line(&self, next: usize, to: usize) -> Checked {
-        let source = self.tree.source;
-        let inside = (next + 1..to).any(|at| self.tree.starts_row(at));
+        let inside = (next + 1..to).any(|at| self.tree.starts_line(at));
         let last = &self.tree.tokens[self.tree.token_at(to - 1)];
-        let ends_in_blank = is_blank(last.kind) && source[to - 1] != b'\r';
-        let noise = source[to - 1] == b'\n' || source[to - 1..].starts_with(b"\r\n");
-        if inside || ends_in_blank || noise {
+        if inside || is_blank(last.kind) || is_break(self.tree.source[to - 1]) {
             return Err("the row does not end with its line".to_string());
         }
         Ok(())
@@ -225,22 +222,21 @@ impl Check<'_, '_> {
     /// The row goes as far as its line and its item go.
     fn full(&self, token: usize, to: usize) -> Checked {
         let (tree, source) = (self.tree, self.tree.source);
-        if tree.starts_row(to) || to == source.len() {
+        if to == source.len() {
             return Ok(());
         }
         let at = tree.token_at(to);
         let early = Err("the row ends early".to_string());
         if tree.tokens[at].start < to {
             // Only the break of a line may be left out of a token.
-            let breaks = source[to] == b'\n' || source[to..].starts_with(b"\r\n");
-            return if breaks { Ok(()) } else { early };
+            return if is_break(source[to]) { Ok(()) } else { early };
         }
         let spaces = |token: &usize| tree.tokens[*token].kind == Kind::Whitespace as u16;
         let Some(behind) = (at..tree.tokens.len()).find(|token| !spaces(token)) else {
             return Ok(());
         };
         if tree.tokens[behind].kind == Kind::Newline as u16 {
-            return if tree.text(behind) == b"\r" { early } else { Ok(()) };
+            return Ok(());
         }
         let alike =
             self.group(behind) == self.group(token) && tree.label(behind) == tree.label(token);

@@ -4,14 +4,15 @@ use corpus::{random::Random, tails::broken_script};
 use fuzz::{check::Input, generate::case};
 
 /// Quotes over lines, line ends of all sorts, letters, delimiters left open, words that start items.
-const PIECES: [&str; 44] = [
+const PIECES: [&str; 50] = [
     "\"a\\\n  b\" ", "\"a\\\nproc b\" ", "\"\\\r\"", "\"x\\\r\n", "\"x\\\r\\\n\\\n", "\"x\\\n",
     "\"x\\\r\r", "(", "[", "{", ")", "\nproc ", "\n@a ", "\n  pub ", "\nbegin ", "\rconst ", "\r",
     "\r\n", "\r\r\n", "\n\n", " ", "\t", "    \n", "# é 料金 \u{202E}\u{301} 😀\n", "é", "料金",
     "\u{A0}", "\u{2800}", "±±", "\u{7F}", "\\", "\u{1B}[2J", "\ntype T = felt\nexec.a\n",
     "\nconst A = (1\n", "\n@a(\nproc b end\n", "proc\nbegin\n", "\nproc a(\nb: felt\n)\nend\n",
     "\nbegin add\nend const B = 1 # c\n", "\nproc a add end\n", "end ", "#! d\n", "push.[\n",
-    "if.\n", "@\n# c\n@b proc c end\n",
+    "if.\n", "@\n# c\n@b proc c end\n", "$\r", "\r\r\n $\r\n", "\"\\\r\n", "\"a\\\r  b\\\rc\" ",
+    "# c\rproc d\r", "\n\r",
 ];
 
 /// A line that is wrapped more than once.
@@ -27,7 +28,8 @@ const DEEP: usize = 40;
 pub fn script(seed: u64, number: u64) -> (Vec<u8>, Random) {
     let (input, mut random) = case(seed, number);
     if number.is_multiple_of(BROKEN) {
-        return (broken_script(&mut random), random);
+        let (source, end) = (broken_script(&mut random), random.pick(&["\n", "\r\n", "\r"]));
+        return (ended(&source, |_| end, &mut random), random);
     }
     let mut source = match input {
         Input::Source(source) => source,
@@ -40,11 +42,15 @@ pub fn script(seed: u64, number: u64) -> (Vec<u8>, Random) {
     }
     let source = match random.below(8) {
         0..3 => source,
-        3 => ended(&source, |_| "\r\n", &mut random),
+        3 => {
+            let end = random.pick(&["\r\n", "\r", "\r\r\n"]);
+            ended(&source, |_| end, &mut random)
+        },
         4 => ended(&source, |random| random.pick(&["\n", "\r\n", "\r"]), &mut random),
         _ => pieces(source, &mut random),
     };
-    (source, random)
+    let last = if random.one_in(8) { random.pick(&["\r", "\r\n", "\"\\\r\n", "$\r"]) } else { "" };
+    ([&source, last.as_bytes()].concat(), random)
 }
 
 fn ended(

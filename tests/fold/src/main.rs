@@ -2,6 +2,7 @@
 
 mod folded;
 mod letters;
+mod lines;
 mod made;
 mod marks;
 mod open;

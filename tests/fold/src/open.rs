@@ -1,6 +1,7 @@
-//! The unfolded view gives back every byte of the source, but for the CR of CR LF.
+//! The unfolded view gives back every byte of the source, but for line ends, and the number of each line.
 
 use crate::{
+    lines,
     marks::doubts,
     shown::Row,
     tree::{Tree, is_blank},
@@ -10,7 +11,7 @@ use crate::{
 pub fn check(tree: &Tree, rows: &[Row]) -> Result<u64, String> {
     let (mut from, mut notes, mut rest) = (0, Vec::new(), rows.iter());
     while from < tree.source.len() {
-        let to = row_end(tree, from);
+        let to = tree.end_of_line(from);
         notes.clear();
         let row = loop {
             let row = rest.next().ok_or(format!("the byte at {from} is not shown"))?;
@@ -24,7 +25,7 @@ pub fn check(tree: &Tree, rows: &[Row]) -> Result<u64, String> {
             return Err(format!("{notes:?}, not {expected:?}, before {row:?}"));
         }
         let left = left(tree, from, to);
-        if row.left != left || row.text != text(tree, from, to) {
+        if row.left != left || row.text != lines::text(&tree.source[from..to]) {
             return Err(format!("{row:?}, not {left:?} and the bytes {from} to {to}"));
         }
         from = to;
@@ -33,16 +34,6 @@ pub fn check(tree: &Tree, rows: &[Row]) -> Result<u64, String> {
         Some(row) => Err(format!("behind the last row: {row:?}")),
         None => Ok(rows.len() as u64),
     }
-}
-
-fn row_end(tree: &Tree, from: usize) -> usize {
-    let length = tree.source.len();
-    (from + 1..length).find(|&at| tree.starts_row(at)).unwrap_or(length)
-}
-
-fn text<'a>(tree: &'a Tree, from: usize, to: usize) -> &'a [u8] {
-    let row = &tree.source[from..to];
-    row.strip_suffix(b"\r\n").or(row.strip_suffix(b"\n")).unwrap_or(row)
 }
 
 fn left(tree: &Tree, from: usize, to: usize) -> String {
@@ -62,10 +53,8 @@ fn left(tree: &Tree, from: usize, to: usize) -> String {
         (false, false) => ' ',
     };
     let unread = tokens.iter().any(|&token| tree.tokens[token].unread);
-    let starts_line = from == 0 || tree.source[from - 1] == b'\n';
-    let number = if starts_line { tree.line_of(from).to_string() } else { String::new() };
     let unread = if unread { "unread" } else { "" };
-    format!("{number:>7} {depth:3} {sign} {unread:7}")
+    format!("{:7} {depth:3} {sign} {unread:7}", tree.line_of(from))
 }
 
 fn expected_notes(tree: &Tree, from: usize, to: usize) -> Vec<(String, String)> {

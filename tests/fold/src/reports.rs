@@ -4,6 +4,7 @@ use reference::Diagnostic;
 
 use crate::{
     letters::units,
+    lines::{self, end_of_line, start_of_line},
     shown::{Page, Row},
 };
 
@@ -41,9 +42,10 @@ pub fn report<'a>(
     let [said, place, carets, rest @ ..] = rows else {
         return Err(format!("{words} at {start} is missing"));
     };
-    let line_of = |at: usize| 1 + source[..at].iter().filter(|&&byte| byte == b'\n').count();
+    let ends = lines::ends(source);
+    let line_of = |at: usize| lines::line_of(&ends, at);
     let line = line_of(start);
-    let line_start = source[..start].iter().rposition(|&byte| byte == b'\n').map_or(0, |at| at + 1);
+    let line_start = start_of_line(&ends, start);
     let to_line = if end > start && line_of(end - 1) > line {
         format!(" to line {}", line_of(end - 1))
     } else {
@@ -53,7 +55,7 @@ pub fn report<'a>(
     if !said.own || said.left != format!("{line:7} !  {label:10}") || said.words() != expected {
         return Err(format!("{said:?}, not {expected:?} in line {line}"));
     }
-    check_place(source, (start, end), line_start, (place, carets), page)
+    check_place(source, (start, end), &ends, (place, carets), page)
         .then_some(rest)
         .ok_or(format!("{place:?} and {carets:?} at {start} to {end}"))
 }
@@ -63,15 +65,14 @@ pub fn report<'a>(
 fn check_place(
     source: &[u8],
     (start, end): (usize, usize),
-    line_start: usize,
+    line_ends: &[usize],
     (place, carets): (&Row, &Row),
     page: &Page,
 ) -> bool {
-    let line = 1 + source[..start].iter().filter(|&&byte| byte == b'\n').count();
-    let behind = source[start..].iter().position(|&byte| byte == b'\n');
-    let line_end = behind.map_or(source.len(), |at| start + at);
-    let with_cr = behind.is_some() && source[line_start..line_end].ends_with(b"\r");
-    let line_end = if with_cr { line_end - 1 } else { line_end };
+    let line = lines::line_of(line_ends, start);
+    let line_start = start_of_line(line_ends, start);
+    let whole_line = &source[line_start..end_of_line(line_ends, start, source.len())];
+    let line_end = line_start + lines::text(whole_line).len();
     let columns = |from: usize, to: usize| -> usize {
         units(&source[from..to.max(from)], page.ascii).iter().map(|unit| unit.usual).sum()
     };

@@ -2,6 +2,8 @@
 
 use reference::{Diagnostic, Parsed, syntax::SyntaxKind as Kind};
 
+use crate::lines;
+
 pub struct Token {
     pub kind: u16,
     pub start: usize,
@@ -38,7 +40,8 @@ pub struct Item {
 
 pub struct Tree<'a> {
     pub source: &'a [u8],
-    lines: Vec<usize>,
+    /// Where line ends are completed.
+    line_ends: Vec<usize>,
     pub tokens: Vec<Token>,
     pub nodes: Vec<Node>,
     pub items: Vec<Item>,
@@ -69,11 +72,9 @@ const FIRST_TOKEN: u16 = Kind::Whitespace as u16;
 impl<'a> Tree<'a> {
     pub fn new(source: &'a [u8], parsed: &Parsed) -> Self {
         let diagnostics = parsed.diagnostics.clone();
-        let behind = |at: usize| source[at] == b'\n';
-        let lines = (0..source.len()).filter(|&at| behind(at)).map(|at| at + 1).collect();
         let mut tree = Self {
             source,
-            lines,
+            line_ends: lines::ends(source),
             tokens: Vec::new(),
             nodes: Vec::new(),
             items: Vec::new(),
@@ -162,16 +163,23 @@ impl<'a> Tree<'a> {
     }
 
     pub fn line_of(&self, offset: usize) -> usize {
-        1 + self.lines.partition_point(|&start| start <= offset)
+        lines::line_of(&self.line_ends, offset)
     }
 
-    /// Whether a row starts at an offset: at the start, behind LF, behind a CR without LF.
-    pub fn starts_row(&self, offset: usize) -> bool {
-        match offset.checked_sub(1).map(|before| self.source[before]) {
-            None | Some(b'\n') => true,
-            Some(b'\r') => self.source.get(offset) != Some(&b'\n'),
-            Some(_) => false,
-        }
+    /// Whether a line starts at an offset: at the start, and where a line end is completed.
+    pub fn starts_line(&self, offset: usize) -> bool {
+        offset == 0 || self.line_ends.binary_search(&offset).is_ok()
+    }
+
+    /// Where the line of an offset ends, its line end included.
+    pub fn end_of_line(&self, offset: usize) -> usize {
+        lines::end_of_line(&self.line_ends, offset, self.source.len())
+    }
+
+    /// How many lines there are: those that have a line end, and what stands behind the last.
+    pub fn line_count(&self) -> usize {
+        let behind = self.line_ends.last().copied().unwrap_or(0);
+        self.line_ends.len() + usize::from(behind < self.source.len())
     }
 
     pub fn is_word(&self, token: usize) -> bool {

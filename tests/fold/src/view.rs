@@ -121,8 +121,7 @@ impl View {
         let blank = |row: &Row| row.own && row.left.trim().is_empty();
         let end = rows.iter().position(blank).ok_or("no summary")?;
         let (view, behind) = rows.split_at(end);
-        let ended = tree.source.is_empty() || tree.source.ends_with(b"\n");
-        let lines = tree.line_of(tree.source.len()) - usize::from(ended);
+        let lines = tree.line_count();
         let diagnostics = tree.diagnostics.len();
         let (seen, folded) = if self.open {
             (Seen { rows: open::check(tree, view)?, ..Seen::default() }, ";".to_string())
