@@ -1,10 +1,7 @@
 /* Tests the exported call from C. The word behind the program's name chooses how slices are lent:
    exact, words, end or start; without one all four are tried. */
-#define _DEFAULT_SOURCE
-#include <signal.h>
 #include <stdio.h>
 #include <string.h>
-#include <unistd.h>
 
 #include "cases.h"
 #include "join.h"
@@ -13,16 +10,6 @@
 #include "sizing.h"
 
 static const char *const LENDING_NAMES[LENDINGS] = { "exact", "words", "end", "start" };
-
-/* A page without access was met. */
-static void on_fault(int signal)
-{
-    static const char text[] = ": an access outside the slices\n";
-    (void)signal;
-    ssize_t written = write(STDERR_FILENO, case_name, strlen(case_name));
-    written += write(STDERR_FILENO, text, sizeof text - 1);
-    _exit(written > 0 ? 1 : 2);
-}
 
 static void check_joins(enum lending how)
 {
@@ -60,7 +47,7 @@ static void check_all(enum lending how)
 
 int main(int count, char **words)
 {
-    signal(SIGSEGV, on_fault);
+    watch_access(&case_name);
     bool known = count == 1;
     for (int how = 0; how < LENDINGS; how++) {
         if (count > 1 && strcmp(words[1], LENDING_NAMES[how]) != 0)

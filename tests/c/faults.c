@@ -3,6 +3,11 @@
 #include <string.h>
 
 #include "call.h"
+#include "spoil.h"
+
+static const char *const NAMES[SLICES] = {
+    "kinds", "token_ends", "events", "messages", "starts", "ends", "counts"
+};
 
 static uint64_t plain_call(struct call *c)
 {
@@ -14,52 +19,11 @@ static uint64_t plain_call(struct call *c)
                            s[ENDS].data, room[ENDS], s[COUNTS].data, room[COUNTS]);
 }
 
-/* Changes a byte of a slice, counted from its start or, if negative, from its end. */
-static void spoil(struct lent *lent, ptrdiff_t at)
-{
-    volatile uint8_t *bytes = lent->data;
-    if (at < 0)
-        at += (ptrdiff_t)lent->bytes;
-    bytes[at] ^= 1;
-}
-
-static bool spoil_slice(struct call *c, const char *name)
-{
-    static const char *const names[SLICES] = {
-        "kinds", "token_ends", "events", "messages", "starts", "ends", "counts"
-    };
-    for (int i = 0; i < SLICES; i++) {
-        struct lent *slice = &c->slices[i];
-        size_t length = strlen(names[i]);
-        if (strncmp(name, names[i], length) != 0 || slice->bytes == 0)
-            continue;
-        const char *where = name + length;
-        if (strcmp(where, "-first") == 0)
-            spoil(slice, 0);
-        else if (strcmp(where, "-last") == 0)
-            spoil(slice, -1);
-        else if (strcmp(where, "-behind") == 0)
-            spoil(slice, (ptrdiff_t)slice->bytes);
-        else if (strcmp(where, "-before") == 0)
-            spoil(slice, -(ptrdiff_t)slice->bytes - 1);
-        else
-            continue;
-        return true;
-    }
-    return false;
-}
-
-static void read_behind(const struct lent *lent)
-{
-    volatile uint8_t byte = ((const volatile uint8_t *)lent->data)[lent->bytes];
-    (void)byte;
-}
-
 uint64_t faulty_call(struct call *c)
 {
     const char *fault = getenv("MASM_FAULT");
     uint64_t status = plain_call(c);
-    if (fault == NULL || spoil_slice(c, fault))
+    if (fault == NULL || spoil_slice(c->slices, NAMES, SLICES, fault))
         return status;
     if (strcmp(fault, "status") == 0)
         return status ^ 1;
@@ -68,8 +32,8 @@ uint64_t faulty_call(struct call *c)
     if (strcmp(fault, "read") == 0)
         read_behind(&c->source);
     if (strcmp(fault, "join") == 0 && strcmp(case_name, "demand 3") == 0)
-        spoil_slice(c, "starts-first");
+        spoil_slice(c->slices, NAMES, SLICES, "starts-first");
     if (strcmp(fault, "sizing") == 0 && strcmp(case_name, "sizing") == 0)
-        spoil_slice(c, "counts-first");
+        spoil_slice(c->slices, NAMES, SLICES, "counts-first");
     return status;
 }

@@ -1,6 +1,7 @@
 #define _DEFAULT_SOURCE
 #include "lend.h"
 
+#include <signal.h>
 #include <stdio.h>
 #include <stdlib.h>
 #include <string.h>
@@ -82,4 +83,21 @@ void give_back(struct lent *lent)
         free(lent->block);
     else
         munmap(lent->block - page(), lent->block_bytes + 2 * page());
+}
+
+static const char **watched;
+
+static void on_fault(int signal)
+{
+    static const char text[] = ": an access outside the slices\n";
+    (void)signal;
+    ssize_t written = write(STDERR_FILENO, *watched, strlen(*watched));
+    written += write(STDERR_FILENO, text, sizeof text - 1);
+    _exit(written > 0 ? 1 : 2);
+}
+
+void watch_access(const char **case_name)
+{
+    watched = case_name;
+    signal(SIGSEGV, on_fault);
 }

@@ -30,4 +30,8 @@ void forbid_writes(struct lent *lent);
 bool guards_hold(const struct lent *lent);
 void give_back(struct lent *lent);
 
+/* From here on the program ends with status 1 where a page without access is met, and names the
+   case. */
+void watch_access(const char **case_name);
+
 #endif

@@ -1,5 +1,5 @@
-/* How much stack the call takes on sources that are nested as deep as can be: masm_cst.h names the
-   most that the test allows. */
+/* How much stack a call takes, the first on sources that are nested as deep as can be: masm_cst.h
+   names the most that the test allows. */
 #define _GNU_SOURCE
 #include <pthread.h>
 #include <stdio.h>
@@ -17,6 +17,7 @@ static uint16_t messages[MASM_DIAGNOSTIC_ROOM(LENGTH)];
 static uint32_t token_ends[LENGTH];
 static uint32_t starts[MASM_DIAGNOSTIC_ROOM(LENGTH)], ends[MASM_DIAGNOSTIC_ROOM(LENGTH)];
 static uint64_t counts[MASM_COUNTS];
+static uint8_t longest[MASM_MAX_SOURCE];
 
 static void *nothing(void *argument)
 {
@@ -29,6 +30,15 @@ static void *call(void *argument)
                     MASM_EVENT_ROOM(LENGTH), messages, MASM_DIAGNOSTIC_ROOM(LENGTH), starts,
                     MASM_DIAGNOSTIC_ROOM(LENGTH), ends, MASM_DIAGNOSTIC_ROOM(LENGTH), counts,
                     MASM_COUNTS);
+    return argument;
+}
+
+/* Offsets that rise and fall, in the longest source. */
+static void *call_lines(void *argument)
+{
+    const uint32_t offsets[] = { MASM_MAX_SOURCE, 0, MASM_MAX_SOURCE / 2, 1025, MASM_MAX_SOURCE };
+    uint32_t lines[5], columns[5];
+    masm_lines(longest, sizeof longest, offsets, 5, lines, 5, columns, 5);
     return argument;
 }
 
@@ -63,12 +73,17 @@ static void fill(const char *piece, size_t count)
         memcpy(source + at, piece, length);
 }
 
-/* What the call takes beyond a thread that does nothing. */
+/* What a call takes beyond a thread that does nothing. */
+static size_t taken_by(void *(*work)(void *))
+{
+    size_t least = taken(nothing), whole = taken(work);
+    return whole > least ? whole - least : 0;
+}
+
 static size_t taken_for(const char *piece, size_t count)
 {
     fill(piece, count);
-    size_t least = taken(nothing), whole = taken(call);
-    return whole > least ? whole - least : 0;
+    return taken_by(call);
 }
 
 int main(void)
@@ -86,6 +101,8 @@ int main(void)
         printf("stack_test: %zu bytes a level of%s\n", each, pieces[i]);
         level = each > level ? each : level;
     }
-    printf("stack_test: %zu bytes at most\n", most);
-    return most > 0 && most <= MASM_STACK && level <= 240 ? 0 : 1;
+    memset(longest, '\r', sizeof longest);
+    size_t lines = taken_by(call_lines);
+    printf("stack_test: %zu bytes at most, %zu for lines\n", most, lines);
+    return most > 0 && most <= MASM_STACK && lines <= MASM_STACK && level <= 240 ? 0 : 1;
 }

@@ -1,5 +1,5 @@
-// The call from C++, its slices vectors of the rooms that the macros name: each has memory, on an
-// empty file too.
+// The calls from C++, their slices vectors of the rooms that the macros name: each has memory, on
+// an empty file too.
 #include <cstdio>
 #include <cstring>
 #include <vector>
@@ -49,11 +49,26 @@ static bool reads(const char *text, uint64_t tokens, uint64_t events, uint64_t d
         && r.events[events - 1] == MASM_CLOSE;
 }
 
+// Whether the offsets of a text have these lines and columns.
+static bool places(const char *text, const std::vector<uint32_t> &offsets,
+                   const std::vector<uint32_t> &lines, const std::vector<uint32_t> &columns)
+{
+    std::vector<uint8_t> source(text, text + std::strlen(text));
+    source.resize(MASM_SOURCE_ROOM(source.size()));
+    std::vector<uint32_t> found_lines(offsets.size()), found_columns(offsets.size());
+    uint64_t written = masm_lines(source.data(), source.size() - 1, offsets.data(), offsets.size(),
+                                  found_lines.data(), found_lines.size(), found_columns.data(),
+                                  found_columns.size());
+    return written == offsets.size() && found_lines == lines && found_columns == columns;
+}
+
 int main()
 {
     bool passed = reads("", 0, 2, 0) && reads("begin add end\n", 6, 14, 0)
         && reads("begin", 1, 7, 1) && std::strcmp(masm_kind_name(MASM_BLOCK), "Block") == 0
-        && std::strcmp(masm_message(22), "unexpected top-level token") == 0;
+        && std::strcmp(masm_message(22), "unexpected top-level token") == 0
+        && places("", { 0 }, { 1 }, { 1 })
+        && places("a\r\nb\rc", { 5, 2, 9 }, { 3, 1, 3 }, { 1, 3, 2 });
     std::printf("vector_test: %s\n", passed ? "passed" : "failed");
     return passed ? 0 : 1;
 }
