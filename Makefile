@@ -1,5 +1,5 @@
 # The front door. Each target is one command; `make test` is the gate.
-.PHONY: fold read check test differ large calls fuzz growth speed store samples mutants choose economy index
+.PHONY: fold read lines check test differ large calls fuzz growth speed store samples mutants choose economy index
 .DELETE_ON_ERROR:
 MAKEFLAGS += --no-builtin-rules
 
@@ -12,6 +12,10 @@ fold: target/fold
 read: target/read
 	@target/read $(FILE) || [ $$? -eq 1 ]
 
+# The line and column of every offset of FILE.
+lines: target/lines
+	@target/lines $(FILE)
+
 C_FLAGS := -std=c11 -O2 -Wall -Wextra -Iinclude
 archive := target/staticlib/libmasm.a
 
@@ -21,7 +25,10 @@ target/fold: $(wildcard examples/fold/* include/*.h) $(archive)
 target/read: examples/read.c $(wildcard include/*.h) $(archive)
 	$(CC) $(C_FLAGS) $< $(archive) -o $@
 
-# The archive with the exported call, proved: made anew where a file of the crates changed, or the kit (`rt version`).
+target/lines: examples/lines.c $(wildcard include/*.h) $(archive)
+	$(CC) $(C_FLAGS) $< $(archive) -o $@
+
+# The archive with the exported calls, proved: made anew where a file of the crates changed, or the kit (`rt version`).
 ifneq ($(shell rt version 2>&1),$(shell cat target/staticlib/kit 2>&1))
 .PHONY: $(archive)
 endif
@@ -52,11 +59,12 @@ large:
 	cd tests && cargo run --offline --release --bin differ readings --program ../crates/cases/out/cases --large $(N)
 	cd tests && cargo run --offline --release --bin differ trees --program ../crates/cases/out/cases --large $(N)
 
-# The exported call over the corpus, and from C, and fold. Needs gcc and valgrind.
+# The exported calls over the corpus, from C and against Python's lines, and fold. Needs gcc, valgrind and python3.
 calls: $(archive)
 	cd tests && cargo build --offline --release
 	tests/target/release/differ calls
 	tests/c/run
+	tests/lines/run
 	tests/fold/run
 
 # The exported call against the reference for a chosen time: guided by coverage, with JOBS processes, and as

@@ -1,5 +1,5 @@
-/* The lines and columns of offsets in a file, a row `OFFSET LINE COLUMN` for each: of those that are
-   given, or else of every offset from 0 to the file's length.
+/* The lines and columns of offsets in a file, a row `OFFSET LINE COLUMN` for each: of those that
+   are given, or else of every offset from 0 to the file's length.
    Exit status: 0, 2 if the file is too long, 3 if it is not read or the words are wrong. */
 #include <errno.h>
 #include <stdio.h>
