@@ -103,7 +103,8 @@ static bool ends_line(const struct reading *r, size_t from, size_t to)
     return masm_lines(r->source + from, behind, &behind, 1, &line, 1, &column, 1) == 1 && line > 1;
 }
 
-/* Where the text of a piece of one line ends: before the one or two bytes of the line end. */
+/* Where the text of a piece of one line ends: before the bytes of its line end. Which these are,
+   `masm_lines` says: they are off when the piece ends no line any more. No byte is looked at here. */
 size_t text_end(const struct reading *r, size_t from, size_t to)
 {
     while (to > from && ends_line(r, from, to))
