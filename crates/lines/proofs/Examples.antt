@@ -3,7 +3,7 @@
 use Rattle.std.specs.Prelude.{ℕ, ◌+◌, ◌≡◌, refl, List, [], ◌∷◌, ◌++◌}
 use Rattle.std.proofs.Common.{arith}
 use Rattle.lines.specs.Ends.{line, column}
-use Rattle.lines.proofs.Joined.{line_ends_in}
+use Rattle.lines.specs.JoinedLines.{line_ends_in}
 
 abbrev At : List ℕ → ℕ → ℕ → ℕ → Type 0
 At source o l c = (line source o ≡ l) × (column source o ≡ c)

@@ -1,16 +1,14 @@
 -- Lines of joined texts. Where the first ends in LF, what stands in it keeps its lines and columns, and of what stands in the second the lines
 -- go up by the line ends of the first, and the columns stay.
 -- Assumes nothing.
-use Rattle.std.specs.Prelude.{ℕ, zero, suc, ◌+◌, ◌-◌, ◌≤◌, ◌<◌, ◌≡◌, refl, Bool, true, false, cond, List, [], ◌∷◌, ◌++◌, length, get_or, map}
+use Rattle.std.specs.Prelude.{ℕ, zero, suc, ◌+◌, ◌-◌, ◌≤◌, ◌<◌, ◌≡◌, refl, Bool, true, false, cond, List, [], ◌∷◌, ◌++◌, length, get_or, map, min}
 use Rattle.std.proofs.Common.{sym, ap, ap₂, subst, ◌∙◌, arith, ◌⊎◌, inl, inr, add-zero, length-append}
 use Rattle.std.proofs.lemmas.List.{length-map, get_or-append-add, get_or_append_left}
 use Rattle.std.proofs.Math.Nat.{eq-or-lt_of_le}
 use Rattle.lexer.specs.Laws.{last}
+use Rattle.lines.specs.JoinedLines.{line_ends_in, NoneAbove}
+use Rattle.lines.specs.MasmLines.{at_offsets}
 use Rattle.lines.specs.Ends.{completed, ends_by, line, column}
-
--- how many line ends a text has
-abbrev pub line_ends_in : List ℕ → ℕ
-line_ends_in source = length (ends_by source (length source))
 
 last_byte : (d : ℕ) (a : List ℕ) (n : ℕ) → suc n ≡ length a → get_or a n 0 ≡ last d a
 last_byte d [] n e = absurd (omega (arith, e))
@@ -86,3 +84,18 @@ module _ (a b : List ℕ) (line_feed : last 0 a ≡ 10) where
       by_ends : (l : List ℕ) → 1 + (length a + o - get_or (map (λ e. length a + e) l ++ ends_by a (length a)) 0 0) ≡ 1 + (o - get_or l 0 0)
       by_ends [] = omega (arith, ended some.0 some.1)
       by_ends (e ∷ l) = omega arith
+
+  -- numbers of places in A, and of places in B as the join has them
+  module _ (f : List ℕ → ℕ → ℕ) (g : ℕ → ℕ) (first : (o : ℕ) → o ≤ length a → f (a ++ b) o ≡ f a o)
+      (second : (o : ℕ) → f (a ++ b) (length a + o) ≡ g (f b o)) where
+    of_second : (os : List ℕ) → at_offsets f (a ++ b) (map (λ o. length a + o) os) ≡ map g (at_offsets f b os)
+    of_second [] = refl
+    of_second (o ∷ os) = ap₂ ◌∷◌ (ap (f (a ++ b)) (omega (arith, length-append a b)) ∙ second (min o (length b))) (of_second os)
+
+    pub of_both : (oa ob : List ℕ) → NoneAbove (length a) oa
+        → at_offsets f (a ++ b) (oa ++ map (λ o. length a + o) ob) ≡ at_offsets f a oa ++ map g (at_offsets f b ob)
+    of_both [] ob h = of_second ob
+    of_both (o ∷ oa) ob h =
+        ap₂ ◌∷◌
+        (ap (f (a ++ b)) (omega (arith, length-append a b)) ∙ first (min o (length a)) (omega arith))
+        (of_both oa ob h.1)

@@ -2,6 +2,7 @@
 pub mod Laws
 pub mod LineEnds
 pub mod Joined
+pub mod JoinedCalls
 pub mod Examples
 mod Spots
 mod Written

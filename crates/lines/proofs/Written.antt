@@ -8,7 +8,7 @@ use Rattle.lexer.specs.Tokens.{MAX_SOURCE}
 use Rattle.lines.specs.declared.walk.Position.{Position}
 use Rattle.lines.specs.Ends.{line, column}
 use Rattle.lines.specs.Places.{IsPosition}
-use Rattle.lines.specs.MasmLines.{lines_of, columns_of}
+use Rattle.lines.specs.MasmLines.{at_offsets}
 use Rattle.lines.proofs.Laws.{line_few, column_few}
 
 next_fit : (i : ℕ) (vs l : List ℕ) → i < length vs → i < length l → set (fit i vs l) i (get_or vs i 0) ≡ fit (suc i) vs l
@@ -26,8 +26,8 @@ one_more f i n ns l r h k e g =
 -- What the loop keeps: the walk's source is the call's, and the first i entries are written.
 pub record Going (source offsets lines₀ columns₀ r lines columns : List ℕ) (i : ℕ) : Type 0 where
   pub same : r ≡ source
-  pub lines_are : lines ≡ fit i (lines_of source offsets) lines₀
-  pub columns_are : columns ≡ fit i (columns_of source offsets) columns₀
+  pub lines_are : lines ≡ fit i (at_offsets line source offsets) lines₀
+  pub columns_are : columns ≡ fit i (at_offsets column source offsets) columns₀
 
 module _ (source offsets lines₀ columns₀ r lines columns : List ℕ) (i : ℕ) (g : Going source offsets lines₀ columns₀ r lines columns i)
     (p : Position) (found : IsPosition r (get_or offsets i 0) p) where

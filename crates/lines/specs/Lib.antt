@@ -3,3 +3,4 @@ pub mod Ends
 pub mod LineEnd
 pub mod Places
 pub mod MasmLines
+pub mod JoinedLines

@@ -7,11 +7,9 @@ use Rattle.room.specs.Over.{fit}
 use Rattle.lexer.specs.Tokens.{MAX_SOURCE}
 use Rattle.lines.specs.Ends.{line, column}
 
-abbrev pub lines_of : List ℕ → List ℕ → List ℕ
-lines_of source offsets = map (λ o. line source (min o (length source))) offsets
-
-abbrev pub columns_of : List ℕ → List ℕ → List ℕ
-columns_of source offsets = map (λ o. column source (min o (length source))) offsets
+-- a number of each offset
+abbrev pub at_offsets : (List ℕ → ℕ → ℕ) → List ℕ → List ℕ → List ℕ
+at_offsets f source offsets = map (λ o. f source (min o (length source))) offsets
 
 -- how many are written
 abbrev pub positions_written : List ℕ → List ℕ → List ℕ → List ℕ → ℕ
@@ -20,5 +18,5 @@ positions_written source offsets lines columns =
 
 pub record MasmLines (source offsets lines columns : List ℕ) (r : ℕ) (lines' columns' : List ℕ) : Type 0 where
   pub returned : r ≡ positions_written source offsets lines columns
-  pub lines_are : lines' ≡ fit r (lines_of source offsets) lines
-  pub columns_are : columns' ≡ fit r (columns_of source offsets) columns
+  pub lines_are : lines' ≡ fit r (at_offsets line source offsets) lines
+  pub columns_are : columns' ≡ fit r (at_offsets column source offsets) columns

@@ -3,13 +3,16 @@
 use Rattle.std.specs.Prelude.{ℕ, ◌*◌, ◌≤◌, ◌<◌, ◌≡◌, List, min, length, get_or}
 use Rattle.lines.specs.declared.spot.Spot.{Spot}
 use Rattle.lines.specs.declared.walk.Position.{Position}
-use Rattle.lines.specs.Ends.{line, column, line_start}
+use Rattle.lines.specs.Ends.{ends_by, line, column, line_start}
 
--- The place of a spot is in the source, and its line is that place's.
+-- The place of a spot is in the source, and its numbers are those of the place.
 pub record Stands (source : List ℕ) (s : Spot) : Type 0 where
   pub within : s.at ≤ length source
-  pub line_is : s.line ≡ line source s.at
+  pub ends_are : s.ends ≡ length (ends_by source s.at)
   pub start_is : s.line_start ≡ line_start source s.at
+
+abbrev pub start : Spot
+start = record { at = 0; ends = 0; line_start = 0 }
 
 -- Each mark is a spot of the source, and none lies behind its own place.
 pub record Mark (source : List ℕ) (j : ℕ) (s : Spot) : Type 0 where
@@ -17,7 +20,7 @@ pub record Mark (source : List ℕ) (j : ℕ) (s : Spot) : Type 0 where
   pub before : s.at ≤ j * 2048
 
 abbrev pub Marks : List ℕ → List Spot → Type 0
-Marks source marks = (j : ℕ) → j < length marks → Mark source j (get_or marks j (record { at = 0; line = 1; line_start = 0 }))
+Marks source marks = (j : ℕ) → j < length marks → Mark source j (get_or marks j start)
 
 -- The position of an offset; behind the end of the source it is the end's.
 pub record IsPosition (source : List ℕ) (offset : ℕ) (p : Position) : Type 0 where

@@ -7,7 +7,8 @@ mod spot;
 mod walk;
 
 use lexer::MAX_SOURCE;
-pub use walk::{Position, SourceWalk};
+pub use spot::Spot;
+pub use walk::{MARKS, Position, SourceWalk};
 
 // The unit's call: the line and the column of each offset, as far as the shortest slice goes; how many it wrote. Of a source that is too
 // long none. C calls it in masm, since no crate can stand on a static library.
@@ -20,7 +21,8 @@ pub fn masm_lines(source: &[u8], offsets: &[u32], lines: &mut [u32], columns: &m
         return 0;
     }
     let n = offsets.len().min(lines.len()).min(columns.len());
-    let mut walk = SourceWalk::new(source);
+    let mut marks = [Spot::START; MARKS];
+    let mut walk = SourceWalk::new(source, &mut marks);
     // By index: of what is written through a `zip` of two `iter_mut` a proof learns nothing.
     for i in 0..n {
         let Position { line, column } = walk.position(offsets[i] as usize);

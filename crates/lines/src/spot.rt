@@ -3,11 +3,11 @@ ghost use Rattle.std.specs.Prelude.{◌≡◌, ◌+◌, ◌≤◌, ◌<◌, leng
 ghost use Rattle.lines.specs.Ends.{completed};
 ghost use Rattle.lines.specs.Places.{Stands};
 
-// A place, its line, and where that line starts.
+// A place, how many line ends are completed by it, and where its line starts.
 #[derive(Clone, Copy)]
 pub struct Spot {
     pub at: usize,
-    pub line: usize,
+    pub ends: usize,
     pub line_start: usize,
 }
 
@@ -26,7 +26,7 @@ fn completes(source: &[u8], n: usize) -> bool
 impl Spot {
     pub const START: Spot = Spot {
         at: 0,
-        line: 1,
+        ends: 0,
         line_start: 0,
     };
 
@@ -42,7 +42,7 @@ impl Spot {
         let mut spot = self;
         for n in self.at..to {
             if completes(source, n) {
-                spot.line += 1;
+                spot.ends += 1;
                 spot.line_start = n + 1;
             }
         }

@@ -1,5 +1,5 @@
 // A walk over a source, for the lines and columns of offsets in any order.
-ghost use Rattle.std.specs.Prelude.{◌≡◌, ◌+◌, ◌≤◌, min, length};
+ghost use Rattle.std.specs.Prelude.{◌≡◌, ◌≤◌, length};
 ghost use Rattle.lines.specs.Places.{Stands, Marks, IsPosition};
 
 use crate::spot::Spot;
@@ -7,7 +7,7 @@ use crate::spot::Spot;
 // How many marks there are, and how far apart: over a source of the greatest length.
 pub const MARKS: usize = 512;
 
-pub const STRIDE: usize = 2048;
+const STRIDE: usize = 2048;
 
 // A line and a column, each counted from 1.
 #[derive(Clone, Copy)]
@@ -17,28 +17,26 @@ pub struct Position {
 }
 
 // A source, the spot that was looked for last, and spots on the way: mark `j` stands at `j` times STRIDE once that was passed, and at the
-// start before. So an offset behind the spot costs no walk from the start.
+// start before. So an offset behind the spot costs no walk from the start. The marks are lent: by value they would be copied.
 #[derive(Drop)]
 pub struct SourceWalk<'s> {
     source: &'s [u8],
     spot: Spot,
-    marks: [Spot; MARKS],
+    marks: &'s mut [Spot; MARKS],
     ghost stands: { Stands source.now spot },
-    ghost marks_stand: { Marks source.now marks },
+    ghost marks_stand: { Marks source.now marks.now },
 }
 
 impl<'s> SourceWalk<'s> {
-    pub fn new(source: &'s [u8]) -> SourceWalk<'s>
+    #[tactic(auto, using(crate::proofs::Spots::start_stands, crate::proofs::Spots::start_marks))]
+    pub fn new(source: &'s [u8], marks: &'s mut [Spot; MARKS]) -> SourceWalk<'s>
         ensures { result.source ≡ source.entry }
     {
+        marks.fill(Spot::START);
         SourceWalk {
             source,
             spot: Spot::START,
-            marks: [Spot {
-                at: 0,
-                line: 1,
-                line_start: 0,
-            }; MARKS],
+            marks,
         }
     }
 
@@ -77,12 +75,12 @@ impl<'s> SourceWalk<'s> {
         self.jump(to);
         self.run_to(to);
         let Spot {
-            line,
+            ends,
             line_start,
             ..
         } = self.spot;
         Position {
-            line,
+            line: ends + 1,
             column: to - line_start + 1,
         }
     }

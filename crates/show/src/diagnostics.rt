@@ -1,7 +1,7 @@
 // One line for each diagnostic: `! line column start end text`.
 use crate::message::put_message;
 use frames::output::write_numbers;
-use lines::{Position, SourceWalk};
+use lines::{MARKS, Position, SourceWalk, Spot};
 use std::io::Write;
 use std::{io, iter};
 
@@ -32,7 +32,8 @@ pub fn put_diagnostics(
     starts: &[u32],
     stops: &[u32],
 ) -> io::Result<()> {
-    let mut walk = SourceWalk::new(source);
+    let mut marks = [Spot::START; MARKS];
+    let mut walk = SourceWalk::new(source, &mut marks);
     let starts = starts.iter().copied().chain(iter::repeat(0));
     let stops = stops.iter().copied().chain(iter::repeat(0));
     for ((&message, start), end) in messages.iter().zip(starts).zip(stops) {
