@@ -1,6 +1,6 @@
--- Demand 3, the bounds of Facts and M-105's numbers at concrete calls, so that a premise more or a bound less sharp is refused.
+-- Demand 3, with M-102's lines, the bounds of Facts and M-105's numbers at concrete calls, so that a premise more or a bound less sharp is refused.
 -- Assumes nothing.
-use Rattle.std.specs.Prelude.{ℕ, ◌≤◌, ◌≡◌, refl, List, [], ◌∷◌}
+use Rattle.std.specs.Prelude.{ℕ, ◌≤◌, ◌≡◌, refl, List, [], ◌∷◌, ◌++◌}
 use Rattle.std.proofs.Common.{arith}
 use Rattle.utf8.specs.Laws.{accepted as well_formed}
 use Rattle.utf8.specs.CutOff.{Completable}
@@ -10,9 +10,11 @@ use Rattle.answer.specs.Answer.{Slices}
 use Rattle.answer.specs.Call.{Reply}
 use Rattle.answer.specs.Given.{token_count, event_count, diagnostic_count, JoinReply}
 use Rattle.answer.specs.Facts.{Facts, enough_room}
-use Rattle.answer.specs.Cases.{loan, zeros, loan_slices, made, called}
+use Rattle.lines.specs.JoinedLines.{JoinedLines}
+use Rattle.answer.specs.Cases.{Case, loan, zeros, loan_slices, made, called}
 use Rattle.answer.proofs.Cases.{concluded}
 use Rattle.answer.proofs.CutOff.{broken_text}
+use Rattle.answer.proofs.JoinedLines.{joined_diagnostics}
 
 -- ---- Demand 3. A, with a diagnostic in its block.
 first : Slices
@@ -112,3 +114,23 @@ of_cut_off = (broken_text (0x23 ∷ 0x0A ∷ 0xC3 ∷ []) _ _ (called _ (loan 2 
 of_wrong : Completable (0x23 ∷ 0x0A ∷ 0xFF ∷ []) → ⊥
 unfolding made
 of_wrong c = absurd (omega (arith, (broken_text (0x23 ∷ 0x0A ∷ 0xFF ∷ []) _ _ (called _ (loan 2 4 0)) refl).breaks_off.whole.1 c))
+
+-- ---- M-102 over demand 3. A ends in CR LF and has a diagnostic, B has one behind a lone CR; the join's second diagnostic is on line 3.
+abbrev cr_lf_and_cr : Case
+cr_lf_and_cr = record { a = bytes "begin ) end\r\n"; b = bytes "\rx"; for_a = loan 6 14 1; for_b = loan 2 6 1; for_join = loan 8 18 2 }
+
+lines_joined : JoinedLines (bytes "begin ) end\r\n") 1 1 2 (1 ∷ []) (7 ∷ []) (2 ∷ []) (1 ∷ []) (1 ∷ 3 ∷ []) (7 ∷ 1 ∷ [])
+unfolding made
+lines_joined =
+    let c = cr_lf_and_cr in
+    joined_diagnostics c.a c.b (loan_slices c.for_a) (loan_slices c.for_b) (loan_slices c.for_join) (zeros 3) (zeros 3) (zeros 3)
+    (called c.a c.for_a) (called c.b c.for_b) (called (c.a ++ c.b) c.for_join) refl refl (omega arith)
+    (record { tokens = omega arith; events = omega arith; diagnostics = omega arith; words = omega arith })
+    (record { newline = refl; line_feed = refl; word = refl; closes = refl; starts = refl })
+    (zeros 1) (zeros 1) (zeros 2) (zeros 1) (zeros 1) (zeros 2)
+    (record { returned = refl; lines_are = refl; columns_are = refl })
+    (record { returned = refl; lines_are = refl; columns_are = refl })
+    (record { returned = refl; lines_are = refl; columns_are = refl })
+    (record { for_lines = omega arith; for_columns = omega arith })
+    (record { for_lines = omega arith; for_columns = omega arith })
+    (record { for_lines = omega arith; for_columns = omega arith })

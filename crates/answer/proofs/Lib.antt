@@ -6,6 +6,7 @@ pub mod JoinedCalls
 pub mod Facts
 pub mod MissingEnds
 pub mod CutOff
+pub mod JoinedLines
 pub mod Cases
 pub mod Needed
 pub mod Instances

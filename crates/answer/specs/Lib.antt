@@ -11,6 +11,7 @@ pub mod Given
 pub mod Accepts
 pub mod JoinedTokens
 pub mod InOrder
+pub mod Within
 pub mod Facts
 pub mod MissingEnds
 pub mod CutOff

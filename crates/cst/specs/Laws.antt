@@ -27,15 +27,6 @@ use Rattle.answer.specs.declared.Answer.TheVariants.{TokenRoom}
 use Rattle.answer.specs.Answer.{Slices, slices, Outcome, outcome, places_of, from_row_3, from_row_4, from_row_5}
 use Rattle.cst.specs.Reading.{MarkedTokens, WriteReading}
 
-last_below : (k m n : ℕ) (s : List ℕ) → m ≤ n → last_from k m n s ≤ n + length s
-unfolding last_from
-last_below k m n [] h = omega arith
-last_below (suc k) m n (b ∷ s) h = omega (arith, last_below k m (n + 1) s (omega arith))
-last_below zero m n (b ∷ s) h = omega (arith, last_below (pred (width b)) n (n + 1) s (omega arith))
-
-pub last_within : (s : List ℕ) → last_char s ≤ length s
-last_within s = omega (arith, last_below 0 0 0 s (omega arith))
-
 take_map : (g : ℕ → ℕ) (r : ℕ) (vs : List ℕ) → map g (take r vs) ≡ take r (map g vs)
 take_map g zero vs = refl
 take_map g (suc r) [] = refl

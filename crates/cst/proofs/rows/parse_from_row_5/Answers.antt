@@ -22,7 +22,8 @@ use Rattle.grammar.specs.Source.{token_symbol, symbols}
 use Rattle.items.specs.Entry.{ParserSlices, Parse}
 use Rattle.places.specs.Places.{Places}
 use Rattle.cst.specs.Reading.{WriteReading}
-use Rattle.cst.specs.Laws.{last_within, reading_is}
+use Rattle.answer.specs.Within.{last_within}
+use Rattle.cst.specs.Laws.{reading_is}
 use Rattle.answer.specs.declared.Answer.{Answer}
 use Rattle.answer.specs.declared.Answer.TheVariants.{OutputRoom, Accepted}
 use Rattle.answer.specs.Answer.{slices, diagnostic_room, outcome, events_of, places_of, from_row_5}
