@@ -8,6 +8,7 @@ include!(concat!(env!("OUT_DIR"), "/sources.rs"));
 pub mod answer;
 pub mod ast;
 pub mod joined;
+pub mod lines;
 pub mod messages;
 pub mod parsed;
 pub mod second;
@@ -18,4 +19,5 @@ pub use miden_utils_diagnostics as diagnostics;
 pub use syntax::MasmLanguage;
 
 pub use answer::{Answer, MAX_SOURCE, Reading, Rooms, Slices, answer, reading};
+pub use lines::{Lines, Place};
 pub use parsed::{Diagnostic, Parsed, Token, parsed, tokens};

@@ -1,8 +1,12 @@
-//! The output of program `tree` (document 01).
+//! The output of program `tree` (document 01; lines and columns by M-102).
 
 use std::io::Write;
 
-use crate::{answer, parsed};
+use crate::{
+    answer,
+    lines::{Lines, Place},
+    parsed,
+};
 
 const MAX_INPUT: usize = 2_048;
 
@@ -32,8 +36,9 @@ pub fn tree(source: &[u8]) -> Vec<u8> {
         let text = str::from_utf8(source).expect("a source with a tree is UTF-8");
         let parsed = parsed::parsed(text);
         print_events(&mut out, &parsed);
+        let lines = Lines::of(source);
         for diagnostic in parsed.diagnostics.iter().take(ROOMS.diagnostics()) {
-            print_diagnostic(&mut out, text, diagnostic);
+            print_diagnostic(&mut out, &lines, diagnostic);
         }
     }
     out
@@ -56,11 +61,9 @@ fn print_events(out: &mut Vec<u8>, parsed: &parsed::Parsed) {
     }
 }
 
-/// Prints `! line column start end text`; line and column count LF bytes and bytes from 1.
-fn print_diagnostic(out: &mut Vec<u8>, text: &str, diagnostic: &parsed::Diagnostic) {
-    let before = &text.as_bytes()[..diagnostic.start as usize];
-    let line = 1 + before.iter().filter(|&&byte| byte == b'\n').count();
-    let column = 1 + before.iter().rev().take_while(|&&byte| byte != b'\n').count();
+/// Prints `! line column start end text` (M-102).
+fn print_diagnostic(out: &mut Vec<u8>, lines: &Lines, diagnostic: &parsed::Diagnostic) {
     let parsed::Diagnostic { start, end, text, .. } = diagnostic;
+    let Place { line, column } = lines.place(*start);
     writeln!(out, "! {line} {column} {start} {end} {text}").expect("memory takes all writes");
 }

@@ -119,3 +119,18 @@ fn program_tree() {
                     ! 2 1 1 3 unexpected top-level token\n! 2 1 1 3 unrecognized token `$x`\n";
     assert_eq!(String::from_utf8(tree(b"\n$x")).unwrap(), expected);
 }
+
+/// Where `tree` says that the first diagnostic is.
+#[test]
+fn program_tree_counts_lines_by_m_102() {
+    let first = |source: &[u8]| {
+        let text = String::from_utf8(tree(source)).unwrap();
+        let line = text.lines().find(|line| line.starts_with('!')).expect("a diagnostic");
+        line.split(' ').take(5).collect::<Vec<_>>().join(" ")
+    };
+    assert_eq!(first(b"\r$x"), "! 2 1 1 3");
+    assert_eq!(first(b"\r\n$x"), "! 2 1 2 4");
+    assert_eq!(first(b"begin\r\n"), "! 1 7 6 6");
+    assert_eq!(first(b"begin\r"), "! 1 6 5 5");
+    assert_eq!(first(b"begin a.\"b\\\rc\" $x"), "! 2 4 15 17");
+}
