@@ -2,12 +2,15 @@
 
 use reference::Rooms;
 
+use crate::offsets::Question;
+
 /// What is asked of a source; its number is the first of the frame.
 #[derive(Debug, Clone, Copy, PartialEq, Eq)]
 pub enum Asked {
     Tokens,
     Reading,
     Tree,
+    Lines,
 }
 
 /// The number of what is asked, the length of the source and of the six slices, then the source.
@@ -20,5 +23,15 @@ pub fn frame(asked: Asked, source: &[u8], rooms: Rooms) -> Vec<u8> {
         bytes.extend(length.to_le_bytes());
     }
     bytes.extend(source);
+    bytes
+}
+
+/// The same frame for lines: the number of offsets stands in the place of the token ends, the rooms of lines and columns in those of the
+/// starts and ends. The offsets follow the source.
+pub fn lines_frame(source: &[u8], question: &Question) -> Vec<u8> {
+    let Question { offsets, lines, columns } = question;
+    let rooms = Rooms { token_ends: offsets.len(), starts: *lines, ends: *columns, ..Rooms::NONE };
+    let mut bytes = frame(Asked::Lines, source, rooms);
+    bytes.extend(offsets.iter().flat_map(|offset| offset.to_le_bytes()));
     bytes
 }

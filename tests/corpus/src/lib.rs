@@ -6,8 +6,10 @@ pub mod edges;
 pub mod examples;
 pub mod frame;
 pub mod lexical;
+pub mod lines;
 pub mod near;
 pub mod nested;
+pub mod offsets;
 pub mod pairs;
 pub mod places;
 pub mod publics;
@@ -78,13 +80,15 @@ pub enum Family {
     Pairs,
     /// Every spelling in every place, every class of characters at its bounds, and names that are nearly a word.
     Places,
+    /// Line ends of every sort.
+    Lines,
     /// Bytes that are no UTF-8 behind texts that are, and scripts that are cut off.
     Tails,
 }
 
 impl Family {
-    /// The families for the whole reader; the first ten are the lexer's, and the first sixteen those that programs are asked.
-    pub const ALL: [Self; 17] = [
+    /// The families for the whole reader; the first ten are the lexer's, and the first seventeen those that programs are asked.
+    pub const ALL: [Self; 18] = [
         Self::Examples,
         Self::Spaced,
         Self::Joined,
@@ -101,10 +105,11 @@ impl Family {
         Self::Slices,
         Self::Pairs,
         Self::Places,
+        Self::Lines,
         Self::Tails,
     ];
     pub const LEXER: &'static [Self] = Self::ALL.split_at(10).0;
-    pub const PROGRAM: &'static [Self] = Self::ALL.split_at(16).0;
+    pub const PROGRAM: &'static [Self] = Self::ALL.split_at(17).0;
 
     pub fn name(self) -> String {
         format!("{self:?}").to_lowercase()
@@ -183,6 +188,9 @@ fn sources(family: Family, size: Size) -> Sources {
         Family::Slices => Box::new(examples::documented().chain(sampled(200, any_source))),
         Family::Pairs => sampled(PAIRS, pairs::joined),
         Family::Places => Box::new(places::all().chain(lexical::bounds()).chain(near::all())),
+        Family::Lines => Box::new(
+            lines::few().chain(lines::short()).chain(sampled(15_000, lines::script_with_ends)),
+        ),
         Family::Tails => {
             Box::new(tails::behind_starts().chain(sampled(30_000, tails::broken_script)))
         },
