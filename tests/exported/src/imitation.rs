@@ -1,6 +1,6 @@
-//! The reference in the place of the call, for tests that put faults in.
+//! The reference in the place of the calls, for tests that put faults in.
 
-use reference::{Answer, Rooms, answer};
+use reference::{Answer, Rooms, answer, lines};
 
 use crate::Lent;
 
@@ -24,4 +24,12 @@ pub fn answer_into(source: &[u8], lent: &mut Lent) -> u64 {
     lent.starts.copy_from_slice(&slices.starts);
     lent.ends.copy_from_slice(&slices.ends);
     status
+}
+
+/// What M-102 says of lines and columns, written into lent slices.
+pub fn lines_into(source: &[u8], offsets: &[u32], lines: &mut [u32], columns: &mut [u32]) -> u64 {
+    let left = lines::left(source, offsets, lines.to_vec(), columns.to_vec());
+    lines.copy_from_slice(&left.lines);
+    columns.copy_from_slice(&left.columns);
+    left.returned
 }

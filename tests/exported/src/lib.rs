@@ -1,4 +1,4 @@
-//! The exported call of the proved reader, on slices.
+//! The exported calls of the proved reader, on slices.
 
 pub mod accepted;
 pub mod imitation;
@@ -6,13 +6,13 @@ pub mod zones;
 
 use reference::Slices;
 
-/// Whether an archive with the call is linked.
+/// Whether an archive with the calls is linked.
 pub const LINKED: bool = cfg!(masm_cst);
 
 /// What to say where it is not.
-pub const MISSING: &str = "no archive with masm_parse_text (see tests/README.md)";
+pub const MISSING: &str = "no archive with masm_parse_text and masm_lines (see tests/README.md)";
 
-/// The slices that a call writes to.
+/// The slices that a call of `masm_parse_text` writes to.
 pub struct Lent<'a> {
     pub counts: &'a mut [u64],
     pub token_kinds: &'a mut [u16],
@@ -62,7 +62,30 @@ pub fn parse_text(source: &[u8], lent: Lent) -> u64 {
     }
 }
 
-// As include/masm_cst.h declares it.
+#[cfg(not(masm_cst))]
+pub fn lines(_: &[u8], _: &[u32], _: &mut [u32], _: &mut [u32]) -> u64 {
+    panic!("{MISSING}");
+}
+
+/// Makes the call for lines and columns; how many were written.
+#[cfg(masm_cst)]
+pub fn lines(source: &[u8], offsets: &[u32], lines: &mut [u32], columns: &mut [u32]) -> u64 {
+    // SAFETY: the pointers and lengths are those of four slices, and those that are written overlap no other.
+    unsafe {
+        masm_lines(
+            source.as_ptr(),
+            source.len(),
+            offsets.as_ptr(),
+            offsets.len(),
+            lines.as_mut_ptr(),
+            lines.len(),
+            columns.as_mut_ptr(),
+            columns.len(),
+        )
+    }
+}
+
+// As include/masm_cst.h declares them.
 #[cfg(masm_cst)]
 unsafe extern "C" {
     fn masm_parse_text(
@@ -82,5 +105,16 @@ unsafe extern "C" {
         ends_len: usize,
         counts: *mut u64,
         counts_len: usize,
+    ) -> u64;
+
+    fn masm_lines(
+        source: *const u8,
+        source_len: usize,
+        offsets: *const u32,
+        offsets_len: usize,
+        lines: *mut u32,
+        lines_len: usize,
+        columns: *mut u32,
+        columns_len: usize,
     ) -> u64;
 }
