@@ -87,7 +87,7 @@ speed: $(archive)
 
 # Writes the stored cases and answers that `rt ci` replays.
 store:
-	cd tests && cargo run --offline --release --bin differ -- --store ../crates/cases 100 200 50
+	cd tests && cargo run --offline --release --bin differ -- --store ../crates/cases 100 200 50 150
 
 # Writes the reference's answers that the grammar's definitions are held to.
 samples:

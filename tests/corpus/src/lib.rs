@@ -145,6 +145,13 @@ pub fn pairs(size: Size) -> impl Iterator<Item = pairs::Pair> {
 
 const PAIRS: usize = 15_000;
 
+/// Those pairs, and more with line ends of every sort.
+pub fn pairs_of_lines(size: Size) -> impl Iterator<Item = pairs::Pair> {
+    let mut random = sampling(Family::Lines);
+    let more = (0..PAIRS * times(size)).map(move |_| lines::pair(&mut random));
+    pairs(size).chain(more)
+}
+
 /// How often the sampled cases are taken.
 fn times(size: Size) -> usize {
     match size {
@@ -189,7 +196,10 @@ fn sources(family: Family, size: Size) -> Sources {
         Family::Pairs => sampled(PAIRS, pairs::joined),
         Family::Places => Box::new(places::all().chain(lexical::bounds()).chain(near::all())),
         Family::Lines => Box::new(
-            lines::few().chain(lines::short()).chain(sampled(15_000, lines::script_with_ends)),
+            lines::few()
+                .chain(lines::short())
+                .chain(lines::at_bounds())
+                .chain(sampled(15_000, lines::script_with_ends)),
         ),
         Family::Tails => {
             Box::new(tails::behind_starts().chain(sampled(30_000, tails::broken_script)))

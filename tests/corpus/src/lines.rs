@@ -1,6 +1,12 @@
 //! Sources with line ends of every sort (M-102): CR LF, a CR alone, LF and mixtures, in quotes and comments too, and at the end.
 
-use crate::{damage::damaged, random::Random, script::script, sequences};
+use crate::{
+    damage::damaged,
+    pairs::{self, Pair, ended, started},
+    random::Random,
+    script::script,
+    sequences,
+};
 
 /// M-102's table.
 const TABLE: [&str; 9] =
@@ -40,6 +46,36 @@ pub fn short() -> impl Iterator<Item = Vec<u8>> {
     alone.chain(open)
 }
 
+/// Lengths at which a reader may begin anew.
+const BOUNDS: [usize; 5] = [64, 1_024, 2_048, 4_096, 65_536];
+
+/// Line ends around each bound, and nothing but line ends up to it.
+pub fn at_bounds() -> impl Iterator<Item = Vec<u8>> {
+    let around = BOUNDS.into_iter().flat_map(|bound| {
+        let pieces = ENDS.into_iter().flat_map(move |end| (0..=3).map(move |less| (end, less)));
+        pieces.map(move |(end, less)| at_bound(bound, end, less))
+    });
+    let full = BOUNDS.into_iter().flat_map(|bound| ENDS.map(|end| full_of(bound, end)));
+    around.chain(full.flatten())
+}
+
+/// Each sort at 1,024 bytes; its second byte stands behind them.
+pub fn few_at_bounds() -> impl Iterator<Item = Vec<u8>> {
+    ENDS.into_iter().map(|end| at_bound(1_024, end, 1))
+}
+
+/// A comment, a line end so many bytes before the bound, and something wrong behind it.
+fn at_bound(bound: usize, end: &str, less: usize) -> Vec<u8> {
+    let text = format!("#{}{end}$x\r\n", "c".repeat(bound - less - 1));
+    text.into_bytes()
+}
+
+/// Line ends up to behind the bound, also behind one byte, so that one of two bytes has each place in turn.
+fn full_of(bound: usize, end: &str) -> [Vec<u8>; 2] {
+    let ends = end.repeat(bound / end.len() + 3);
+    [&ends, &format!(" {ends}")].map(|text| text.clone().into_bytes())
+}
+
 /// A script with other line ends; most have something wrong.
 pub fn script_with_ends(random: &mut Random) -> Vec<u8> {
     let size = random.between(1, 200);
@@ -54,6 +90,13 @@ pub fn script_with_ends(random: &mut Random) -> Vec<u8> {
     source = replaced(random, &source);
     source.extend(random.pick(&LAST).bytes());
     source
+}
+
+/// Two files to be joined, with such line ends in both; the first ends in LF, mostly, and the second may start with a CR.
+pub fn pair(random: &mut Random) -> Pair {
+    let (first, second) = (script_with_ends(random), script_with_ends(random));
+    let start = random.pick(&["", "\r", "\r\n", "\n\r", "$x\r"]);
+    (ended(random.pick(&pairs::LAST), first), started(start, second))
 }
 
 /// Each LF becomes what one of few choices says, so that most scripts have one sort or two.
@@ -93,9 +136,17 @@ mod tests {
         assert!(counts.into_iter().all(|count| count > 100), "{counts:?}");
     }
 
+    /// Line ends that are completed before a bound, at it and behind it; a CR LF that lies across it too.
     #[test]
-    fn few_have_lines_of_every_sort() {
-        assert!(few().any(|source| Lines::of(&source).count() == 0));
-        assert!(few().any(|source| Lines::of(&source).count() == 5));
+    fn ends_stand_around_bounds() {
+        let sources: Vec<_> = at_bounds().collect();
+        for bound in BOUNDS {
+            for at in bound - 2..=bound + 2 {
+                let completed = |source: &Vec<u8>| Lines::of(source).ends()[0] == at;
+                assert!(sources.iter().any(completed), "{at}");
+            }
+            let across = |source: &Vec<u8>| source.get(bound - 1..=bound) == Some(b"\r\n");
+            assert!(sources.iter().any(across), "{bound}");
+        }
     }
 }

@@ -2,10 +2,14 @@
 
 use reference::{Lines, Reading, reading};
 
-use crate::{Case, random::Random, rooms::Needs};
+use crate::{Case, Family, random::Random, rooms::Needs};
 
-/// Of sources up to this length all offsets are asked.
+/// Of sources up to this length all offsets are asked, and of those of the family Lines up to the second.
 const SHORT: usize = 96;
+const LINES: usize = 4_200;
+
+/// Of sources up to this length the reference's diagnostics are looked up.
+const READ: usize = 262_144;
 
 /// How many offsets of a longer source are taken at random, and around how many of its line ends.
 const SOME: usize = 24;
@@ -44,14 +48,18 @@ impl Order {
 }
 
 impl Question {
-    /// The case's plan says how many of the offsets are lent, by its token ends, and the rooms for lines and columns, by its starts
-    /// and ends.
-    pub fn of(case: &Case, order: Order) -> Self {
-        let mut offsets = ordered(rising(&case.source), order, &mut numbers(&case.source));
-        let count = offsets.len();
+    /// One for each order. The case's plan says how many of the offsets are lent, by its token ends, and the rooms for lines and
+    /// columns, by its starts and ends.
+    pub fn of(case: &Case, orders: &[Order]) -> Vec<Self> {
+        let (rising, mut random) = (rising(case), numbers(&case.source));
+        let count = rising.len();
         let rooms = case.plan.rooms(Needs { tokens: count, diagnostics: count, events: 0 });
-        offsets.truncate(rooms.token_ends);
-        Self { offsets, lines: rooms.starts, columns: rooms.ends }
+        let ask = |order: &Order| {
+            let mut offsets = ordered(rising.clone(), *order, &mut random);
+            offsets.truncate(rooms.token_ends);
+            Self { offsets, lines: rooms.starts, columns: rooms.ends }
+        };
+        orders.iter().map(ask).collect()
     }
 }
 
@@ -64,23 +72,19 @@ fn numbers(source: &[u8]) -> Random {
 }
 
 /// All offsets of a short source, some of a longer one, and some above the length.
-fn rising(source: &[u8]) -> Vec<u32> {
+fn rising(Case { family, source, .. }: &Case) -> Vec<u32> {
     let length = source.len() as u32;
-    let mut offsets = match source.len() {
-        0..=SHORT => (0..=length).collect(),
-        _ => some(source),
-    };
+    let short = if *family == Family::Lines { LINES } else { SHORT };
+    let mut offsets = if source.len() <= short { (0..=length).collect() } else { some(source) };
     offsets.extend([length + 1, length + 2, u32::MAX]);
     offsets
 }
 
-/// Where the reference's diagnostics start, and offsets at the bounds, around line ends and at random.
+/// Where diagnostics start, and offsets at the bounds, around line ends and at random.
 fn some(source: &[u8]) -> Vec<u32> {
     let (length, mut random) = (source.len() as u32, numbers(source));
     let mut offsets = vec![0, length - 1, length];
-    if let Reading::Parsed(parsed) = reading(source) {
-        offsets.extend(parsed.diagnostics.iter().take(8 * SOME).map(|found| found.start));
-    }
+    offsets.extend(starts(source));
     let lines = Lines::of(source);
     for _ in 0..SOME {
         offsets.push(random.below(source.len()) as u32);
@@ -91,6 +95,15 @@ fn some(source: &[u8]) -> Vec<u32> {
     }
     offsets.sort_unstable();
     offsets
+}
+
+/// Where the first of the reference's diagnostics start.
+fn starts(source: &[u8]) -> Vec<u32> {
+    if source.len() > READ {
+        return Vec::new();
+    }
+    let Reading::Parsed(parsed) = reading(source) else { return Vec::new() };
+    parsed.diagnostics.iter().take(8 * SOME).map(|found| found.start).collect()
 }
 
 /// Rising offsets in another order.
@@ -116,11 +129,11 @@ pub fn ordered(mut offsets: Vec<u32>, order: Order, random: &mut Random) -> Vec<
 #[cfg(test)]
 mod tests {
     use super::*;
-    use crate::{Family, rooms::Plan};
+    use crate::rooms::Plan;
 
     fn asked(source: &[u8], order: Order) -> Question {
-        let case = Case { family: Family::Lines, source: source.to_vec(), plan: Plan::AMPLE };
-        Question::of(&case, order)
+        let case = Case { family: Family::Scripts, source: source.to_vec(), plan: Plan::AMPLE };
+        Question::of(&case, &[order]).remove(0)
     }
 
     #[test]

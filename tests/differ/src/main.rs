@@ -1,7 +1,9 @@
-//! Runs a program, or the exported call, over the corpus and compares its answers with the reference.
+//! Runs a program, or an exported call, over the corpus and compares its answers with the reference.
 
 mod calls;
 mod lexer;
+mod line_calls;
+mod lines;
 mod part;
 mod readings;
 mod run;
@@ -10,20 +12,21 @@ mod trees;
 
 use std::{env, path::Path, process::ExitCode, time::Duration};
 
-use corpus::{Family, Size, cases, pairs};
+use corpus::{Family, Size, cases, pairs, pairs_of_lines};
 use exported::accepted::accepted;
 use part::{Limits, Part};
 use readings::check_joins;
 use reference::joined;
 
 const USAGE: &str = "usage: differ PART --program PATH [OPTIONS]
-       differ --store DIR N N N
+       differ --store DIR N N N N
        differ calls [OPTIONS]
-parts: lexer, readings, trees; so many cases of each are stored
+       differ lines [OPTIONS]
+parts: lexer, readings, trees, lines; so many cases of each are stored
 options: --large N, --every N, --family NAME, --patience SECONDS
          and the greatest lengths of slices: --tokens N, --events N, --diagnostics N";
 
-const PARTS: [&str; 3] = ["lexer", "readings", "trees"];
+const PARTS: [&str; 4] = ["lexer", "readings", "trees", "lines"];
 
 const PATIENCE: Duration = Duration::from_secs(120);
 
@@ -43,6 +46,7 @@ fn main() -> ExitCode {
         ["--store", folder, counts @ ..] => store(folder, counts),
         [name, "--program", program, rest @ ..] => compare(name, program, rest),
         ["calls", rest @ ..] => compare_calls(rest),
+        ["lines", rest @ ..] => compare_line_calls(rest),
         _ => None,
     };
     answer.unwrap_or_else(|| {
@@ -56,6 +60,7 @@ fn part(name: &str, limits: Limits) -> Option<Part> {
         "lexer" => Some(lexer::part(limits)),
         "readings" => Some(readings::part(limits)),
         "trees" => Some(trees::part()),
+        "lines" => Some(lines::part()),
         _ => None,
     }
 }
@@ -101,6 +106,21 @@ fn compare_calls(options: &[&str]) -> Option<ExitCode> {
         || check_joins("call", pairs(size).step_by(every), obeyed);
     let outcome = calls::run(exported::parse_text, cases(&families, size).step_by(every));
     outcome.print("calls");
+    Some(exit_code(joins && outcome.agrees()))
+}
+
+/// The same for lines and columns. Nothing if the words are not understood.
+fn compare_line_calls(options: &[&str]) -> Option<ExitCode> {
+    let Options { size, every, family, .. } = read_options(options)?;
+    if !exported::LINKED {
+        println!("{}", exported::MISSING);
+        return Some(ExitCode::FAILURE);
+    }
+    let families = chosen(&Family::ALL, family);
+    let joins = !families.contains(&Family::Pairs)
+        || line_calls::check_joins(exported::lines, pairs_of_lines(size).step_by(every));
+    let outcome = line_calls::run(exported::lines, cases(&families, size).step_by(every));
+    outcome.print("lines");
     Some(exit_code(joins && outcome.agrees()))
 }
 

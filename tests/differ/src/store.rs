@@ -2,7 +2,9 @@
 
 use std::{fs, io, path::Path};
 
-use corpus::{Case, Family, edges, examples, near, rooms::Plan, spread::spread_over, tails, utf8};
+use corpus::{
+    Case, Family, edges, examples, lines, near, rooms::Plan, spread::spread_over, tails, utf8,
+};
 
 use crate::part::{Exchange, Part};
 
@@ -29,16 +31,32 @@ pub fn store(chosen: &[(Part, usize)], folder: &Path) -> io::Result<()> {
     fs::write(folder.join("stdout"), stdout)
 }
 
-/// The examples and `count` cases, spread evenly over the families and over each family.
+/// What is always stored and `count` cases, spread evenly over the families and over each family.
 fn exchanges(part: &Part, count: usize) -> impl Iterator<Item = Exchange> {
     let cases = always(part.name).chain(spread_over(part.families, count, short));
     cases.map(|case| (part.exchange)(&case))
 }
 
-/// The examples, names that are nearly a word and texts that break off, with room enough; the bounds of table 3-7, or for `tree` those of its room.
-fn always(part: &str) -> impl Iterator<Item = Case> {
+/// What is stored of a part besides.
+fn always(part: &'static str) -> Box<dyn Iterator<Item = Case>> {
+    match part {
+        "lines" => Box::new(of_lines()),
+        _ => Box::new(of_reader(part)),
+    }
+}
+
+/// M-102's table and sources like it, and line ends around the first 1,024 bytes.
+fn of_lines() -> impl Iterator<Item = Case> {
+    let few = lines::few().map(|source| (Family::Examples, source));
+    let at_bounds = lines::few_at_bounds().map(|source| (Family::Lines, source));
+    few.chain(at_bounds).map(|(family, source)| Case { family, source, plan: Plan::AMPLE })
+}
+
+/// The examples, names that are nearly a word and texts that break off, with room enough; the bounds of table 3-7, or for `tree` those of its
+/// room and a few sources with line ends of every sort.
+fn of_reader(part: &'static str) -> impl Iterator<Item = Case> {
     let bounds: Vec<Vec<u8>> = match part {
-        "trees" => edges::tree_bounds().collect(),
+        "trees" => edges::tree_bounds().chain(lines::few()).collect(),
         _ => utf8::bounds().collect(),
     };
     let longest = if part == "lexer" { LEXER_LONGEST } else { usize::MAX };

@@ -11,14 +11,14 @@ const DIFFER: &str = env!("CARGO_BIN_EXE_differ");
 const IMITATION: &str = env!("CARGO_BIN_EXE_imitation");
 
 /// Stores so many cases of each part; how many it says that there are.
-fn stores(folder: &Path, counts: [usize; 3]) -> Vec<usize> {
+fn stores(folder: &Path, counts: [usize; 4]) -> Vec<usize> {
     let stored = Command::new(DIFFER)
         .args(["--store", folder.to_str().unwrap()])
         .args(counts.map(|count| count.to_string()))
         .output()
         .unwrap();
     let printed = String::from_utf8(stored.stdout).unwrap();
-    let parts = ["lexer: ", "readings: ", "trees: "];
+    let parts = ["lexer: ", "readings: ", "trees: ", "lines: "];
     let numbers = parts.iter().zip(printed.lines()).map(|(part, line)| {
         let number = line.strip_prefix(part).unwrap().strip_suffix(" cases stored");
         number.unwrap().parse().unwrap()
@@ -29,9 +29,9 @@ fn stores(folder: &Path, counts: [usize; 3]) -> Vec<usize> {
 #[test]
 fn stored_cases_replay() {
     let folder = env::temp_dir().join(format!("differ-store-{}", id()));
-    let counts = [200, 600, 100];
-    let examples = stores(&folder, [0; 3]);
-    assert!(examples.len() == 3 && examples.iter().all(|count| *count > 0));
+    let counts = [200, 600, 100, 200];
+    let examples = stores(&folder, [0; 4]);
+    assert!(examples.len() == 4 && examples.iter().all(|count| *count > 0));
     let expected: Vec<usize> =
         examples.iter().zip(counts).map(|(some, more)| some + more).collect();
     assert_eq!(stores(&folder, counts), expected);

@@ -82,17 +82,24 @@ impl Store {
     }
 }
 
-/// The frames of program `cases`, part by part: the part, the length of the source and of the six slices, the source.
-fn framed() -> [Vec<(Vec<u8>, Rooms)>; 3] {
+/// The parts of program `cases` that read; one more counts lines.
+const READING: usize = 3;
+
+/// The frames of program `cases`, part by part: the part, the length of the source and of the six slices, the source. Those that ask for
+/// lines are left out; they have offsets behind the source, four bytes each, and their number in the place of the token ends.
+fn framed() -> [Vec<(Vec<u8>, Rooms)>; READING] {
     let file = PathBuf::from(env!("CARGO_MANIFEST_DIR")).join("../../crates/cases/stdin");
     let bytes = fs::read(file).expect("the stored cases are there");
     let mut rest = bytes.as_slice();
-    let mut cases = [const { Vec::new() }; 3];
+    let mut cases = [const { Vec::new() }; READING];
     while !rest.is_empty() {
         let [part, length, lengths @ ..]: [usize; 8] = std::array::from_fn(|_| number(&mut rest));
         let (source, behind) = rest.split_at(length);
         rest = behind;
-        cases[part].push((source.to_vec(), rooms(lengths)));
+        match cases.get_mut(part) {
+            Some(cases) => cases.push((source.to_vec(), rooms(lengths))),
+            None => rest = &rest[4 * lengths[1]..],
+        }
     }
     cases
 }

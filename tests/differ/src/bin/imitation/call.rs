@@ -15,6 +15,9 @@ pub struct Call {
     pub stops: Vec<u32>,
 }
 
+/// The part that asks for lines, and has offsets behind the source.
+pub const LINES: usize = 3;
+
 impl Call {
     /// The part and the call of the next frame; nothing at the end of the input.
     pub fn next(stdin: &mut impl Read) -> Option<(usize, Self)> {
@@ -36,7 +39,20 @@ impl Call {
             stops: wide(7),
         };
         stdin.read_exact(&mut call.source).ok()?;
+        if numbers[0] == LINES {
+            call.read_offsets(stdin)?;
+        }
         Some((numbers[0], call))
+    }
+
+    /// The offsets, into the slice that has their number.
+    fn read_offsets(&mut self, stdin: &mut impl Read) -> Option<()> {
+        for offset in &mut self.ends {
+            let mut bytes = [0; 4];
+            stdin.read_exact(&mut bytes).ok()?;
+            *offset = u32::from_le_bytes(bytes);
+        }
+        Some(())
     }
 
     /// The lengths of the slices.

@@ -6,6 +6,7 @@
 mod call;
 mod faults;
 mod lexing;
+mod lines;
 mod output;
 mod serve;
 mod trees;
@@ -20,6 +21,7 @@ fn main() {
             0 => lexing::put_answer(fault, call, out),
             1 => put_reading(fault, call, out),
             2 => trees::put_answer(fault, call, out),
+            call::LINES => lines::put_answer(fault, call, out),
             _ => return None,
         }
         Some(())
