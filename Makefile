@@ -76,10 +76,12 @@ fuzz: $(archive)
 	tests/fuzz/run $(SECONDS) $(JOBS)
 	cd tests && cargo run --offline --release --bin fuzz -- --seed $(SEED) --seconds $(SECONDS)
 
-# Instructions of the exported call on sources of n and 2n bytes (docs/PERFORMANCE.md). Needs valgrind.
+# Instructions of the exported calls on sources of n and 2n bytes, and those for lines beside the reading
+# (docs/PERFORMANCE.md). Needs valgrind.
 growth: $(archive)
 	cd tests && cargo build --offline --release -p growth
 	tests/target/release/growth --markdown
+	tests/target/release/growth --beside --size 16384 --markdown
 
 # Times of the proved lexer and reader, a plain Rust lexer and the reference (docs/PERFORMANCE.md).
 speed: $(archive)

@@ -12,8 +12,8 @@ const TEXT: &str =
 pub fn families() -> [Family; 2] {
     let ending = |end: &'static [u8]| -> Make { Box::new(|size| text(size, end)) };
     [
-        ("text that is cut off", NOT_UTF8, ending(b"\xF0\x9F\x98")),
-        ("text with a wrong end", NOT_UTF8, ending(b"\xF0\x9F\x98\n")),
+        Family::read("text that is cut off", NOT_UTF8, ending(b"\xF0\x9F\x98")),
+        Family::read("text with a wrong end", NOT_UTF8, ending(b"\xF0\x9F\x98\n")),
     ]
 }
 

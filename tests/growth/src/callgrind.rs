@@ -8,6 +8,7 @@ use std::{
 
 /// A program that reads a source from standard input, calls a function on it once, and prints the
 /// answer.
+#[derive(Clone)]
 pub struct Counted {
     pub program: PathBuf,
     /// Only what runs inside it is counted.
@@ -26,10 +27,11 @@ pub fn is_there() -> bool {
 }
 
 impl Counted {
-    pub fn run(&self, source: &[u8]) -> Result<Run, String> {
+    /// The run of the program with these words behind its name.
+    pub fn run(&self, words: &[&str], source: &[u8]) -> Result<Run, String> {
         let name = self.program.display();
         let Output { status, stdout, stderr } =
-            self.output(source).map_err(|error| format!("{name}: {error}"))?;
+            self.output(words, source).map_err(|error| format!("{name}: {error}"))?;
         let said = String::from_utf8_lossy(&stderr);
         if !status.success() {
             return Err(format!("{name} ended with {status}\n{said}"));
@@ -41,11 +43,12 @@ impl Counted {
     }
 
     /// Counting starts where the function is entered, and stops where it returns.
-    fn output(&self, source: &[u8]) -> io::Result<Output> {
+    fn output(&self, words: &[&str], source: &[u8]) -> io::Result<Output> {
         let mut child = Command::new("valgrind")
             .args(["--tool=callgrind", "--callgrind-out-file=/dev/null", "--collect-atstart=no"])
             .arg(format!("--toggle-collect={}", self.function))
             .arg(&self.program)
+            .args(words)
             .stdin(Stdio::piped())
             .stdout(Stdio::piped())
             .stderr(Stdio::piped())

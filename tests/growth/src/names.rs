@@ -14,7 +14,7 @@ const LENGTHS: [usize; 3] = [8, 10, 11];
 pub fn families() -> [Family; 2] {
     let onward: Make = Box::new(|size| block(size, str::to_string));
     let turned: Make = Box::new(|size| block(size, turned));
-    [(ONWARD, ACCEPTED, onward), (TURNED, ACCEPTED, turned)]
+    [Family::read(ONWARD, ACCEPTED, onward), Family::read(TURNED, ACCEPTED, turned)]
 }
 
 /// The longest block of all the names, again and again, of at most this size.

@@ -17,6 +17,9 @@ const NEWLINES: &str = "newlines behind";
 
 const NAMES: &str = "names ";
 
+/// Offsets of lines that are asked in rising order.
+const RISING: &str = ", rising";
+
 /// Nothing can be counted without valgrind.
 fn can_count() -> bool {
     Command::new("valgrind").arg("--version").output().is_ok()
@@ -45,6 +48,10 @@ fn growth_is_told() {
 
     let (success, text) = growth(NAMES, "letters", "paced");
     assert!(!success && text.contains("names of no word's length take"), "{text}");
+
+    let (success, text) = growth(RISING, "linear", "paced");
+    assert!(success && text.contains("| offsets |"), "{text}");
+    assert!(text.contains("growth: 4 families, 0 above 2.1"), "{text}");
 
     let (success, text) = growth(NEWLINES, "linear", "unpaced");
     assert!(!success && text.contains("nothing was counted in unpaced"), "{text}");
