@@ -1,20 +1,30 @@
 //! The target: one source or one pair, compared in every respect.
 
 use corpus::{
+    offsets::{Order, ordered},
     random::Random,
     rooms::{Needs, Plan},
 };
 use exported::{
     accepted::given,
-    zones::{Call, call},
+    zones::{Call, LinesCall, call, call_lines},
 };
-use reference::{Reading, Rooms, Slices, joined, reading};
+use reference::{
+    Reading, Rooms, Slices,
+    answer::FILL_U32,
+    joined,
+    lines::{Left, left},
+    reading,
+};
 
 use crate::{counters::Counters, difference::difference, rooms};
 
 /// One in so many sources is read with short slices too, and one in so many with exact ones.
 const SHORT: usize = 3;
 const EXACT: usize = 4;
+
+/// Besides the starts of diagnostics the lines of so many offsets are asked.
+const ODD: usize = 4;
 
 #[derive(Debug, Clone, PartialEq, Eq)]
 pub enum Input {
@@ -34,13 +44,23 @@ struct Made {
     left: Option<Slices>,
 }
 
+/// The two calls that are checked.
+#[derive(Debug, Clone, Copy)]
+pub struct Calls {
+    pub parse: Call,
+    pub lines: LinesCall,
+}
+
+/// The calls in the archive.
+pub const EXPORTED: Calls = Calls { parse: exported::parse_text, lines: exported::lines };
+
 pub struct Checker {
-    made: Call,
+    made: Calls,
     pub counters: Counters,
 }
 
 impl Checker {
-    pub fn new(made: Call) -> Self {
+    pub fn new(made: Calls) -> Self {
         Self { made, counters: Counters::default() }
     }
 
@@ -54,7 +74,7 @@ impl Checker {
         checked
     }
 
-    /// One call with room enough, and now and then one more with short slices.
+    /// One call with room enough, and now and then one more with short slices; then the lines of what it gave.
     fn source(&mut self, source: &[u8], random: &mut Random) -> Result<(), Mismatch> {
         self.counters.sources += 1;
         let reading = reading(source);
@@ -69,7 +89,30 @@ impl Checker {
             let made = self.call(source, rooms::short(random, needs));
             compare(&made, &reading)?;
         }
-        Ok(())
+        self.lines(source, starts(&reading), random)
+    }
+
+    /// One call for the lines of these offsets and of a few odd ones, rising or in any order, now and then with short slices.
+    fn lines(
+        &mut self,
+        source: &[u8],
+        mut offsets: Vec<u32>,
+        random: &mut Random,
+    ) -> Result<(), Mismatch> {
+        self.counters.lines += 1;
+        let length = source.len();
+        let odd = (0..ODD).map(|_| random.below(length + 2) as u32);
+        offsets.extend(odd.chain([u32::MAX]));
+        offsets.sort_unstable();
+        if random.one_in(2) {
+            offsets = ordered(offsets, random.pick(&Order::ALL), random);
+        }
+        let mut room = || match random.one_in(SHORT) {
+            true => random.below(offsets.len() + 2),
+            false => offsets.len(),
+        };
+        let rooms = [room(), room()];
+        compare_lines(self.made.lines, source, &offsets, rooms)
     }
 
     /// Demand 3 over three calls, each of which is compared as well.
@@ -92,7 +135,7 @@ impl Checker {
     }
 
     fn call(&mut self, source: &[u8], rooms: Rooms) -> Made {
-        let (status, left) = call(self.made, source, rooms);
+        let (status, left) = call(self.made.parse, source, rooms);
         self.counters.call(status);
         Made { source: source.to_vec(), rooms, status, left }
     }
@@ -110,4 +153,35 @@ fn compare(made: &Made, reading: &Reading) -> Result<(), Mismatch> {
     };
     let source = made.source.escape_ascii();
     Err(Mismatch(format!("{difference}rooms: {:?}\nsource: {source}", made.rooms)))
+}
+
+/// Where the diagnostics start.
+fn starts(reading: &Reading) -> Vec<u32> {
+    match reading {
+        Reading::Parsed(parsed) => parsed.diagnostics.iter().map(|found| found.start).collect(),
+        _ => Vec::new(),
+    }
+}
+
+/// The number returned and both slices are those of M-102's words, and the red zones are untouched.
+fn compare_lines(
+    made: LinesCall,
+    source: &[u8],
+    offsets: &[u32],
+    rooms: [usize; 2],
+) -> Result<(), Mismatch> {
+    let found = call_lines(made, source, offsets, rooms);
+    let [lines, columns] = rooms.map(|room| vec![FILL_U32; room]);
+    let expected = left(source, offsets, lines, columns);
+    if found.as_ref() == Some(&expected) {
+        return Ok(());
+    }
+    let difference = match found {
+        None => "a red zone is written\n".to_string(),
+        Some(Left { returned, lines, columns }) => {
+            format!("lines: {returned} {lines:?} {columns:?}\nexpected: {expected:?}\n")
+        },
+    };
+    let source = source.escape_ascii();
+    Err(Mismatch(format!("{difference}offsets: {offsets:?}\nsource: {source}")))
 }

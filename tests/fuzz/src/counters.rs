@@ -21,6 +21,8 @@ pub struct Counters {
     pub inside: u64,
     /// Calls by the status returned, those for pairs too.
     pub statuses: [u64; 7],
+    /// Calls for lines and columns.
+    pub lines: u64,
     pub mismatches: u64,
     seen: Vec<u64>,
 }
@@ -63,6 +65,7 @@ impl fmt::Display for Counters {
         for (status, count) in self.statuses.iter().enumerate() {
             line(&format!("status-{status}"), *count)?;
         }
+        line("lines", self.lines)?;
         line("mismatches", self.mismatches)
     }
 }

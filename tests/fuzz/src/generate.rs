@@ -3,6 +3,7 @@
 use corpus::{
     damage::damaged,
     edges::FORMS,
+    lines::script_with_ends,
     pairs::{LAST, STARTS, ended, pair, started},
     random::Random,
     script::script,
@@ -49,7 +50,8 @@ fn source(random: &mut Random) -> Vec<u8> {
     }
     match random.below(100) {
         0..40 => pieces(random, 20),
-        40..55 => script_of(random, 200),
+        40..50 => script_of(random, 200),
+        50..55 => script_with_ends(random),
         55..75 => {
             let text = script_of(random, 200);
             damaged(random, &text)

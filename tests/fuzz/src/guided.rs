@@ -7,7 +7,7 @@ use std::{
 };
 
 use crate::{
-    check::{Checker, Mismatch},
+    check::{Checker, EXPORTED, Mismatch},
     input::decode,
     shrink::smallest,
 };
@@ -15,7 +15,7 @@ use crate::{
 static CHECKER: LazyLock<Mutex<Checker>> = LazyLock::new(|| {
     // SAFETY: the function may be called at the end of the process.
     unsafe { atexit(print_counters) };
-    Mutex::new(Checker::new(exported::parse_text))
+    Mutex::new(Checker::new(EXPORTED))
 });
 
 unsafe extern "C" {
@@ -35,7 +35,7 @@ pub unsafe extern "C" fn LLVMFuzzerTestOneInput(data: *const u8, size: usize) ->
     let (input, mut random) = decode(bytes);
     let mut checker = CHECKER.lock().expect("one thread");
     if let Err(mismatch) = checker.check(&input, &mut random) {
-        let Mismatch(text) = smallest(exported::parse_text, decode(bytes), mismatch);
+        let Mismatch(text) = smallest(EXPORTED, decode(bytes), mismatch);
         eprint!("mismatch:\n{text}\n{}", checker.counters);
         abort();
     }

@@ -1,4 +1,4 @@
-//! The exported call against the reference on sources without end: from bytes that a
+//! The exported calls against the reference on sources without end: from bytes that a
 //! coverage-guided fuzzer chooses, or from a seed.
 
 pub mod check;

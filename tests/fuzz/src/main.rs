@@ -1,4 +1,4 @@
-//! Checks the exported call on inputs from a seed, or writes the seeds of the guided run.
+//! Checks the exported calls on inputs from a seed, or writes the seeds of the guided run.
 
 use std::{
     env,
@@ -9,7 +9,7 @@ use std::{
 };
 
 use fuzz::{
-    check::{Checker, Mismatch},
+    check::{Checker, EXPORTED, Mismatch},
     generate::case,
     seeds,
     shrink::smallest,
@@ -67,7 +67,7 @@ fn run(seed: u64, end: End) -> ExitCode {
         return ExitCode::FAILURE;
     }
     let begun = Instant::now();
-    let mut checker = Checker::new(exported::parse_text);
+    let mut checker = Checker::new(EXPORTED);
     let mut place = Place(seed, 0);
     let goes_on = |number| match end {
         End::Cases(cases) => number < cases,
@@ -76,7 +76,7 @@ fn run(seed: u64, end: End) -> ExitCode {
     while goes_on(place.1) && checker.counters.mismatches == 0 {
         let (input, mut random) = case(seed, place.1);
         if let Err(mismatch) = checker.check(&input, &mut random) {
-            let Mismatch(text) = smallest(exported::parse_text, case(seed, place.1), mismatch);
+            let Mismatch(text) = smallest(EXPORTED, case(seed, place.1), mismatch);
             println!("mismatch in case {} of seed {seed}:\n{text}", place.1);
         }
         place.1 += 1;

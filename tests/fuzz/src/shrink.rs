@@ -1,12 +1,11 @@
 //! Smaller inputs that are answered as wrongly.
 
 use corpus::random::Random;
-use exported::zones::Call;
 
-use crate::check::{Checker, Input, Mismatch};
+use crate::check::{Calls, Checker, Input, Mismatch};
 
 /// What is wrong on the smallest input that is found, read with the same choice of rooms.
-pub fn smallest(made: Call, (input, random): (Input, Random), first: Mismatch) -> Mismatch {
+pub fn smallest(made: Calls, (input, random): (Input, Random), first: Mismatch) -> Mismatch {
     let (mut checker, mut last) = (Checker::new(made), first);
     shrunk(input, |input| {
         let checked = checker.check(input, &mut random.clone());

@@ -1,9 +1,13 @@
 //! A call that is right, and calls with one fault, each of which is found. No archive is needed.
 
 use corpus::random::Random;
-use exported::{Lent, imitation::answer_into, zones::Call};
+use exported::{
+    Lent,
+    imitation::{answer_into, lines_into},
+    zones::{Call, LinesCall},
+};
 use fuzz::{
-    check::{Checker, Input, Mismatch},
+    check::{Calls, Checker, Input, Mismatch},
     generate::case,
 };
 
@@ -16,11 +20,25 @@ fn right(source: &[u8], mut lent: Lent) -> u64 {
 
 /// The first mismatch among the cases of seed 1.
 fn first_mismatch(made: Call) -> Option<String> {
+    first_of(Calls { parse: made, lines: lines_into })
+}
+
+/// The same where the call for lines has the fault.
+fn first_of_lines(made: LinesCall) -> Option<String> {
+    first_of(Calls { parse: right, lines: made })
+}
+
+fn first_of(made: Calls) -> Option<String> {
     let mut checker = Checker::new(made);
     (0..CASES).find_map(|number| {
         let (input, mut random) = case(1, number);
         checker.check(&input, &mut random).err().map(|Mismatch(text)| text)
     })
+}
+
+/// Both calls, of which one may have a fault.
+fn checker(parse: Call) -> Checker {
+    Checker::new(Calls { parse, lines: lines_into })
 }
 
 /// The right answer, then a change to what is lent.
@@ -116,7 +134,7 @@ fn writes_outside_are_found() {
 fn a_wrong_count_is_found() {
     // Two diagnostics: the name and the `=` are missing.
     let source = Input::Source(b"const".to_vec());
-    let found = Checker::new(wrong_count).check(&source, &mut Random::new(1));
+    let found = checker(wrong_count).check(&source, &mut Random::new(1));
     assert!(found.unwrap_err().0.contains("counts[2] is 3, expected 2"));
 }
 
@@ -128,9 +146,54 @@ fn a_wrong_status_is_found() {
 #[test]
 fn a_join_that_is_not_joined_is_found() {
     let pair = Input::Pair(b"proc a add end\n".to_vec(), b"begin end\n".to_vec());
-    let mut checker = Checker::new(right);
+    let mut checker = checker(right);
     assert_eq!(checker.check(&pair, &mut Random::new(1)), Ok(()));
     assert_eq!((checker.counters.pairs, checker.counters.inside), (1, 1));
-    let found = Checker::new(wrong_join).check(&pair, &mut Random::new(1));
+    let found = self::checker(wrong_join).check(&pair, &mut Random::new(1));
     assert!(found.unwrap_err().0.starts_with("joined otherwise:\nproc a add end\\n\n"));
+}
+
+/// Takes each lone CR for a letter.
+fn lone_crs_are_letters(
+    source: &[u8],
+    offsets: &[u32],
+    lines: &mut [u32],
+    columns: &mut [u32],
+) -> u64 {
+    let letter = |at: usize| source[at] == b'\r' && source.get(at + 1) != Some(&b'\n');
+    let other = |at| if letter(at) { b'a' } else { source[at] };
+    let other: Vec<u8> = (0..source.len()).map(other).collect();
+    lines_into(&other, offsets, lines, columns)
+}
+
+/// Takes each CR LF for two line ends.
+fn cr_lf_is_two(source: &[u8], offsets: &[u32], lines: &mut [u32], columns: &mut [u32]) -> u64 {
+    let other: Vec<u8> =
+        source.iter().map(|byte| if *byte == b'\r' { b'\n' } else { *byte }).collect();
+    lines_into(&other, offsets, lines, columns)
+}
+
+fn one_too_few(source: &[u8], offsets: &[u32], lines: &mut [u32], columns: &mut [u32]) -> u64 {
+    lines_into(source, offsets, lines, columns).saturating_sub(1)
+}
+
+#[test]
+fn wrong_lines_are_found() {
+    assert_eq!(first_of_lines(lines_into), None);
+    for fault in [lone_crs_are_letters, cr_lf_is_two, one_too_few] {
+        assert!(first_of_lines(fault).unwrap().starts_with("lines: "));
+    }
+    let outside: [LinesCall; 2] = [
+        |source, offsets, lines, columns| {
+            behind(lines);
+            lines_into(source, offsets, lines, columns)
+        },
+        |source, offsets, lines, columns| {
+            before(columns);
+            lines_into(source, offsets, lines, columns)
+        },
+    ];
+    for fault in outside {
+        assert!(first_of_lines(fault).unwrap().contains("a red zone is written"));
+    }
 }
