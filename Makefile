@@ -45,12 +45,13 @@ check:
 test:
 	bash .ci/run
 
-# The lexer, the readings and the text of tree against the compiled reference, and the same on N times the sampled cases.
+# The lexer, the readings, the text of tree and the lines against the compiled reference, and the same on N times the sampled cases.
 differ:
 	tools/progress target/check.log tools/program cases
 	cd tests && cargo run --offline --release --bin differ lexer --program ../crates/cases/out/cases
 	cd tests && cargo run --offline --release --bin differ readings --program ../crates/cases/out/cases
 	cd tests && cargo run --offline --release --bin differ trees --program ../crates/cases/out/cases
+	cd tests && cargo run --offline --release --bin differ lines --program ../crates/cases/out/cases
 
 N ?= 10
 large:
@@ -58,16 +59,18 @@ large:
 	cd tests && cargo run --offline --release --bin differ lexer --program ../crates/cases/out/cases --large $(N)
 	cd tests && cargo run --offline --release --bin differ readings --program ../crates/cases/out/cases --large $(N)
 	cd tests && cargo run --offline --release --bin differ trees --program ../crates/cases/out/cases --large $(N)
+	cd tests && cargo run --offline --release --bin differ lines --program ../crates/cases/out/cases --large $(N)
 
 # The exported calls over the corpus, from C and against Python's lines, and fold. Needs gcc, valgrind and python3.
 calls: $(archive)
 	cd tests && cargo build --offline --release
 	tests/target/release/differ calls
+	tests/target/release/differ lines
 	tests/c/run
 	tests/lines/run
 	tests/fold/run
 
-# The exported call against the reference for a chosen time: guided by coverage, with JOBS processes, and as
+# The exported calls against the reference for a chosen time: guided by coverage, with JOBS processes, and as
 # long again from SEED. Needs clang.
 SECONDS ?= 60
 JOBS ?= 1
