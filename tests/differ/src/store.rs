@@ -45,11 +45,20 @@ fn always(part: &'static str) -> Box<dyn Iterator<Item = Case>> {
     }
 }
 
-/// M-102's table and sources like it, and line ends around the first 1,024 bytes.
+/// M-102's table and sources like it, line ends around the first 1,024 bytes, and short slices.
 fn of_lines() -> impl Iterator<Item = Case> {
-    let few = lines::few().map(|source| (Family::Examples, source));
-    let at_bounds = lines::few_at_bounds().map(|source| (Family::Lines, source));
-    few.chain(at_bounds).map(|(family, source)| Case { family, source, plan: Plan::AMPLE })
+    let case = |family, plan| move |source| Case { family, source, plan };
+    let few = lines::few().map(case(Family::Examples, Plan::AMPLE));
+    let at_bounds = lines::few_at_bounds().map(case(Family::Lines, Plan::AMPLE));
+    let short = Plan::each().into_iter().filter(short_for_lines);
+    let short = short.map(move |plan| case(Family::Examples, plan)(b"a\r\nb\r".to_vec()));
+    few.chain(at_bounds).chain(short)
+}
+
+/// Whether only slices that are lent for lines may be short.
+fn short_for_lines(plan: &Plan) -> bool {
+    let Plan { token_ends, starts, ends, .. } = *plan;
+    *plan == Plan { token_ends, starts, ends, ..Plan::AMPLE }
 }
 
 /// The examples, names that are nearly a word and texts that break off, with room enough; the bounds of table 3-7, or for `tree` those of its
