@@ -10,7 +10,7 @@ use reference::{Lines, joined, lines::Left};
 
 use crate::{
     lines::{expected, text},
-    run::{Outcome, show},
+    run::{Outcome, shortened, show},
 };
 
 /// A case that the call answers otherwise than M-102's words.
@@ -39,7 +39,7 @@ pub fn run(made: LinesCall, cases: impl Iterator<Item = Case>) -> Outcome {
     }
     if let Some(Mismatch { case, question, expected, found }) = smallest {
         show(&case, &expected, &found);
-        println!("  offsets  {:?}", question.offsets);
+        println!("  offsets  {}", shortened(format!("{:?}", question.offsets).as_bytes(), 0));
     }
     outcome.ended()
 }

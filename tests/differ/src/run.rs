@@ -206,7 +206,7 @@ pub fn show(case: &Case, expected: &[u8], answer: &[u8]) {
 }
 
 /// The text around a place, escaped.
-fn shortened(text: &[u8], place: usize) -> String {
+pub fn shortened(text: &[u8], place: usize) -> String {
     let start = place.saturating_sub(SHOWN_BYTES / 2).min(text.len());
     let end = text.len().min(start + SHOWN_BYTES);
     let dots = |cut: bool| if cut { "..." } else { "" };
