@@ -26,8 +26,8 @@ pub fn frame(asked: Asked, source: &[u8], rooms: Rooms) -> Vec<u8> {
     bytes
 }
 
-/// The same frame for lines: the number of offsets stands in the place of the token ends, the rooms of lines and columns in those of the
-/// starts and ends. The offsets follow the source.
+/// The same frame for lines: the number of offsets stands in the place of the token ends, the rooms
+/// of lines and columns in those of the starts and ends. The offsets follow the source.
 pub fn lines_frame(source: &[u8], question: &Question) -> Vec<u8> {
     let Question { offsets, lines, columns } = question;
     let rooms = Rooms { token_ends: offsets.len(), starts: *lines, ends: *columns, ..Rooms::NONE };

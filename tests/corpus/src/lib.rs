@@ -87,7 +87,8 @@ pub enum Family {
 }
 
 impl Family {
-    /// The families for the whole reader; the first ten are the lexer's, and the first seventeen those that programs are asked.
+    /// The families for the whole reader; the first ten are the lexer's, and the first seventeen
+    /// those that programs are asked.
     pub const ALL: [Self; 18] = [
         Self::Examples,
         Self::Spaced,

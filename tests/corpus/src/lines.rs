@@ -1,4 +1,5 @@
-//! Sources with line ends of every sort (M-102): CR LF, a CR alone, LF and mixtures, in quotes and comments too, and at the end.
+//! Sources with line ends of every sort (M-102): CR LF, a CR alone, LF and mixtures, in quotes and
+//! comments too, and at the end.
 
 use crate::{
     damage::damaged,
@@ -70,7 +71,8 @@ fn at_bound(bound: usize, end: &str, less: usize) -> Vec<u8> {
     text.into_bytes()
 }
 
-/// Line ends up to behind the bound, also behind one byte, so that one of two bytes has each place in turn.
+/// Line ends up to behind the bound, also behind one byte, so that one of two bytes has each place
+/// in turn.
 fn full_of(bound: usize, end: &str) -> [Vec<u8>; 2] {
     let ends = end.repeat(bound / end.len() + 3);
     [&ends, &format!(" {ends}")].map(|text| text.clone().into_bytes())
@@ -92,7 +94,8 @@ pub fn script_with_ends(random: &mut Random) -> Vec<u8> {
     source
 }
 
-/// Two files to be joined, with such line ends in both; the first ends in LF, mostly, and the second may start with a CR.
+/// Two files to be joined, with such line ends in both; the first ends in LF, mostly, and the
+/// second may start with a CR.
 pub fn pair(random: &mut Random) -> Pair {
     let (first, second) = (script_with_ends(random), script_with_ends(random));
     let start = random.pick(&["", "\r", "\r\n", "\n\r", "$x\r"]);
@@ -117,7 +120,8 @@ mod tests {
     use super::*;
     use reference::{Lines, Reading, reading};
 
-    /// Diagnostics of samples by where they start: at a CR, at the LF of a CR LF, behind a CR that is no LF's, behind a CR LF.
+    /// Diagnostics of samples by where they start: at a CR, at the LF of a CR LF, behind a CR that
+    /// is no LF's, behind a CR LF.
     #[test]
     fn diagnostics_stand_at_every_sort_of_end() {
         let mut random = Random::new(1);
@@ -136,7 +140,8 @@ mod tests {
         assert!(counts.into_iter().all(|count| count > 100), "{counts:?}");
     }
 
-    /// Line ends that are completed before a bound, at it and behind it; a CR LF that lies across it too.
+    /// Line ends that are completed before a bound, at it and behind it; a CR LF that lies across
+    /// it too.
     #[test]
     fn ends_stand_around_bounds() {
         let sources: Vec<_> = at_bounds().collect();

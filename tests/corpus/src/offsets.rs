@@ -4,7 +4,8 @@ use reference::{Lines, Reading, reading};
 
 use crate::{Case, Family, random::Random, rooms::Needs};
 
-/// Of sources up to this length all offsets are asked, and of those of the family Lines up to the second.
+/// Of sources up to this length all offsets are asked, and of those of the family Lines up to the
+/// second.
 const SHORT: usize = 96;
 const LINES: usize = 4_200;
 
@@ -48,8 +49,8 @@ impl Order {
 }
 
 impl Question {
-    /// One for each order. The case's plan says how many of the offsets are lent, by its token ends, and the rooms for lines and
-    /// columns, by its starts and ends.
+    /// One for each order. The case's plan says how many of the offsets are lent, by its token
+    /// ends, and the rooms for lines and columns, by its starts and ends.
     pub fn of(case: &Case, orders: &[Order]) -> Vec<Self> {
         let (rising, mut random) = (rising(case), numbers(&case.source));
         let count = rising.len();

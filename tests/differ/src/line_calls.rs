@@ -21,8 +21,8 @@ struct Mismatch {
     found: Vec<u8>,
 }
 
-/// Makes two calls on each case, with rising offsets and in another order, and one on each tail, of which there are many and few with a
-/// line end; shows the smallest that is answered otherwise.
+/// Makes two calls on each case, with rising offsets and in another order, and one on each tail, of
+/// which there are many and few with a line end; shows the smallest that is answered otherwise.
 pub fn run(made: LinesCall, cases: impl Iterator<Item = Case>) -> Outcome {
     let mut outcome = Outcome::begun();
     let mut smallest: Option<Mismatch> = None;
@@ -51,7 +51,8 @@ fn orders(case: &Case) -> Vec<Order> {
     }
 }
 
-/// Nothing where the number returned and both slices are those of the words, and the red zones are untouched.
+/// Nothing where the number returned and both slices are those of the words, and the red zones are
+/// untouched.
 fn compare(made: LinesCall, case: &Case, question: Question) -> Option<Mismatch> {
     let expected = expected(&case.source, &question);
     let rooms = [question.lines, question.columns];
@@ -66,8 +67,9 @@ fn compare(made: LinesCall, case: &Case, question: Question) -> Option<Mismatch>
     Some(Mismatch { case: case.clone(), question, expected: text(&expected), found })
 }
 
-/// Whether lines and columns in joined files are those in the files: of the pairs that demand 3 joins, those of the first file stay, and
-/// those of the second go up by the first's line ends. Prints the counts.
+/// Whether lines and columns in joined files are those in the files: of the pairs that demand 3
+/// joins, those of the first file stay, and those of the second go up by the first's line ends.
+/// Prints the counts.
 pub fn check_joins(made: LinesCall, pairs: impl Iterator<Item = Pair>) -> bool {
     let (mut inside, mut failures) = (0, 0);
     for (first, second) in pairs {

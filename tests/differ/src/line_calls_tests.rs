@@ -10,7 +10,8 @@ use reference::MAX_SOURCE;
 
 use super::{check_joins, compare, run};
 
-/// A walk from the start for each offset; `end` says how many bytes the line end at the start of the rest has.
+/// A walk from the start for each offset; `end` says how many bytes the line end at the start of
+/// the rest has.
 fn walked(
     source: &[u8],
     offsets: &[u32],
@@ -150,7 +151,8 @@ fn wrong_join(source: &[u8], offsets: &[u32], lines: &mut [u32], columns: &mut [
     written
 }
 
-/// The place of the fault that takes LF CR for one line end, which shows where a second file starts with a CR.
+/// The place of the fault that takes LF CR for one line end, which shows where a second file starts
+/// with a CR.
 const LF_CR: usize = 3;
 
 const FAULTS: [LinesCall; 13] = [

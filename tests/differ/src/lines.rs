@@ -16,8 +16,8 @@ pub fn part() -> Part {
     Part { name: "lines", families: Family::PROGRAM, exchange: Box::new(exchange) }
 }
 
-/// Answer: how many were written, then what is left in the slices of lines and columns. An example is asked for rising offsets, another
-/// source in an order that depends on it.
+/// Answer: how many were written, then what is left in the slices of lines and columns. An example
+/// is asked for rising offsets, another source in an order that depends on it.
 fn exchange(case: &Case) -> Exchange {
     let order = match case.family {
         Family::Examples => Order::Rising,

@@ -1,4 +1,5 @@
-//! Runs a program, or an exported call, over the corpus and compares its answers with the reference.
+//! Runs a program, or an exported call, over the corpus and compares its answers with the
+//! reference.
 
 mod calls;
 mod lexer;

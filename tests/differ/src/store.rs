@@ -61,8 +61,9 @@ fn short_for_lines(plan: &Plan) -> bool {
     *plan == Plan { token_ends, starts, ends, ..Plan::AMPLE }
 }
 
-/// The examples, names that are nearly a word and texts that break off, with room enough; the bounds of table 3-7, or for `tree` those of its
-/// room and a few sources with line ends of every sort.
+/// The examples, names that are nearly a word and texts that break off, with room enough; the
+/// bounds of table 3-7, or for `tree` those of its room and a few sources with line ends of every
+/// sort.
 fn of_reader(part: &'static str) -> impl Iterator<Item = Case> {
     let bounds: Vec<Vec<u8>> = match part {
         "trees" => edges::tree_bounds().chain(lines::few()).collect(),

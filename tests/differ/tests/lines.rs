@@ -1,4 +1,5 @@
-//! The harness against an imitation of the lines and columns: right answers pass, every fault is caught.
+//! The harness against an imitation of the lines and columns: right answers pass, every fault is
+//! caught.
 
 mod common;
 

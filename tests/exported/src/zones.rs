@@ -42,8 +42,9 @@ fn with_zones(rooms: Rooms) -> Rooms {
     }
 }
 
-/// What a call for lines and columns returns and leaves in slices of these lengths; nothing where a red zone is written. Before the source
-/// stand CRs and behind it LFs, with which a call that looks there would pair an LF or a CR.
+/// What a call for lines and columns returns and leaves in slices of these lengths; nothing where a
+/// red zone is written. Before the source stand CRs and behind it LFs, with which a call that looks
+/// there would pair an LF or a CR.
 pub fn call_lines(
     made: LinesCall,
     source: &[u8],
@@ -176,7 +177,8 @@ mod tests {
         }
     }
 
-    /// A call that looked behind the source would find no end of its CR, and one that looked before it no end of its LF.
+    /// A call that looked behind the source would find no end of its CR, and one that looked before
+    /// it no end of its LF.
     #[test]
     fn ends_stand_around_a_source() {
         let looks: LinesCall = |source, _, _, _| {

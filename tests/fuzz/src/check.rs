@@ -74,7 +74,8 @@ impl Checker {
         checked
     }
 
-    /// One call with room enough, and now and then one more with short slices; then the lines of what it gave.
+    /// One call with room enough, and now and then one more with short slices; then the lines of
+    /// what it gave.
     fn source(&mut self, source: &[u8], random: &mut Random) -> Result<(), Mismatch> {
         self.counters.sources += 1;
         let reading = reading(source);
@@ -92,7 +93,8 @@ impl Checker {
         self.lines(source, starts(&reading), random)
     }
 
-    /// One call for the lines of these offsets and of a few odd ones, rising or in any order, now and then with short slices.
+    /// One call for the lines of these offsets and of a few odd ones, rising or in any order, now
+    /// and then with short slices.
     fn lines(
         &mut self,
         source: &[u8],

@@ -2,8 +2,9 @@
 
 use crate::measure::{ACCEPTED, Family, Make, scripts};
 
-/// Where no offset is below the one before it one walk over the source is enough; where they fall, each may take a part of the source more.
-/// The words are an order, and how many bytes there are for an offset.
+/// Where no offset is below the one before it one walk over the source is enough; where they fall,
+/// each may take a part of the source more. The words are an order, and how many bytes there are
+/// for an offset.
 pub fn families() -> [Family; 13] {
     [
         family("script, few rising", &["lines", "rising", "16"], Box::new(scripts)),

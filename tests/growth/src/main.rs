@@ -88,7 +88,8 @@ fn read(options: &mut Options, mut words: impl Iterator<Item = String>) -> Optio
     Some(())
 }
 
-/// Prints the tables; how many families grow too fast, and one more where names are not told by their lengths.
+/// Prints the tables; how many families grow too fast, and one more where names are not told by
+/// their lengths.
 fn run(options: Options) -> Result<usize, String> {
     if options.beside {
         let [reading, lines] = [exported_call(READING)?, exported_call(LINES)?];

@@ -80,7 +80,8 @@ impl Measure {
         })
     }
 
-    /// The answer to every family's source is a number that is known and, where it is 0, a count, then more.
+    /// The answer to every family's source is a number that is known and, where it is 0, a count,
+    /// then more.
     fn row(&self, Family { name, words, answer, make }: &Family) -> Result<Row, String> {
         let mut row = Row { name, bytes: 0, count: 0, instructions: [0; 2] };
         for (size, instructions) in self.sizes.into_iter().zip(&mut row.instructions) {

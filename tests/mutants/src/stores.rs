@@ -85,8 +85,9 @@ impl Store {
 /// The parts of program `cases` that read; one more counts lines.
 const READING: usize = 3;
 
-/// The frames of program `cases`, part by part: the part, the length of the source and of the six slices, the source. Those that ask for
-/// lines are left out; they have offsets behind the source, four bytes each, and their number in the place of the token ends.
+/// The frames of program `cases`, part by part: the part, the length of the source and of the six
+/// slices, the source. Those that ask for lines are left out; they have offsets behind the source,
+/// four bytes each, and their number in the place of the token ends.
 fn framed() -> [Vec<(Vec<u8>, Rooms)>; READING] {
     let file = PathBuf::from(env!("CARGO_MANIFEST_DIR")).join("../../crates/cases/stdin");
     let bytes = fs::read(file).expect("the stored cases are there");

@@ -54,7 +54,8 @@ impl Lines {
         &self.ends
     }
 
-    /// 1 plus the ends completed by the offset, and 1 plus the bytes since the last of them. An offset above the length counts as that.
+    /// 1 plus the ends completed by the offset, and 1 plus the bytes since the last of them. An
+    /// offset above the length counts as that.
     pub fn place(&self, offset: u32) -> Place {
         let offset = (offset as usize).min(self.length);
         let completed = self.ends.partition_point(|end| *end <= offset);
