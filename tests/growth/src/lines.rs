@@ -13,13 +13,13 @@ pub fn families() -> [Family; 13] {
         family("CRs, rising", &["lines", "rising", "1"], of(b"\r")),
         family("one line, rising", &["lines", "rising", "1"], of(b"a")),
         family("script, falling", &["lines", "falling", "1"], Box::new(scripts)),
-        family("CR LF lines, falling", &["lines", "falling", "4"], Box::new(cr_lf)),
-        family("CRs, falling", &["lines", "falling", "4"], of(b"\r")),
-        family("one line, falling", &["lines", "falling", "4"], of(b"a")),
-        family("script, to and fro", &["lines", "fro", "4"], Box::new(scripts)),
-        family("one line, to and fro", &["lines", "fro", "4"], of(b"a")),
-        family("script, mixed", &["lines", "mixed", "4"], Box::new(scripts)),
-        family("one line, mixed", &["lines", "mixed", "4"], of(b"a")),
+        family("CR LF lines, falling", &["lines", "falling", "16"], Box::new(cr_lf)),
+        family("CRs, falling", &["lines", "falling", "16"], of(b"\r")),
+        family("one line, falling", &["lines", "falling", "16"], of(b"a")),
+        family("script, to and fro", &["lines", "fro", "16"], Box::new(scripts)),
+        family("one line, to and fro", &["lines", "fro", "16"], of(b"a")),
+        family("script, mixed", &["lines", "mixed", "16"], Box::new(scripts)),
+        family("one line, mixed", &["lines", "mixed", "16"], of(b"a")),
     ]
 }
 
