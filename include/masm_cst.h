@@ -178,7 +178,7 @@ uint64_t masm_parse_text(const uint8_t *source, size_t source_len,
    many it wrote; of a source over MASM_MAX_SOURCE bytes 0, and nothing is written.
 
    Offsets that never fall, such as `starts`, take one walk over the source; any others take up to
-   1,024 bytes more each. The caller keeps what it keeps for the call above. */
+   2,048 bytes more each. The caller keeps what it keeps for the call above. */
 uint64_t masm_lines(const uint8_t *source, size_t source_len,
                     const uint32_t *offsets, size_t offsets_len,
                     uint32_t *lines, size_t lines_len,

@@ -1,8 +1,9 @@
--- The line and the column of places, one by one; and that the first of two joined texts must end in LF.
+-- The line and the column of places, one by one; and which premises joined files need.
 -- Assumes nothing.
-use Rattle.std.specs.Prelude.{ℕ, ◌+◌, ◌≡◌, refl, List, [], ◌∷◌, ◌++◌}
-use Rattle.std.proofs.Common.{arith}
+use Rattle.std.specs.Prelude.{ℕ, ◌+◌, ◌≡◌, refl, List, [], ◌∷◌, ◌++◌, get_or}
+use Rattle.std.proofs.Common.{ap, arith}
 use Rattle.lines.specs.Ends.{line, column}
+use Rattle.lines.specs.MasmLines.{at_offsets, positions_written}
 use Rattle.lines.specs.JoinedLines.{line_ends_in}
 
 abbrev At : List ℕ → ℕ → ℕ → ℕ → Type 0
@@ -50,3 +51,11 @@ line_feed_needed e = absurd (omega (arith, e))
 -- Without a line end between them, columns of the second go on where the first ends.
 line_feed_needed_for_columns : column ((97 ∷ []) ++ 98 ∷ []) (1 + 0) ≡ column (98 ∷ []) 0 → ⊥
 line_feed_needed_for_columns e = absurd (omega (arith, e))
+
+-- A place behind A's end counts as A's end in A, and is another one in the join.
+within_needed : at_offsets column (10 ∷ []) (2 ∷ []) ≡ at_offsets column ((10 ∷ []) ++ 98 ∷ 98 ∷ []) (2 ∷ []) → ⊥
+within_needed e = absurd (omega (arith, ap (λ (l : List ℕ). get_or l 0 0) e))
+
+-- Without room nothing is written.
+room_needed : positions_written (10 ∷ []) (0 ∷ []) [] (0 ∷ []) ≡ 1 → ⊥
+room_needed e = absurd (omega (arith, e))

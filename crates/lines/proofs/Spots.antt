@@ -5,7 +5,7 @@ use Rattle.std.proofs.Common.{sym, arith, add-one, subst, replicate}
 use Rattle.lines.specs.declared.spot.Spot.{Spot}
 use Rattle.std.proofs.lemmas.List.{get_or-replicate, length-replicate}
 use Rattle.lines.specs.Ends.{completed}
-use Rattle.lines.specs.Places.{start, Stands, Mark, Marks}
+use Rattle.lines.specs.Places.{first_spot, Stands, Mark, Marks}
 use Rattle.lines.proofs.Laws.{line_few, start_within}
 
 abbrev spot : ℕ → ℕ → ℕ → Spot
@@ -31,10 +31,10 @@ pub few : (source : List ℕ) (s : Spot) → Stands source s → (s.ends ≤ s.a
 few source s m = (omega (arith, m.ends_are, line_few source s.at), omega (arith, m.start_is, start_within source s.at))
 
 -- The start of a source, and marks that all stand there.
-pub start_stands : (source : List ℕ) → Stands source start
+pub start_stands : (source : List ℕ) → Stands source first_spot
 start_stands source = record { within = omega arith; ends_are = refl; start_is = refl }
 
-pub start_marks : (source : List ℕ) (n : ℕ) → Marks source (replicate n start)
+pub start_marks : (source : List ℕ) (n : ℕ) → Marks source (replicate n first_spot)
 start_marks source n j h =
-    subst (Mark source j) (sym (get_or-replicate n j start start (omega (arith, h, length-replicate n start))))
+    subst (Mark source j) (sym (get_or-replicate n j first_spot first_spot (omega (arith, h, length-replicate n first_spot))))
     (record { stands = start_stands source; before = omega arith })

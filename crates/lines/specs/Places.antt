@@ -11,8 +11,8 @@ pub record Stands (source : List ℕ) (s : Spot) : Type 0 where
   pub ends_are : s.ends ≡ length (ends_by source s.at)
   pub start_is : s.line_start ≡ line_start source s.at
 
-abbrev pub start : Spot
-start = record { at = 0; ends = 0; line_start = 0 }
+abbrev pub first_spot : Spot
+first_spot = record { at = 0; ends = 0; line_start = 0 }
 
 -- Each mark is a spot of the source, and none lies behind its own place.
 pub record Mark (source : List ℕ) (j : ℕ) (s : Spot) : Type 0 where
@@ -20,7 +20,7 @@ pub record Mark (source : List ℕ) (j : ℕ) (s : Spot) : Type 0 where
   pub before : s.at ≤ j * 2048
 
 abbrev pub Marks : List ℕ → List Spot → Type 0
-Marks source marks = (j : ℕ) → j < length marks → Mark source j (get_or marks j start)
+Marks source marks = (j : ℕ) → j < length marks → Mark source j (get_or marks j first_spot)
 
 -- The position of an offset; behind the end of the source it is the end's.
 pub record IsPosition (source : List ℕ) (offset : ℕ) (p : Position) : Type 0 where
