@@ -18,7 +18,7 @@ fn completes(source: &[u8], n: usize) -> bool
 {
     match source[n] {
         b'\n' => true,
-        b'\r' => !matches!(source.get(n + 1), Some(b'\n')),
+        b'\r' => n + 1 == source.len() || source[n + 1] != b'\n',
         _ => false,
     }
 }
