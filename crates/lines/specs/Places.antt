@@ -20,7 +20,7 @@ pub record Mark (source : List ℕ) (j : ℕ) (s : Spot) : Type 0 where
   pub before : s.at ≤ j * 2048
 
 abbrev pub Marks : List ℕ → List Spot → Type 0
-Marks source marks = (j : ℕ) → j < length marks → Mark source j (get_or marks j first_spot)
+Marks source marks = (j : ℕ) → j < 512 → Mark source j (get_or marks j first_spot)
 
 -- The position of an offset; behind the end of the source it is the end's.
 pub record IsPosition (source : List ℕ) (offset : ℕ) (p : Position) : Type 0 where

@@ -1,8 +1,6 @@
 -- `lines::walk::SourceWalk::jump` meets its contract: the mark before a place does not lie behind it. Assumes nothing.
 use native.Mathlib.Omega.{arith}
-use Rattle.std.proofs.Common.{rules}
 use Rattle.lines.proofs.walk.SourceWalk.jump.Goals as goal
 
 pub returns-then-to-self-clause-ahead : goal.returns-then-to-self-clause-ahead
-returns-then-to-self-clause-ahead c =
-    omega (arith, c.min.ensures, (c.args.self.now.marks_stand c.min.result (search rules)).before)
+returns-then-to-self-clause-ahead c = omega (arith, c.min.ensures, (c.args.self.now.marks_stand c.min.result (omega (arith, c.min.ensures))).before)
