@@ -11,22 +11,22 @@ use Rattle.lines.specs.LineEnd.{LineEnd, cr_lf, lone_cr, lone_lf, EndsAt, Fallin
 behind_lf : (source : List ℕ) (n : ℕ) → get_or source n 0 ≡ 10 → EndsAt source (suc n)
 behind_lf source zero h = (0, lone_lf 0 h (λ m e. absurd (omega (arith, e))))
 behind_lf source (suc n) h =
-    elim (eqb_tells 13 (get_or source n 0)) [
-      | inl w ↦ (n, cr_lf n (sym w.1) h)
-      | inr w ↦ (suc n, lone_lf (suc n) h (λ m e k. w.1 (sym k ∙ ap (λ (i : ℕ). get_or source i 0) (omega (arith, e)))))
+    elim (eqb_tells (get_or source n 0) 13) [
+      | inl w ↦ (n, cr_lf n w.1 h)
+      | inr w ↦ (suc n, lone_lf (suc n) h (λ m e k. w.1 (ap (λ (i : ℕ). get_or source i 0) (omega (arith, e)) ∙ k)))
     ]
 
 -- the tests of `completed`, one by one
 by_tests : (source : List ℕ) (n : ℕ) → completed source (suc n) ≡ true → EndsAt source (suc n)
 by_tests source n h =
-    elim (eqb_tells 10 (get_or source n 0)) [
-      | inl w ↦ behind_lf source n (sym w.1)
+    elim (eqb_tells (get_or source n 0) 10) [
+      | inl w ↦ behind_lf source n w.1
       | inr w ↦
-          elim (eqb_tells 13 (get_or source n 0)) [
+          elim (eqb_tells (get_or source n 0) 13) [
             | inl v ↦
-                elim (eqb_tells 10 (get_or source (suc n) 0)) [
+                elim (eqb_tells (get_or source (suc n) 0) 10) [
                   | inl u ↦ absurd (true≢false (sym (rw (w.0, v.0, u.0) at h)))
-                  | inr u ↦ (n, lone_cr n (sym v.1) (λ e. u.1 (sym e)))
+                  | inr u ↦ (n, lone_cr n v.1 u.1)
                 ]
             | inr v ↦ absurd (true≢false (sym (rw (w.0, v.0) at h)))
           ]
@@ -38,7 +38,7 @@ ends_there source (suc n) h = by_tests source n h
 
 completed_there : (source : List ℕ) {n e : ℕ} → LineEnd source n e → completed source e ≡ true
 completed_there source (cr_lf n h k) = rw k refl
-completed_there source (lone_cr n h k) = rw (h, ne_eqb 10 (get_or source (suc n) 0) (λ e. k (sym e))) refl
+completed_there source (lone_cr n h k) = rw (h, ne_eqb (get_or source (suc n) 0) 10 k) refl
 completed_there source (lone_lf n h k) = rw h refl
 
 pub completed_is : (source : List ℕ) (e : ℕ) → completed source e ≡ true ↔ EndsAt source e
@@ -48,7 +48,7 @@ completed_is source e = (ends_there source e, λ w. completed_there source w.1)
 begins : List ℕ → ℕ → ℕ
 begins source zero = zero
 begins source (suc zero) = zero
-begins source (suc (suc n)) = cond (eqb 10 (get_or source (suc n) 0) && eqb 13 (get_or source n 0)) n (suc n)
+begins source (suc (suc n)) = cond (eqb (get_or source (suc n) 0) 10 && eqb (get_or source n 0) 13) n (suc n)
 
 begins_there : (source : List ℕ) {n e : ℕ} → LineEnd source n e → begins source e ≡ n
 unfolding begins
@@ -56,7 +56,7 @@ begins_there source (cr_lf n h k) = rw (h, k) refl
 begins_there source (lone_cr zero h k) = refl
 begins_there source (lone_cr (suc n) h k) = rw h refl
 begins_there source (lone_lf zero h k) = refl
-begins_there source (lone_lf (suc n) h k) = rw (h, ne_eqb 13 (get_or source n 0) (λ e. k n refl (sym e))) refl
+begins_there source (lone_lf (suc n) h k) = rw (h, ne_eqb (get_or source n 0) 13 (k n refl)) refl
 
 -- A line end that is completed at an offset begins at one place.
 pub one_start : (source : List ℕ) {m n e : ℕ} → LineEnd source m e → LineEnd source n e → m ≡ n

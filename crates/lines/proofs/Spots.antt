@@ -1,6 +1,6 @@
 -- A spot goes on by a byte.
 -- Assumes nothing.
-use Rattle.std.specs.Prelude.{ℕ, suc, ◌+◌, ◌<◌, ◌≤◌, ◌≡◌, refl, true, false, List, length}
+use Rattle.std.specs.Prelude.{ℕ, suc, ◌+◌, ◌<◌, ◌≤◌, ◌≡◌, refl, true, false, not, eqb, List, length, get_or}
 use Rattle.std.proofs.Common.{sym, arith, add-one, subst, replicate}
 use Rattle.lines.specs.declared.spot.Spot.{Spot}
 use Rattle.std.proofs.lemmas.List.{get_or-replicate}
@@ -10,6 +10,10 @@ use Rattle.lines.proofs.Laws.{line_few, start_within}
 
 abbrev spot : ℕ → ℕ → ℕ → Spot
 spot at n s = record { at = at; ends = n; line_start = s }
+
+-- behind a CR
+pub behind_cr : (source : List ℕ) (n : ℕ) → get_or source n 0 ≡ 13 → not (eqb (get_or source (n + 1) 0) 10) ≡ completed source (n + 1)
+behind_cr source n h = rw (add-one n, h) refl
 
 module _ (source : List ℕ) (at n s : ℕ) (m : Stands source (spot at n s)) (h : at < length source) where
   -- where a line end is completed behind the byte

@@ -6,7 +6,7 @@ use Rattle.std.specs.Prelude.{ℕ, zero, suc, ◌+◌, ◌-◌, Bool, false, con
 -- Whether a line end is completed at an offset: behind an LF, or behind a CR that no LF follows.
 abbrev pub completed : List ℕ → ℕ → Bool
 completed source zero = false
-completed source (suc n) = eqb 10 (get_or source n 0) || (eqb 13 (get_or source n 0) && not (eqb 10 (get_or source (suc n) 0)))
+completed source (suc n) = eqb (get_or source n 0) 10 || (eqb (get_or source n 0) 13 && not (eqb (get_or source (suc n) 0) 10))
 
 -- The line ends that are completed by an offset, each as the offset at which it is, the last first.
 abbrev pub ends_by : List ℕ → ℕ → List ℕ
