@@ -51,6 +51,20 @@ impl<'s> SourceWalk<'s> {
         }
     }
 
+    // On to each mark up to a place that does not lie behind. A function of its own, since most offsets pass none.
+    #[inline(never)]
+    fn pass_marks(&mut self, to: usize)
+        requires ahead { self.old.spot.at ≤ to }
+        requires within { to ≤ length self.old.source.now }
+        ensures source { self.new.source ≡ self.old.source }
+        ensures ahead { self.new.spot.at ≤ to }
+    {
+        for j in self.spot.at / STRIDE + 1..(to / STRIDE + 1).min(MARKS) {
+            self.spot = self.spot.run_to(self.source, j * STRIDE);
+            self.marks[j] = self.spot;
+        }
+    }
+
     // On to a place that does not lie behind, with the marks on the way.
     fn run_to(&mut self, to: usize)
         requires ahead { self.old.spot.at ≤ to }
@@ -58,9 +72,8 @@ impl<'s> SourceWalk<'s> {
         ensures source { self.new.source ≡ self.old.source }
         ensures there { self.new.spot.at ≡ to }
     {
-        for j in self.spot.at / STRIDE + 1..(to / STRIDE + 1).min(MARKS) {
-            self.spot = self.spot.run_to(self.source, j * STRIDE);
-            self.marks[j] = self.spot;
+        if self.spot.at / STRIDE < to / STRIDE {
+            self.pass_marks(to);
         }
         self.spot = self.spot.run_to(self.source, to);
     }
