@@ -4,6 +4,7 @@ and where diagnostics stand.
 The sources are an empty one, the paper's examples, those of docs/MESSAGES.md, the example scripts, and scripts made of WORDS at random from a seed.
 """
 import glob
+import itertools
 import random
 import re
 
@@ -113,17 +114,23 @@ def node_faults(node):
     yield from block_faults(node)
 
 
+def place(source, start):
+    """The line and the column of an offset; Python's lines end at CR LF, CR and LF, each behind its last byte."""
+    lines = source.splitlines(keepends=True)
+    ends = [end for end in itertools.accumulate(map(len, lines)) if end <= start and source[end - 1 : end] in (b"\r", b"\n")]
+    return 1 + len(ends), 1 + start - max(ends, default=0)
+
+
 def diagnostic_faults(source, printed):
-    """Starts never fall; a line is 1 plus the LF before the start, a column 1 plus the bytes since the last LF."""
+    """Starts never fall; lines and columns are those of the starts."""
     last = 0
     for line in printed:
         if not line.startswith("! "):
             continue
         row, column, start = map(int, line.split(" ")[1:4])
-        before = source[:start]
         if start < last:
             yield f"a diagnostic at {start} behind one at {last}"
-        if (row, column) != (1 + before.count(b"\n"), start - before.rfind(b"\n")):
+        if (row, column) != place(source, start):
             yield f"line {row} and column {column} for {start}"
         last = start
 
