@@ -175,10 +175,11 @@ uint64_t masm_parse_text(const uint8_t *source, size_t source_len,
 
    For each i below the shortest of the three lengths, lines[i] and columns[i] become those of
    offsets[i]; an offset above source_len counts as source_len. All else is as it was. Returns how
-   many it wrote; of a source over MASM_MAX_SOURCE bytes 0, and nothing is written.
+   many it wrote: all, where both are as long as `offsets`. Of a source over MASM_MAX_SOURCE bytes it
+   writes nothing and returns 0.
 
-   Offsets that never fall, such as `starts`, take one walk over the source; any others take up to
-   2,048 bytes more each. The caller keeps what it keeps for the call above. */
+   Offsets that never fall, such as `starts`, take one walk over the source; each of any others takes
+   up to 2,048 bytes of it more. The caller keeps what it keeps for the call above. */
 uint64_t masm_lines(const uint8_t *source, size_t source_len,
                     const uint32_t *offsets, size_t offsets_len,
                     uint32_t *lines, size_t lines_len,

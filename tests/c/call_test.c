@@ -1,4 +1,4 @@
-/* Tests the exported call from C. The word behind the program's name chooses how slices are lent:
+/* Tests masm_parse_text from C. The word behind the program's name chooses how slices are lent:
    exact, words, end or start; without one all four are tried. */
 #include <stdio.h>
 #include <string.h>
@@ -8,8 +8,6 @@
 #include "long_cases.h"
 #include "rooms.h"
 #include "sizing.h"
-
-static const char *const LENDING_NAMES[LENDINGS] = { "exact", "words", "end", "start" };
 
 static void check_joins(enum lending how)
 {
@@ -48,14 +46,7 @@ static void check_all(enum lending how)
 int main(int count, char **words)
 {
     watch_access(&case_name);
-    bool known = count == 1;
-    for (int how = 0; how < LENDINGS; how++) {
-        if (count > 1 && strcmp(words[1], LENDING_NAMES[how]) != 0)
-            continue;
-        known = true;
-        check_all(how);
-    }
-    if (!known)
+    if (!check_lendings(count, words, check_all))
         return 2;
     printf("call_test: %u calls, %u failures\n", calls, failures);
     return failures == 0 ? 0 : 1;

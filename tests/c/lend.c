@@ -101,3 +101,17 @@ void watch_access(const char **case_name)
     watched = case_name;
     signal(SIGSEGV, on_fault);
 }
+
+static const char *const LENDING_NAMES[LENDINGS] = { "exact", "words", "end", "start" };
+
+bool check_lendings(int count, char **words, void (*check)(enum lending how))
+{
+    bool known = count == 1;
+    for (int how = 0; how < LENDINGS; how++) {
+        if (count > 1 && strcmp(words[1], LENDING_NAMES[how]) != 0)
+            continue;
+        known = true;
+        check(how);
+    }
+    return known;
+}

@@ -34,4 +34,8 @@ void give_back(struct lent *lent);
    case. */
 void watch_access(const char **case_name);
 
+/* Checks with each way of lending, or with the one that the command line names; false if it names
+   none. */
+bool check_lendings(int count, char **words, void (*check)(enum lending how));
+
 #endif

@@ -7,8 +7,6 @@
 #include "lines_call.h"
 #include "masm_cst.h"
 
-static const char *const LENDING_NAMES[LENDINGS] = { "exact", "words", "end", "start" };
-
 /* More offsets than any list here has, and the length of the sources that are made. */
 enum { MOST = 4096, MADE = 2500 };
 
@@ -108,19 +106,17 @@ static void check_longest(enum lending how)
     check_rooms(how, &(struct question){ source, sizeof source, offsets, 2 });
 }
 
+static void check_all(enum lending how)
+{
+    check_texts(how);
+    check_made(how);
+    check_longest(how);
+}
+
 int main(int count, char **words)
 {
     watch_access(&case_name);
-    bool known = count == 1;
-    for (int how = 0; how < LENDINGS; how++) {
-        if (count > 1 && strcmp(words[1], LENDING_NAMES[how]) != 0)
-            continue;
-        known = true;
-        check_texts(how);
-        check_made(how);
-        check_longest(how);
-    }
-    if (!known)
+    if (!check_lendings(count, words, check_all))
         return 2;
     printf("lines_test: %u calls, %u failures\n", calls, failures);
     return failures == 0 ? 0 : 1;
