@@ -1,7 +1,7 @@
 //! Lines and columns of offsets by their exported call, in this process.
 
 use corpus::{
-    Case, Family,
+    Case,
     offsets::{Order, Question},
     pairs::Pair,
 };
@@ -21,13 +21,13 @@ struct Mismatch {
     found: Vec<u8>,
 }
 
-/// Makes two calls on each case, with rising offsets and in another order, and one on each tail, of
-/// which there are many and few with a line end; shows the smallest that is answered otherwise.
+/// Makes two calls on each case, with rising offsets and in another order; shows the smallest that
+/// is answered otherwise.
 pub fn run(made: LinesCall, cases: impl Iterator<Item = Case>) -> Outcome {
     let mut outcome = Outcome::begun();
     let mut smallest: Option<Mismatch> = None;
     for case in cases {
-        for question in Question::of(&case, &orders(&case)) {
+        for question in Question::of(&case, &[Order::Rising, Order::other(&case.source)]) {
             outcome.count(case.family);
             let Some(mismatch) = compare(made, &case, question) else { continue };
             outcome.mismatches += 1;
@@ -42,13 +42,6 @@ pub fn run(made: LinesCall, cases: impl Iterator<Item = Case>) -> Outcome {
         println!("  offsets  {}", shortened(format!("{:?}", question.offsets).as_bytes(), 0));
     }
     outcome.ended()
-}
-
-fn orders(case: &Case) -> Vec<Order> {
-    match case.family {
-        Family::Tails => vec![Order::chosen(&case.source)],
-        _ => vec![Order::Rising, Order::other(&case.source)],
-    }
 }
 
 /// Nothing where the number returned and both slices are those of the words, and the red zones are

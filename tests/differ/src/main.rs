@@ -110,14 +110,15 @@ fn compare_calls(options: &[&str]) -> Option<ExitCode> {
     Some(exit_code(joins && outcome.agrees()))
 }
 
-/// The same for lines and columns. Nothing if the words are not understood.
+/// The same for lines and columns, but for the family of tails, whose millions of ends have none
+/// that other families have not. Nothing if the words are not understood.
 fn compare_line_calls(options: &[&str]) -> Option<ExitCode> {
     let Options { size, every, family, .. } = read_options(options)?;
     if !exported::LINKED {
         println!("{}", exported::MISSING);
         return Some(ExitCode::FAILURE);
     }
-    let families = chosen(&Family::ALL, family);
+    let families = chosen(Family::PROGRAM, family);
     let joins = !families.contains(&Family::Pairs)
         || line_calls::check_joins(exported::lines, pairs_of_lines(size).step_by(every));
     let outcome = line_calls::run(exported::lines, cases(&families, size).step_by(every));
