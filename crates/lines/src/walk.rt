@@ -1,5 +1,5 @@
 // A walk over a source, for the lines and columns of offsets in any order.
-ghost use Rattle.std.specs.Prelude.{◌≡◌, ◌≤◌, length};
+ghost use Rattle.std.specs.Prelude.{◌≡◌, ◌≤◌, ◌<◌, length};
 ghost use Rattle.lines.specs.Places.{Stands, Marks, IsPosition};
 
 use crate::spot::Spot;
@@ -17,12 +17,15 @@ pub struct Position {
 }
 
 // A source, the spot that was looked for last, and spots on the way: mark `j` stands at `j` times STRIDE once that was passed, and at the
-// start before. So an offset behind the spot costs no walk from the start. The marks are lent: by value they would be copied.
+// start before; `last` is the last that was. So no offset costs a walk over what was passed before. The marks are lent: by value they would
+// be copied.
 #[derive(Drop)]
 pub struct SourceWalk<'s> {
     source: &'s [u8],
     spot: Spot,
     marks: &'s mut [Spot; MARKS],
+    last: usize,
+    ghost last_in: { last < 512 },
     ghost stands: { Stands source.now spot },
     ghost marks_stand: { Marks source.now marks.now },
 }
@@ -37,6 +40,7 @@ impl<'s> SourceWalk<'s> {
             source,
             spot: Spot::START,
             marks,
+            last: 0,
         }
     }
 
@@ -45,7 +49,7 @@ impl<'s> SourceWalk<'s> {
         ensures source { self.new.source ≡ self.old.source }
         ensures ahead { self.new.spot.at ≤ to }
     {
-        let mark = self.marks[(to / STRIDE).min(MARKS - 1)];
+        let mark = self.marks[(to / STRIDE).min(self.last)];
         if to < self.spot.at || self.spot.at < mark.at {
             self.spot = mark;
         }
@@ -62,6 +66,7 @@ impl<'s> SourceWalk<'s> {
         for j in self.spot.at / STRIDE + 1..(to / STRIDE + 1).min(MARKS) {
             self.spot = self.spot.run_to(self.source, j * STRIDE);
             self.marks[j] = self.spot;
+            self.last = self.last.max(j);
         }
     }
 
