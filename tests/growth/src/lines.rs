@@ -5,7 +5,7 @@ use crate::measure::{ACCEPTED, Family, Make, scripts};
 /// Where no offset is below the one before it one walk over the source is enough; where they fall,
 /// each may take a part of the source more. The words are an order, and how many bytes there are
 /// for an offset.
-pub fn families() -> [Family; 13] {
+pub fn families() -> [Family; 14] {
     [
         family("script, few rising", &["lines", "rising", "16"], Box::new(scripts)),
         family("script, rising", &["lines", "rising", "1"], Box::new(scripts)),
@@ -18,6 +18,7 @@ pub fn families() -> [Family; 13] {
         family("one line, falling", &["lines", "falling", "16"], of(b"a")),
         family("script, to and fro", &["lines", "fro", "16"], Box::new(scripts)),
         family("one line, to and fro", &["lines", "fro", "16"], of(b"a")),
+        family("one line, back each time", &["lines", "back", "2048"], of(b"a")),
         family("script, mixed", &["lines", "mixed", "16"], Box::new(scripts)),
         family("one line, mixed", &["lines", "mixed", "16"], of(b"a")),
     ]

@@ -2,8 +2,9 @@
 //!
 //! Without words it is `masm_parse_text`, with rooms that are enough for any source of its length,
 //! and the status and the counts are printed. `lines ORDER STEP` is `masm_lines` with one offset
-//! for each STEP bytes, `lines ends` with all token ends and `lines starts` with the starts of all
-//! diagnostics; 0 and how many were written are printed.
+//! for each STEP bytes, in the order `back` each behind the source's start again, `lines ends` with
+//! all token ends and `lines starts` with the starts of all diagnostics; 0 and how many were written
+//! are printed.
 
 use std::{
     env,
@@ -48,6 +49,9 @@ fn offsets(source: &[u8], which: &[&str]) -> Vec<u32> {
         ["starts"] => starts(&reading(source)),
         [order, step] => {
             let rising = (0..=source.len() as u32).step_by(step.parse().expect("a number"));
+            if order == "back" {
+                return rising.flat_map(|offset| [0, offset]).collect();
+            }
             ordered(rising.collect(), named(order), &mut Random::new(102))
         },
         _ => panic!("no offsets are named {which:?}"),
