@@ -1,5 +1,5 @@
--- M-102: 'CR LF, a lone CR and LF each end a line, inside quotes too. Line is 1 plus the ends completed by the start offset, column 1 plus the
--- bytes since the last of them.' LineEnd has each of the three line ends by itself, and that these are they.
+-- M-102: 'CR LF, a lone CR and LF each end a line, inside quotes too. Line is 1 plus the ends completed by the start offset, column 1 plus
+-- the bytes since the last of them.' LineEnd has each of the three line ends by itself.
 -- Assumes nothing: these are definitions.
 use Rattle.std.specs.Prelude.{ℕ, zero, suc, ◌+◌, ◌-◌, Bool, false, cond, not, ◌&&◌, ◌||◌, eqb, List, [], ◌∷◌, length, get_or}
 

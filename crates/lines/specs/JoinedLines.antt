@@ -17,8 +17,8 @@ pub record LinesFit (offsets lines columns : List ℕ) : Type 0 where
   pub for_lines : length offsets ≤ length lines
   pub for_columns : length offsets ≤ length columns
 
--- What three calls wrote, for places in A, for places in B, and for all these in the join: A's lines and columns, and then B's, the lines gone
--- up by the line ends in A.
+-- What three calls wrote, for places in A, for places in B, and for all these in the join: A's lines and columns, and then B's, the lines
+-- gone up by the line ends in A.
 pub record JoinedLines (a : List ℕ) (na nb nj : ℕ) (la ca lb cb lj cj : List ℕ) : Type 0 where
   pub number_is : nj ≡ na + nb
   pub lines_join : take nj lj ≡ take na la ++ map (λ n. n + line_ends_in a) (take nb lb)

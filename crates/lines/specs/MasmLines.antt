@@ -1,6 +1,6 @@
--- What `masm_lines` returns and leaves: 'for each i below the shortest of the three lengths it writes the line and the column of offsets[i], an
--- offset above the source's length counting as that length; it returns how many it wrote and leaves the rest unchanged; of a source above
--- 1,048,576 bytes it writes nothing and returns 0.'
+-- What `masm_lines` returns and leaves. M-102: 'For each i below the shortest of the three lengths it writes the line and the column of
+-- offset i; an offset above the source's length counts as that length. It returns how many it wrote, and leaves the rest as it was; of a
+-- source above 1,048,576 bytes it writes nothing and returns 0.'
 -- Assumes nothing: these are definitions.
 use Rattle.std.specs.Prelude.{ℕ, ◌≡◌, cond, List, map, min, ltb, length}
 use Rattle.room.specs.Over.{fit}

@@ -21,7 +21,7 @@ pub struct Position {
 // be copied.
 #[derive(Drop)]
 pub struct SourceWalk<'s> {
-    source: &'s [u8],
+    pub source: &'s [u8],
     spot: Spot,
     marks: &'s mut [Spot; MARKS],
     last: usize,
