@@ -13,14 +13,13 @@ use Rattle.grammar.specs.Words.{Sym, kind_of, event_of}
 use Rattle.grammar.specs.Run.{leaves}
 use Rattle.grammar.specs.Item.{parse}
 use Rattle.grammar.specs.Out.{kind, events}
-use Rattle.grammar.specs.Source.{symbols}
+use Rattle.grammar.specs.Source.{symbols, source_events, source_places}
 use Rattle.grammar.specs.Joins.{leaf_events}
 use Rattle.grammar.proofs.Laws.Premise.{leaf_events_of}
 use Rattle.grammar.proofs.Theorems.AllTokens.{all_tokens}
 use Rattle.grammar.proofs.Theorems.FewOpen.{few_open}
-use Rattle.grammar.specs.Block.{MAX_CONTROL_FLOW_NESTING as limit}
 use Rattle.marks.specs.Laws.{source_unmarked}
-use Rattle.answer.specs.Answer.{Slices, events_of, places_of}
+use Rattle.answer.specs.Answer.{Slices}
 use Rattle.answer.specs.Call.{MasmParseText}
 use Rattle.answer.specs.Given.{token_count, event_count, diagnostic_count, given}
 use Rattle.answer.specs.Accepts.{reading_slices, reading_of_call, last_row_of_call}
@@ -32,35 +31,35 @@ by_kinds : (ss : List Sym) → map kind ss ≡ map event_of (map kind_of ss)
 by_kinds [] = refl
 by_kinds (s ∷ ss) = ap (λ (l : List ℕ). kind s ∷ l) (by_kinds ss)
 
-leaves_of : (source : List ℕ) → leaf_events (events_of source) ≡ map event_of (token_kinds source)
+leaves_of : (limit : ℕ) (source : List ℕ) → leaf_events (source_events limit source) ≡ map event_of (token_kinds source)
 unfolding events
-leaves_of source =
+leaves_of limit source =
     leaf_events_of (parse limit (symbols source)) (0 ∷ [])
     ∙ append-nil (map kind (leaves (parse limit (symbols source))))
     ∙ ap (map kind) (all_tokens limit (symbols source))
     ∙ by_kinds (symbols source)
     ∙ ap (map event_of) (source_unmarked source)
 
-of_reading : (source : List ℕ) (counts : List ℕ) → WellFormed source → token_count counts ≡ length (tokenize source)
-    → event_count counts ≡ length (events_of source) → diagnostic_count counts ≡ length (places_of source)
-    → Facts source (reading_slices source) counts
-of_reading source counts w t e d =
+of_reading : (limit : ℕ) (source : List ℕ) (counts : List ℕ) → WellFormed source → token_count counts ≡ length (tokenize source)
+    → event_count counts ≡ length (source_events limit source) → diagnostic_count counts ≡ length (source_places limit source)
+    → Facts limit source (reading_slices limit source) counts
+of_reading limit source counts w t e d =
     record {
       tokens = length-map (tokenize source) Tokens.token_kind ∙ sym t;
       ends = length_ends 0 (tokenize source) ∙ sym t;
       events = sym e;
-      messages = length-map (places_of source) _ ∙ sym d;
-      leaves_are = leaves_of source;
+      messages = length-map (source_places limit source) _ ∙ sym d;
+      leaves_are = leaves_of limit source;
       texts_are = ap token_bytes (cut_source source) ∙ lossless source;
       few_open = omega (arith, few_open limit (symbols source));
-      few_events = omega (arith, events_few source);
-      few_diagnostics = omega (arith, diagnostics_few source);
-      in_order = starts_in_order source w;
+      few_events = omega (arith, events_few limit source);
+      few_diagnostics = omega (arith, diagnostics_few limit source);
+      in_order = starts_in_order limit source w;
     }
 
-pub facts : (source : List ℕ) (s : Slices) (counts : List ℕ) {r : ℕ} {s' : Slices} {counts' : List ℕ}
-    → MasmParseText source s counts r s' counts' → r ≡ 0 → Facts source (given s' counts') counts'
-facts source s counts c z =
-    let last = last_row_of_call source s counts c z in
-    let g = (reading_of_call source s counts last c).1 in
-    rw g.given_is (of_reading source _ (accepted source last.utf8) g.t_is g.e_is g.d_is)
+pub facts : (limit : ℕ) (source : List ℕ) (s : Slices) (counts : List ℕ) {r : ℕ} {s' : Slices} {counts' : List ℕ}
+    → MasmParseText limit source s counts r s' counts' → r ≡ 0 → Facts limit source (given s' counts') counts'
+facts limit source s counts c z =
+    let last = last_row_of_call limit source s counts c z in
+    let g = (reading_of_call limit source s counts last c).1 in
+    rw g.given_is (of_reading limit source _ (accepted source last.utf8) g.t_is g.e_is g.d_is)

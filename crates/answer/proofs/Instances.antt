@@ -4,6 +4,7 @@ use Rattle.std.specs.Prelude.{ℕ, ◌≤◌, ◌≡◌, refl, List, [], ◌∷�
 use Rattle.std.proofs.Common.{arith}
 use Rattle.utf8.specs.Laws.{accepted as well_formed}
 use Rattle.utf8.specs.CutOff.{Completable}
+use Rattle.grammar.specs.Block.{MAX_CONTROL_FLOW_NESTING as limit}
 use Rattle.grammar.specs.Compute.{bytes}
 use Rattle.grammar.specs.Theorems.FewOpen.{peak}
 use Rattle.answer.specs.Answer.{Slices}
@@ -54,7 +55,7 @@ two_joined : JoinReply 12 first second both (6 ∷ 14 ∷ 1 ∷ []) (1 ∷ 5 ∷
 unfolding made first second both
 two_joined =
     concluded (record { a = bytes "begin ) end\n"; b = bytes "x"; for_a = loan 6 14 1; for_b = loan 1 5 1; for_join = loan 7 17 2 })
-    (refl, refl, omega arith, omega arith, omega arith, omega arith, omega arith, refl, refl, refl, refl, refl)
+    (refl, refl, omega arith, omega arith, omega arith, omega arith, omega arith, refl, refl, refl, refl, refl, refl, refl)
 
 -- With an empty B the join is A.
 nothing : Slices
@@ -64,10 +65,10 @@ empty_joined : JoinReply 12 first nothing first (6 ∷ 14 ∷ 1 ∷ []) (0 ∷ 2
 unfolding made first nothing
 empty_joined =
     concluded (record { a = bytes "begin ) end\n"; b = bytes ""; for_a = loan 6 14 1; for_b = loan 0 2 0; for_join = loan 6 14 1 })
-    (refl, refl, omega arith, omega arith, omega arith, omega arith, omega arith, refl, refl, refl, refl, refl)
+    (refl, refl, omega arith, omega arith, omega arith, omega arith, omega arith, refl, refl, refl, refl, refl, refl, refl)
 
 -- ---- The bounds of Facts, at numbers. grammar/specs/Examples reaches them: T1, `two_each` and `most_open`.
-module _ {source : List ℕ} {g : Slices} {counts : List ℕ} (f : Facts source g counts) where
+module _ {source : List ℕ} {g : Slices} {counts : List ℕ} (f : Facts limit source g counts) where
   no_token : token_count counts ≡ 0 → event_count counts ≤ 2
   no_token t = omega (arith, f.few_events)
 
@@ -84,7 +85,7 @@ module _ {source : List ℕ} {g : Slices} {counts : List ℕ} (f : Facts source 
 room_for_one : (made (bytes "x") (loan 1 9 2)).status ≡ 0
 unfolding made
 room_for_one =
-    enough_room (bytes "x") (loan_slices (loan 1 9 2)) (zeros 3) (called (bytes "x") (loan 1 9 2))
+    enough_room limit (bytes "x") (loan_slices (loan 1 9 2)) (zeros 3) (called (bytes "x") (loan 1 9 2)) refl
     (omega arith) (well_formed (bytes "x") refl) (refl, tt) (omega arith) (omega arith) (omega arith) (omega arith)
 
 -- ---- M-105. What a call says of these bytes behind `#` and LF.
@@ -109,11 +110,11 @@ wrong = (refl, refl, refl, refl)
 -- The one that is cut off can be completed, the wrong one cannot.
 of_cut_off : Completable (0x23 ∷ 0x0A ∷ 0xC3 ∷ [])
 unfolding made
-of_cut_off = (broken_text (0x23 ∷ 0x0A ∷ 0xC3 ∷ []) _ _ (called _ (loan 2 4 0)) refl).breaks_off.whole.0 refl
+of_cut_off = (broken_text limit (0x23 ∷ 0x0A ∷ 0xC3 ∷ []) _ _ (called _ (loan 2 4 0)) refl).breaks_off.whole.0 refl
 
 of_wrong : Completable (0x23 ∷ 0x0A ∷ 0xFF ∷ []) → ⊥
 unfolding made
-of_wrong c = absurd (omega (arith, (broken_text (0x23 ∷ 0x0A ∷ 0xFF ∷ []) _ _ (called _ (loan 2 4 0)) refl).breaks_off.whole.1 c))
+of_wrong c = absurd (omega (arith, (broken_text limit (0x23 ∷ 0x0A ∷ 0xFF ∷ []) _ _ (called _ (loan 2 4 0)) refl).breaks_off.whole.1 c))
 
 -- ---- M-102 over demand 3. A ends in CR LF and has a diagnostic, B has one behind a lone CR; the join's second diagnostic is on line 3.
 abbrev cr_lf_and_cr : Case
@@ -123,7 +124,7 @@ lines_joined : JoinedLines (bytes "begin ) end\r\n") 1 1 2 (1 ∷ []) (7 ∷ [])
 unfolding made
 lines_joined =
     let c = cr_lf_and_cr in
-    joined_diagnostics c.a c.b (loan_slices c.for_a) (loan_slices c.for_b) (loan_slices c.for_join) (zeros 3) (zeros 3) (zeros 3)
+    joined_diagnostics limit c.a c.b (loan_slices c.for_a) (loan_slices c.for_b) (loan_slices c.for_join) (zeros 3) (zeros 3) (zeros 3)
     (called c.a c.for_a) (called c.b c.for_b) (called (c.a ++ c.b) c.for_join) refl refl (omega arith)
     (record { tokens = omega arith; events = omega arith; diagnostics = omega arith; words = omega arith })
     (record { newline = refl; line_feed = refl; word = refl; closes = refl; starts = refl })

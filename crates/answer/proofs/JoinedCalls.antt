@@ -1,4 +1,4 @@
--- Demand 3, over three calls: on A, on B and on the join.
+-- Demand 3, over three calls at one limit: on A, on B and on the join.
 -- Assumes nothing.
 use Rattle.std.specs.Prelude.{ℕ, ◌+◌, ◌≤◌, ◌≡◌, refl, length}
 use Rattle.std.proofs.Common.{sym, ap, ap₂, ◌∙◌, arith, length-append}
@@ -12,22 +12,21 @@ use Rattle.lexer.specs.Tokens.{MAX_SOURCE, token_ends}
 use Rattle.lexer.specs.Laws.{last_end, length_ends, tokenize_nil}
 use Rattle.lexer.specs.Join.{join, join_kinds, join_ends}
 use Rattle.grammar.specs.Out.{Place, events, diags, places}
-use Rattle.grammar.specs.Source.{syms, symbols}
+use Rattle.grammar.specs.Source.{syms, symbols, source_events, source_places}
 use Rattle.grammar.specs.Source
 use Rattle.grammar.specs.Joins.{shift}
 use Rattle.grammar.specs.Joins
 use Rattle.grammar.proofs.Theorems.Joined.{end_follows, joined, joined_events}
 use Rattle.grammar.proofs.Theorems.JoinedBytes.{joined_bytes}
-use Rattle.grammar.specs.Block.{MAX_CONTROL_FLOW_NESTING as limit}
 use Rattle.marks.specs.Laws.{join_syms, join_none_refused}
-use Rattle.answer.specs.Answer.{Slices, events_of, places_of}
+use Rattle.answer.specs.Answer.{Slices}
 use Rattle.answer.specs.Call.{MasmParseText}
 use Rattle.answer.specs.Given.{token_count, event_count, diagnostic_count, given, CallsJoin, Fits, JoinReply}
 use Rattle.answer.specs.Accepts.{LastRow, reading_slices, reading_of_call, last_row_of_call}
 use Rattle.answer.specs.JoinedTokens.{newline_last, same_start}
 
 -- the readings of A, of B and of the join
-module _ (a b : List ℕ) (j : CallsJoin a (reading_slices a) (reading_slices b)) where
+module _ (limit : ℕ) (a b : List ℕ) (j : CallsJoin a (reading_slices limit a) (reading_slices limit b)) where
   premise : Joins.Joins limit (symbols a) (symbols b)
   premise = record {
     ends = end_follows limit (symbols a) (newline_last 0 (tokenize a) j.newline) j.closes;
@@ -41,10 +40,10 @@ module _ (a b : List ℕ) (j : CallsJoin a (reading_slices a) (reading_slices b)
   pub tokens_add : length (tokenize (a ++ b)) ≡ length (tokenize a) + length (tokenize b)
   tokens_add = ap length (join a b j.newline j.line_feed) ∙ length-append (tokenize a) (tokenize b)
 
-  pub events_are : events_of (a ++ b) ≡ drop_last (events_of a) ++ tail (events_of b)
+  pub events_are : source_events limit (a ++ b) ≡ drop_last (source_events limit a) ++ tail (source_events limit b)
   events_are = ap (events limit) symbols_are ∙ (joined limit (symbols a) (symbols b) premise).events_are
 
-  pub events_add : length (events_of (a ++ b)) + 2 ≡ length (events_of a) + length (events_of b)
+  pub events_add : length (source_events limit (a ++ b)) + 2 ≡ length (source_events limit a) + length (source_events limit b)
   events_add = ap (λ x. length (events limit x) + 2) symbols_are ∙ joined_events limit (symbols a) (symbols b) premise
 
   module _ (well : WellFormed a) where
@@ -56,38 +55,38 @@ module _ (a b : List ℕ) (j : CallsJoin a (reading_slices a) (reading_slices b)
         some [] k = absurd (k refl)
         some (x ∷ c) k = last_append well (x ∷ c) (omega arith)
 
-    pub places_are : places_of (a ++ b) ≡ places_of a ++ map (shift (length a)) (places_of b)
+    pub places_are : source_places limit (a ++ b) ≡ source_places limit a ++ map (shift (length a)) (source_places limit b)
     places_are =
         ap₂ (λ (es : List ℕ) (ss : List ℕ). places es (last_char (a ++ b)) (diags limit ss)) (join_ends a b j.newline j.line_feed) symbols_are
         ∙ joined_bytes limit (length a) (token_ends a) (token_ends b) (last_char b) (last_char (a ++ b)) (last_end a)
         (symbols a) (symbols b) premise (last_char a) (length_ends 0 (tokenize a) ∙ sym (length-map (tokenize a) Source.token_symbol)) anchor
 
-    pub places_add : length (places_of (a ++ b)) ≡ length (places_of a) + length (places_of b)
+    pub places_add : length (source_places limit (a ++ b)) ≡ length (source_places limit a) + length (source_places limit b)
     places_add =
         ap length places_are
-        ∙ length-append (places_of a) (map (shift (length a)) (places_of b))
-        ∙ ap (λ (n : ℕ). length (places_of a) + n) (length-map (places_of b) (shift (length a)))
+        ∙ length-append (source_places limit a) (map (shift (length a)) (source_places limit b))
+        ∙ ap (λ (n : ℕ). length (source_places limit a) + n) (length-map (source_places limit b) (shift (length a)))
 
     -- a number of the diagnostics, B's moved on by f
     by_place : (f : Place → ℕ) (g : ℕ → ℕ) → ((p : Place) → f (shift (length a) p) ≡ g (f p))
-        → map f (places_of (a ++ b)) ≡ map f (places_of a) ++ map g (map f (places_of b))
+        → map f (source_places limit (a ++ b)) ≡ map f (source_places limit a) ++ map g (map f (source_places limit b))
     by_place f g h =
         ap (map f) places_are
-        ∙ map-append f (places_of a) (map (shift (length a)) (places_of b))
-        ∙ ap (λ (l : List ℕ). map f (places_of a) ++ l) (moved (places_of b))
+        ∙ map-append f (source_places limit a) (map (shift (length a)) (source_places limit b))
+        ∙ ap (λ (l : List ℕ). map f (source_places limit a) ++ l) (moved (source_places limit b))
       where
         moved : (ps : List Place) → map f (map (shift (length a)) ps) ≡ map g (map f ps)
         moved [] = refl
         moved (p ∷ ps) = ap₂ ◌∷◌ (h p) (moved ps)
 
-    messages_are : map (λ p. p.msg) (places_of (a ++ b)) ≡ map (λ p. p.msg) (places_of a) ++ map (λ p. p.msg) (places_of b)
+    messages_are : map (λ p. p.msg) (source_places limit (a ++ b)) ≡ map (λ p. p.msg) (source_places limit a) ++ map (λ p. p.msg) (source_places limit b)
     messages_are =
         by_place (λ p. p.msg) (λ n. n) (λ p. refl)
-        ∙ ap (λ (l : List ℕ). map (λ (p : Place). p.msg) (places_of a) ++ l) (map-id (map (λ p. p.msg) (places_of b)))
+        ∙ ap (λ (l : List ℕ). map (λ (p : Place). p.msg) (source_places limit a) ++ l) (map-id (map (λ p. p.msg) (source_places limit b)))
 
     pub for_readings : {ca cb cj : List ℕ} {r : ℕ} → r ≡ 0 → token_count cj ≡ token_count ca + token_count cb
         → event_count cj + 2 ≡ event_count ca + event_count cb → diagnostic_count cj ≡ diagnostic_count ca + diagnostic_count cb
-        → JoinReply (length a) (reading_slices a) (reading_slices b) (reading_slices (a ++ b)) ca cb cj r
+        → JoinReply (length a) (reading_slices limit a) (reading_slices limit b) (reading_slices limit (a ++ b)) ca cb cj r
     for_readings z t e d = record {
       returned = z;
       t_is = t;
@@ -101,37 +100,38 @@ module _ (a b : List ℕ) (j : CallsJoin a (reading_slices a) (reading_slices b)
       stops_are = by_place (λ p. p.stop) (λ n. length a + n) (λ p. refl);
     }
 
--- Whatever the three calls were lent: where the calls on A and on B returned 0, A and B may be joined, and the join is within the limit and
+-- Whatever the limit, and whatever the three calls were lent: where the calls on A and on B returned 0, A and B may be joined, and the join is within the limit and
 -- fits what was lent for it, the call on the join returns 0 and gives A's tokens, items and diagnostics and then B's.
 module _
-    (a b : List ℕ) (sa sb sj : Slices) (ca cb cj : List ℕ) {ra rb rj : ℕ} {sa' sb' sj' : Slices} {ca' cb' cj' : List ℕ}
-    (on_a : MasmParseText a sa ca ra sa' ca') (on_b : MasmParseText b sb cb rb sb' cb') (on_join : MasmParseText (a ++ b) sj cj rj sj' cj')
+    (limit : ℕ) (a b : List ℕ) (sa sb sj : Slices) (ca cb cj : List ℕ) {ra rb rj : ℕ} {sa' sb' sj' : Slices} {ca' cb' cj' : List ℕ}
+    (on_a : MasmParseText limit a sa ca ra sa' ca') (on_b : MasmParseText limit b sb cb rb sb' cb') (on_join : MasmParseText limit (a ++ b) sj cj rj sj' cj')
   where
     pub joined_calls : ra ≡ 0 → rb ≡ 0 → length (a ++ b) ≤ MAX_SOURCE → Fits sj cj ca' cb' → CallsJoin a (given sa' ca') (given sb' cb')
         → JoinReply (length a) (given sa' ca') (given sb' cb') (given sj' cj') ca' cb' cj' rj
     joined_calls za zb small fits joins =
-        let pa = last_row_of_call a sa ca on_a za in
-        let pb = last_row_of_call b sb cb on_b zb in
-        let ga = (reading_of_call a sa ca pa on_a).1 in
-        let gb = (reading_of_call b sb cb pb on_b).1 in
-        let j : CallsJoin a (reading_slices a) (reading_slices b) = rw (ga.given_is, gb.given_is) at joins in
+        let pa = last_row_of_call limit a sa ca on_a za in
+        let pb = last_row_of_call limit b sb cb on_b zb in
+        let ga = (reading_of_call limit a sa ca pa on_a).1 in
+        let gb = (reading_of_call limit b sb cb pb on_b).1 in
+        let j : CallsJoin a (reading_slices limit a) (reading_slices limit b) = rw (ga.given_is, gb.given_is) at joins in
         let well = well_formed a pa.utf8 in
-        let pj : LastRow (a ++ b) sj cj = record {
+        let pj : LastRow limit (a ++ b) sj cj = record {
+          allowed = pa.allowed;
           words = fits.words;
           small = small;
           utf8 = valid_join a b pa.utf8 pb.utf8;
-          tokens = omega (arith, tokens_add a b j, ga.t_is, gb.t_is, fits.tokens);
+          tokens = omega (arith, tokens_add limit a b j, ga.t_is, gb.t_is, fits.tokens);
           no_refusal = join_none_refused a b j.newline j.line_feed pa.no_refusal pb.no_refusal;
-          events = omega (arith, events_add a b j, ga.e_is, gb.e_is, fits.events);
-          places = omega (arith, places_add a b j well, ga.d_is, gb.d_is, fits.diagnostics);
+          events = omega (arith, events_add limit a b j, ga.e_is, gb.e_is, fits.events);
+          places = omega (arith, places_add limit a b j well, ga.d_is, gb.d_is, fits.diagnostics);
         } in
-        let oj = reading_of_call (a ++ b) sj cj pj on_join in
+        let oj = reading_of_call limit (a ++ b) sj cj pj on_join in
         let gj = oj.1 in
         rw (ga.given_is, gb.given_is, gj.given_is)
-        (for_readings a b j well oj.0
-        (omega (arith, tokens_add a b j, ga.t_is, gb.t_is, gj.t_is))
-        (omega (arith, events_add a b j, ga.e_is, gb.e_is, gj.e_is))
-        (omega (arith, places_add a b j well, ga.d_is, gb.d_is, gj.d_is)))
+        (for_readings limit a b j well oj.0
+        (omega (arith, tokens_add limit a b j, ga.t_is, gb.t_is, gj.t_is))
+        (omega (arith, events_add limit a b j, ga.e_is, gb.e_is, gj.e_is))
+        (omega (arith, places_add limit a b j well, ga.d_is, gb.d_is, gj.d_is)))
 
 -- Slices that just fit do fit.
 pub just_fit : (s : Slices) (counts ca cb : List ℕ)

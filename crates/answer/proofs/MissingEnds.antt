@@ -10,13 +10,12 @@ use Rattle.lexer.specs.Tokens.{token_ends}
 use Rattle.lexer.specs.Laws.{length_ends}
 use Rattle.grammar.specs.declared.message.PlainMessage.{PlainMessage}
 use Rattle.grammar.specs.Message.{missing_end_number, plain_number}
-use Rattle.grammar.specs.Block.{MAX_CONTROL_FLOW_NESTING as limit}
 use Rattle.grammar.specs.Out.{Diag, diags, Place, place, places}
-use Rattle.grammar.specs.Source.{symbols}
+use Rattle.grammar.specs.Source.{symbols, source_places}
 use Rattle.grammar.specs.Source
 use Rattle.grammar.specs.Endings.{ending, endings, Endings}
 use Rattle.grammar.proofs.Theorems.MissingEnds.{one_missing_end}
-use Rattle.answer.specs.Answer.{Slices, places_of}
+use Rattle.answer.specs.Answer.{Slices}
 use Rattle.answer.specs.Call.{MasmParseText}
 use Rattle.answer.specs.Given.{given}
 use Rattle.answer.specs.Accepts.{reading_slices, reading_of_call, last_row_of_call}
@@ -55,14 +54,14 @@ module _ (es : List ℕ) (anchor : ℕ) where
       let p = place (plain_number PlainMessage.NestingTooDeep) es 0 anchor i in
       subst (λ m. CallEnd anchor (record { msg = m; start = p.start; stop = p.stop } ∷ [])) (sym (place_msg (plain_number PlainMessage.NestingTooDeep) es 0 anchor i)) (CallEnd.at_limit p.start p.stop)
 
-of_source : (source : List ℕ) → MissingEnds source (reading_slices source)
-of_source source =
+of_source : (limit : ℕ) (source : List ℕ) → MissingEnds source (reading_slices limit source)
+of_source limit source =
     let n : length (symbols source) ≡ length (token_ends source) = length-map (tokenize source) Source.token_symbol ∙ sym (length_ends 0 (tokenize source)) in
-    rw (of_places (places_of source), endings_places (token_ends source) (last_char source) (diags limit (symbols source)))
+    rw (of_places (source_places limit source), endings_places (token_ends source) (last_char source) (diags limit (symbols source)))
     (call_end (token_ends source) (last_char source) n (one_missing_end limit (symbols source)))
 
-pub missing_ends : (source : List ℕ) (s : Slices) (counts : List ℕ) {r : ℕ} {s' : Slices} {counts' : List ℕ}
-    → MasmParseText source s counts r s' counts' → r ≡ 0 → MissingEnds source (given s' counts')
-missing_ends source s counts c z =
-    let g = (reading_of_call source s counts (last_row_of_call source s counts c z) c).1 in
-    subst (MissingEnds source) (sym g.given_is) (of_source source)
+pub missing_ends : (limit : ℕ) (source : List ℕ) (s : Slices) (counts : List ℕ) {r : ℕ} {s' : Slices} {counts' : List ℕ}
+    → MasmParseText limit source s counts r s' counts' → r ≡ 0 → MissingEnds source (given s' counts')
+missing_ends limit source s counts c z =
+    let g = (reading_of_call limit source s counts (last_row_of_call limit source s counts c z) c).1 in
+    subst (MissingEnds source) (sym g.given_is) (of_source limit source)

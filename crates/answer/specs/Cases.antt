@@ -8,23 +8,28 @@ use Rattle.lexer.specs.Tokens.{MAX_SOURCE}
 use Rattle.lexer.specs.Syntax.{Newline, RParen}
 use Rattle.lexer.specs.Laws.{last}
 use Rattle.grammar.specs.Words.{is}
+use Rattle.grammar.specs.Block.{MAX_CONTROL_FLOW_NESTING}
 use Rattle.grammar.specs.Look.{at, next_relevant_block_token}
 use Rattle.grammar.specs.Joins.{shut_by}
 use Rattle.grammar.specs.Compute.{again}
 use Rattle.marks.specs.Marks
-use Rattle.answer.specs.Answer.{Slices, slices, token_room, diagnostic_room, from_row_5, from_row_4, from_row_3, from_row_2, parse_text}
+use Rattle.answer.specs.Answer.{Slices, slices, token_room, diagnostic_room, from_row_5, from_row_4, from_row_3, from_row_2, from_row_1, parse_text}
 use Rattle.answer.specs.Call.{Reply, call, MasmParseText}
 use Rattle.answer.specs.Given.{token_count, event_count, diagnostic_count, given, cut, end_before_last, JoinReply}
 
--- What is lent to a call: room for so many tokens, events and diagnostics, and so many words of counts.
+-- What is lent to a call, beside its limit: room for so many tokens, events and diagnostics, and so many words of counts.
 pub record Loan : Type 0 where
+  pub limit : ℕ
   pub tokens : ℕ
   pub events : ℕ
   pub diagnostics : ℕ
   pub words : ℕ
 
+abbrev pub loan_at : ℕ → ℕ → ℕ → ℕ → Loan
+loan_at limit tokens events diagnostics = record { limit = limit; tokens = tokens; events = events; diagnostics = diagnostics; words = 3 }
+
 abbrev pub loan : ℕ → ℕ → ℕ → Loan
-loan tokens events diagnostics = record { tokens = tokens; events = events; diagnostics = diagnostics; words = 3 }
+loan = loan_at MAX_CONTROL_FLOW_NESTING
 
 abbrev pub zeros : ℕ → List ℕ
 zeros n = replicate n 0
@@ -37,12 +42,12 @@ loan_slices l =
 
 -- The call on a source with these lent. To unfold `made` is to unfold what its line names: all that computes.
 unfoldable pub made : List ℕ → Loan → Reply
-unfolding again call parse_text from_row_2 from_row_3 from_row_4 from_row_5
+unfolding again call parse_text from_row_1 from_row_2 from_row_3 from_row_4 from_row_5
     Marks.first_refused Marks.is_refused Validate.validate_from Table.length_in Table.table_3_7 Table.agree ErrorLen.start_in
-made source l = call source (loan_slices l) (zeros l.words)
+made source l = call l.limit source (loan_slices l) (zeros l.words)
 
 pub called : (source : List ℕ) (l : Loan)
-    → MasmParseText source (loan_slices l) (zeros l.words) (made source l).status (made source l).slices (made source l).counts
+    → MasmParseText l.limit source (loan_slices l) (zeros l.words) (made source l).status (made source l).slices (made source l).counts
 unfolding made
 called source l = record { status_is = refl; slices_are = refl; counts_are = refl }
 
@@ -56,7 +61,7 @@ pub record Case : Type 0 where
 -- The premises of `joined_calls`, in its order, and the rank of each.
 pub data Premise : Type 0 where
   first_accepted second_accepted within_limit room_for_tokens room_for_events room_for_diagnostics three_words : Premise
-  last_is_newline last_is_line_feed end_is_word end_closes no_parenthesis : Premise
+  last_is_newline last_is_line_feed end_is_word end_closes no_parenthesis first_at_limit second_at_limit : Premise
 
 abbrev pub rank : Premise → ℕ
 rank first_accepted = 0
@@ -71,6 +76,8 @@ rank last_is_line_feed = 8
 rank end_is_word = 9
 rank end_closes = 10
 rank no_parenthesis = 11
+rank first_at_limit = 12
+rank second_at_limit = 13
 
 module _ (c : Case) where
   abbrev pub on_a : Reply
@@ -102,17 +109,19 @@ module _ (c : Case) where
   Holds end_is_word = end_before_last (cut 0 given_a.kinds given_a.ends c.a) ≡ true
   Holds end_closes = shut_by [] given_a.events ≡ true
   Holds no_parenthesis = at (is RParen) (next_relevant_block_token given_b.kinds) ≡ false
+  Holds first_at_limit = c.for_a.limit ≡ c.for_join.limit
+  Holds second_at_limit = c.for_b.limit ≡ c.for_join.limit
 
   -- What it says unless its rank is n.
   abbrev pub Unless : ℕ → Premise → Type 0
   Unless n p = elim (eqb n (rank p)) [ true ↦ Unit {0} | false ↦ Holds p ]
 
-  -- All premises but the one of rank n; of rank 12 there is none.
+  -- All premises but the one of rank n; of rank 14 there is none.
   abbrev pub AllBut : ℕ → Type 0
   AllBut n =
       Unless n first_accepted × Unless n second_accepted × Unless n within_limit × Unless n room_for_tokens × Unless n room_for_events
       × Unless n room_for_diagnostics × Unless n three_words × Unless n last_is_newline × Unless n last_is_line_feed × Unless n end_is_word
-      × Unless n end_closes × Unless n no_parenthesis
+      × Unless n end_closes × Unless n no_parenthesis × Unless n first_at_limit × Unless n second_at_limit
 
   -- What demand 3 concludes.
   abbrev pub Concluded : Type 0

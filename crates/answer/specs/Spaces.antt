@@ -12,8 +12,10 @@ use Rattle.lexer.specs.Tokens.{MAX_SOURCE, token_kinds}
 use Rattle.grammar.specs.Words.{is}
 use Rattle.grammar.specs.Look.{at, next_relevant_block_token}
 use Rattle.grammar.specs.Compute.{bytes}
+use Rattle.grammar.specs.Block.{MAX_CONTROL_FLOW_NESTING as limit}
+use Rattle.grammar.specs.Source.{source_events, source_places}
 use Rattle.marks.specs.Marks.{first_refused}
-use Rattle.answer.specs.Answer.{Slices, events_of, places_of}
+use Rattle.answer.specs.Answer.{Slices}
 use Rattle.answer.specs.Given.{token_count, event_count, diagnostic_count}
 use Rattle.answer.specs.Accepts.{last_row_of_status, GivesReading, reading_of_call}
 use Rattle.answer.specs.Cases.{Loan, loan, zeros, loan_slices, made, called, within_limit, Needed}
@@ -49,11 +51,11 @@ one_token : (n : ℕ) → tokenize (spaces (suc n)) ≡ record { kind = Whitespa
 unfolding spaces made
 one_token n = rw (blanks n, all_taken n, all_passed n)
 
-their_events : (n : ℕ) → events_of (spaces (suc n)) ≡ 2 ∷ Whitespace ∷ 0 ∷ []
+their_events : (n : ℕ) → source_events limit (spaces (suc n)) ≡ 2 ∷ Whitespace ∷ 0 ∷ []
 unfolding made
 their_events n = rw (one_token n)
 
-no_places : (n : ℕ) → places_of (spaces (suc n)) ≡ []
+no_places : (n : ℕ) → source_places limit (spaces (suc n)) ≡ []
 unfolding made
 no_places n = rw (one_token n)
 
@@ -66,9 +68,10 @@ one_space = loan 1 3 0
 
 taken : (n : ℕ) → suc n ≤ MAX_SOURCE
     → ((made (spaces (suc n)) one_space).status ≡ 0)
-    × GivesReading (spaces (suc n)) (made (spaces (suc n)) one_space).slices (made (spaces (suc n)) one_space).counts
+    × GivesReading limit (spaces (suc n)) (made (spaces (suc n)) one_space).slices (made (spaces (suc n)) one_space).counts
 taken n h =
-    reading_of_call (spaces (suc n)) (loan_slices one_space) (zeros 3) (record {
+    reading_of_call limit (spaces (suc n)) (loan_slices one_space) (zeros 3) (record {
+      allowed = refl;
       words = omega arith;
       small = omega (arith, many (suc n));
       utf8 = well 0 (suc n);
@@ -90,6 +93,16 @@ pub too_many_spaces : (made (spaces 1048577) one_space).status ≡ 1
 unfolding made
 too_many_spaces = rw (many 1048577)
 
+-- Row 9 comes before row 1, and row 6 before both: a source too long, at a limit above 256, at 1, and with two words.
+abbrev pub too_long_at : ℕ → ℕ → Loan
+too_long_at limit words = record { limit = limit; tokens = 0; events = 0; diagnostics = 0; words = words }
+
+pub row_9_before_row_1 : ((made (spaces 1048577) (too_long_at 257 3)).status ≡ 9) × ((made (spaces 1048577) (too_long_at 257 3)).counts ≡ 0 ∷ 0 ∷ 0 ∷ [])
+    × ((made (spaces 1048577) (too_long_at 1 3)).status ≡ 1)
+    × ((made (spaces 1048577) (too_long_at 257 2)).status ≡ 6)
+unfolding made
+row_9_before_row_1 = rw (many 1048577) (refl, refl, refl, refl)
+
 pub limit_needed : Needed within_limit
 unfolding made
 limit_needed =
@@ -101,8 +114,8 @@ limit_needed =
     let p = ap (λ (x : Slices). at (is RParen) (next_relevant_block_token x.kinds)) g.1.given_is ∙ no_parenthesis_there 1048566 in
     record {
       case = record { a = bytes "begin end\n"; b = b; for_a = loan 4 10 0; for_b = one_space; for_join = loan 5 11 0 };
-      others = (refl, g.0, tt, omega arith, omega arith, omega arith, omega arith, refl, refl, refl, refl, p);
+      others = (refl, g.0, tt, omega arith, omega arith, omega arith, omega arith, refl, refl, refl, refl, p, refl, refl);
       otherwise = λ j.
-          let s = (last_row_of_status (bytes "begin end\n" ++ b) (loan_slices (loan 5 11 0)) (zeros 3) j.returned).small in
+          let s = (last_row_of_status limit (bytes "begin end\n" ++ b) (loan_slices (loan 5 11 0)) (zeros 3) j.returned).small in
           omega (arith, many 1048567);
     }

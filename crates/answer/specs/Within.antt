@@ -9,9 +9,7 @@ use Rattle.lexer.specs.Tokens.{ends, token_ends}
 use Rattle.lexer.specs.Laws.{token_bytes, lossless}
 use Rattle.lines.specs.JoinedLines.{NoneAbove}
 use Rattle.grammar.specs.Out.{Diag, place, places, diags}
-use Rattle.grammar.specs.Source.{symbols}
-use Rattle.grammar.specs.Block.{MAX_CONTROL_FLOW_NESTING as limit}
-use Rattle.answer.specs.Answer.{places_of}
+use Rattle.grammar.specs.Source.{symbols, source_places}
 
 last_below : (k m n : ℕ) (s : List ℕ) → m ≤ n → last_from k m n s ≤ n + length s
 unfolding last_from
@@ -35,8 +33,8 @@ start_within_ends m top [] s anchor i h k a = a
 start_within_ends m top (e ∷ es) s anchor zero h k a = h
 start_within_ends m top (e ∷ es) s anchor (suc i) h k a = start_within_ends m top es e anchor i k.0 k.1 a
 
-pub starts_within : (source : List ℕ) → NoneAbove (length source) (map (λ p. p.start) (places_of source))
-starts_within source = of_each (diags limit (symbols source))
+pub starts_within : (limit : ℕ) (source : List ℕ) → NoneAbove (length source) (map (λ p. p.start) (source_places limit source))
+starts_within limit source = of_each (diags limit (symbols source))
   where
     all : NoneAbove (length source) (token_ends source)
     all = ends_within 0 (length source) (tokenize source) (omega (arith, ap length (lossless source)))

@@ -18,7 +18,7 @@ pub struct Slices<'a> {
     pub stops: &'a mut [u32],
 }
 
-// What the call returns, as document 01's table numbers its rows. FewCounts is the C call's alone: no reading answers with it.
+// What the call returns, as document 01's table and M-104 number the rows. FewCounts is the C call's alone: no reading answers with it.
 #[derive(Clone, Copy)]
 pub enum Status {
     Accepted = 0,
@@ -28,6 +28,7 @@ pub enum Status {
     Refused = 4,
     OutputRoom = 5,
     FewCounts = 6,
+    LimitOutOfRange = 9,
 }
 
 impl From<Status> for u64 {
@@ -38,10 +39,11 @@ impl From<Status> for u64 {
     }
 }
 
-// The rows of document 01's table with their values. No Result: where the room is short, the slices hold a part of the reading, and the
+// The rows of document 01's table, and M-104's, with their values. No Result: where the room is short, the slices hold a part of the reading, and the
 // three counts say what it takes; `numbers` in specs/ gives each row its number and values.
 #[derive(Clone, Copy)]
 pub enum Answer {
+    LimitOutOfRange,
     TooLong,
     NotUtf8(Utf8Error),
     TokenRoom(usize),
@@ -85,6 +87,7 @@ impl From<Answer> for FourNumbers {
 
     fn from(answer: Answer) -> FourNumbers {
         match answer {
+            Answer::LimitOutOfRange => row(Status::LimitOutOfRange, 0, 0, 0),
             Answer::TooLong => row(Status::TooLong, 0, 0, 0),
             Answer::NotUtf8(e) => row(Status::NotUtf8, e.valid_up_to, e.error_len, 0),
             Answer::TokenRoom(t) => row(Status::TokenRoom, t, 0, 0),

@@ -14,7 +14,7 @@ use Rattle.grammar.specs.declared.message.Message.{Message}
 use Rattle.grammar.specs.declared.block.BlockOwner.{BlockOwner}
 use Rattle.grammar.specs.declared.block.Terminators.{Terminators}
 use Rattle.grammar.specs.declared.block.BlockParseOutcome.{BlockParseOutcome}
-use Rattle.grammar.specs.Block.{MAX_CONTROL_FLOW_NESTING as limit, block_in, parse_block, parse_control_flow, found_terminator, reached_eof, closing, ended, do_condition}
+use Rattle.grammar.specs.Block.{block_in, parse_block, parse_control_flow, found_terminator, reached_eof, closing, ended, do_condition}
 use Rattle.grammar.specs.Bump.{nop, bump_while, while_round}
 use Rattle.grammar.specs.Laws.Here.{is_not, none, one_of_not}
 use Rattle.grammar.specs.Laws.Live.{some, eats_take}
@@ -33,7 +33,9 @@ use Rattle.blocks.specs.declared.arm.Closing.{Closing}
 use Rattle.blocks.specs.declared.arm.BlockArm.{BlockArm}
 use Rattle.blocks.specs.declared.close.Form.{Form}
 use Rattle.blocks.specs.declared.place.BlockPlace.{BlockPlace}
+use Rattle.blocks.specs.declared.place.Depth.{Depth}
 use Rattle.blocks.specs.declared.rounds.Stopped.{Stopped}
+use Rattle.grammar.specs.declared.limit.NestingLimit.{NestingLimit}
 use Rattle.blocks.specs.Arms.{block_arm, inner_arm, by_block_arm, block_by, silent, taking}
 use Rattle.blocks.specs.Shapes.{else_line, else_part, KeywordLine, FormHeader, ItemAt, Finish, rest_at, stop, BlockRounds, ParseForm}
 
@@ -204,14 +206,22 @@ module _ {w w' : World} where
   took e h = subst (λ k. Ran (taking k) w w') (sym e) h
 
   -- a form of a block below the limit
-  pub deeper : {r : Bool} (d : ℕ) {e : ℕ} → e ≡ d + 1 → RanTo (parse_control_flow (parse_block limit) e) w w' r → RanTo (parse_control_flow (λ o t e. in_node Block (block_in limit o t e)) (suc d)) w w' r
+  pub deeper : {r : Bool} (d e : Depth) → (e.forms ≡ d.forms + 1) × (e.limit ≡ d.limit)
+      → RanTo (parse_control_flow (parse_block e.limit.forms) e.forms) w w' r
+      → RanTo (parse_control_flow (λ o t e. in_node Block (block_in d.limit.forms o t e)) (suc d.forms)) w w' r
   unfolding parse_block
-  deeper {r} d {e} q h = let z : e ≡ suc d = omega (arith, q) in subst (λ (n : ℕ). RanTo (parse_control_flow (parse_block limit) n) w w' r) z h
+  deeper {r} d e q h =
+      let z : e.forms ≡ suc d.forms = omega (arith, q.0) in
+      let m = ap (λ (l : NestingLimit). l.forms) q.1 in
+      subst (λ (n : ℕ). RanTo (parse_control_flow (parse_block d.limit.forms) n) w w' r) z
+      (subst (λ (l : ℕ). RanTo (parse_control_flow (parse_block l) e.forms) w w' r) m h)
 
   -- a round of parse_block's loop, by its arm
   pub round : (p : BlockPlace) {o : BlockParseOutcome} {a : BlockArm} (b : BlockArm) → a ≡ block_arm p.terminators (remaining w) → a ≡ b
-      → RanTo (by_block_arm b (block_in limit) limit p.owner p.terminators p.depth.forms) w w' o → RanTo (rest_at p) w w' o
-  round p b e f h = like_to (by_block_arm b (block_in limit) limit p.owner p.terminators p.depth.forms) (block_by limit p.owner p.terminators p.depth.forms _ b (sym f ∙ e)) h
+      → RanTo (by_block_arm b (block_in p.depth.limit.forms) p.depth.limit.forms p.owner p.terminators p.depth.forms) w w' o → RanTo (rest_at p) w w' o
+  round p b e f h =
+      let l = p.depth.limit.forms in
+      like_to (by_block_arm b (block_in l) l p.owner p.terminators p.depth.forms) (block_by l p.owner p.terminators p.depth.forms _ b (sym f ∙ e)) h
 
   -- ---- the parts of a form
   pub opened : {v : ℕ} {lead : P Bool → P Bool} {u : World} → Wrote v w u → ((next : P Bool) (z : World) (r : Bool) → RanTo next w' z r → RanTo (lead next) u z r)
@@ -257,8 +267,8 @@ found_is BlockParseOutcome.RecoveredImplicitEnd e = absurd (false≢true e)
 found_is BlockParseOutcome.ReachedEof e = absurd (false≢true e)
 
 -- the body of a `do` that was closed stands before a `while`
-pub at_while : {w w' : World} {o : BlockParseOutcome} (d : ℕ) → RanTo (parse_block limit BlockOwner.DoWhileBody Terminators.While d) w w' o → found_terminator o ≡ true → at (is WHILE) (remaining w') ≡ true
-at_while {w} {w'} {o} d h e =
+pub at_while : {w w' : World} {o : BlockParseOutcome} (limit d : ℕ) → RanTo (parse_block limit BlockOwner.DoWhileBody Terminators.While d) w w' o → found_terminator o ≡ true → at (is WHILE) (remaining w') ≡ true
+at_while {w} {w'} {o} limit d h e =
     bare_while _ (ap (at_terminator Terminators.While) (sym h.ran.rest) ∙ (stops_block limit BlockOwner.DoWhileBody Terminators.While d).stops _ (h.val ∙ found_is o e))
 
 -- ---- parse_if behind its first block, and parse_do_while behind its body
@@ -268,7 +278,7 @@ behind_else : {w l v : World} {block : P BlockParseOutcome} {o : BlockParseOutco
 unfolding one_of
 behind_else here l h = take_expected ELSE Message.Unreached refl here l.key then_to l.line then_to h
 
-module _ {w u : World} (d : ℕ) {x b : Bool} where
+module _ {w u : World} (limit d : ℕ) {x b : Bool} where
   pub no_else : (o : BlockParseOutcome) → x ≡ (not (reached_eof o) && at (is ELSE) (remaining w)) → x ≡ false
       → RanTo (ended BlockOwner.If o) w u b → RanTo (else_part (parse_block limit) d o) w u b
   unfolding ended

@@ -10,7 +10,7 @@ use Rattle.grammar.specs.declared.block.BlockRecoveryBoundary.{BlockRecoveryBoun
 use Rattle.grammar.specs.declared.block.BlockParseOutcome.{BlockParseOutcome}
 use Rattle.grammar.specs.Bump.{bump, error_here, expect_keyword}
 use Rattle.grammar.specs.Line.{parse_line_tail}
-use Rattle.grammar.specs.Block.{MAX_CONTROL_FLOW_NESTING as limit, Blocks, parse_structured_header_suffixes, reached_eof, ended, block_in, parse_block}
+use Rattle.grammar.specs.Block.{Blocks, parse_structured_header_suffixes, reached_eof, ended, block_in, parse_block}
 use Rattle.parser.specs.Rep.{World, file, remaining, Onward, Past, Wrote, Ran, RanTo}
 use Rattle.blocks.specs.declared.arm.Closing.{Closing}
 use Rattle.blocks.specs.declared.arm.BlockArm.{BlockArm}
@@ -91,16 +91,16 @@ block_place owner terminators depth = record { depth = depth; owner = owner; ter
 
 -- what is left of a block at this place, and the whole of it
 abbrev pub rest_at : BlockPlace → P BlockParseOutcome
-rest_at p = block_in limit p.owner p.terminators p.depth.forms
+rest_at p = block_in p.depth.limit.forms p.owner p.terminators p.depth.forms
 
 abbrev pub block_at : BlockPlace → P BlockParseOutcome
-block_at p = parse_block limit p.owner p.terminators p.depth.forms
+block_at p = parse_block p.depth.limit.forms p.owner p.terminators p.depth.forms
 
 -- They come to a form below the limit: what is left of the block from there is what was left of it before.
 pub record AtForm (p : BlockPlace) (w w' : World) : Type 0 where
   pub on : (v : World) (r : BlockParseOutcome) → RanTo (rest_at p) w' v r → RanTo (rest_at p) w v r
   pub arm : block_arm p.terminators (remaining w') ≡ BlockArm.Control
-  pub below : p.depth.forms < limit
+  pub below : p.depth.forms < p.depth.limit.forms
 
 -- Or they end the block, and its closing event is written.
 pub record Over (p : BlockPlace) (w w' : World) (e : BlockEnd) : Type 0 where

@@ -4,7 +4,7 @@
 ghost use Rattle.std.specs.Prelude.{◌≡◌, true, drop};
 ghost use Rattle.grammar.specs.Words.{is, DO as do_word, IF as if_word, REPEAT as repeat_word, WHILE as while_word};
 ghost use Rattle.grammar.specs.Look.{at, control_flow};
-ghost use Rattle.grammar.specs.Block.{MAX_CONTROL_FLOW_NESTING as limit, parse_block, parse_if, parse_while, parse_do_while, parse_repeat};
+ghost use Rattle.grammar.specs.Block.{parse_block, parse_if, parse_while, parse_do_while, parse_repeat};
 ghost use Rattle.grammar.specs.Block.{parse_control_flow};
 ghost use Rattle.parser.specs.Rep.{entry, exit};
 ghost use Rattle.blocks.specs.Shapes.{block_place, ParseBlock, ParseForm};
@@ -68,7 +68,7 @@ fn block_from(parser: &mut Parser, start: Start) -> BlockEnd
 #[cycle(forms)]
 fn parse_control_flow(parser: &mut Parser, c0: Cursor, depth: Depth) -> Form
     requires { at control_flow (drop c0.pos parser.old.kinds.now) ≡ true }
-    ensures { ParseForm (parse_control_flow (parse_block limit) depth.forms) (entry parser c0) (exit parser result.c) result }
+    ensures { ParseForm (parse_control_flow (parse_block depth.limit.forms) depth.forms) (entry parser c0) (exit parser result.c) result }
 {
     match parser.current(c0.pos) {
         IF => parse_if(parser, c0, depth),
@@ -102,7 +102,7 @@ fn inner_block(
 #[cycle(forms)]
 fn parse_if(parser: &mut Parser, c0: Cursor, depth: Depth) -> Form
     requires { at (is if_word) (drop c0.pos parser.old.kinds.now) ≡ true }
-    ensures { ParseForm (parse_if (parse_block limit) depth.forms) (entry parser c0) (exit parser result.c) result }
+    ensures { ParseForm (parse_if (parse_block depth.limit.forms) depth.forms) (entry parser c0) (exit parser result.c) result }
 {
     let h = header(parser, c0, SyntaxKind::IfOp, Word::If);
     let mut b = inner_block(parser, h, BlockOwner::If, Terminators::ElseEnd, depth);
@@ -117,7 +117,7 @@ fn parse_if(parser: &mut Parser, c0: Cursor, depth: Depth) -> Form
 #[cycle(forms)]
 fn parse_while(parser: &mut Parser, c0: Cursor, depth: Depth) -> Form
     requires { at (is while_word) (drop c0.pos parser.old.kinds.now) ≡ true }
-    ensures { ParseForm (parse_while (parse_block limit) depth.forms) (entry parser c0) (exit parser result.c) result }
+    ensures { ParseForm (parse_while (parse_block depth.limit.forms) depth.forms) (entry parser c0) (exit parser result.c) result }
 {
     let h = header(parser, c0, SyntaxKind::WhileOp, Word::While);
     let b = inner_block(parser, h, BlockOwner::While, Terminators::End, depth);
@@ -127,7 +127,7 @@ fn parse_while(parser: &mut Parser, c0: Cursor, depth: Depth) -> Form
 #[cycle(forms)]
 fn parse_do_while(parser: &mut Parser, c0: Cursor, depth: Depth) -> Form
     requires { at (is do_word) (drop c0.pos parser.old.kinds.now) ≡ true }
-    ensures { ParseForm (parse_do_while (parse_block limit) depth.forms) (entry parser c0) (exit parser result.c) result }
+    ensures { ParseForm (parse_do_while (parse_block depth.limit.forms) depth.forms) (entry parser c0) (exit parser result.c) result }
 {
     let h = do_header(parser, c0);
     let mut b = inner_block(
@@ -148,7 +148,7 @@ fn parse_do_while(parser: &mut Parser, c0: Cursor, depth: Depth) -> Form
 #[cycle(forms)]
 fn parse_repeat(parser: &mut Parser, c0: Cursor, depth: Depth) -> Form
     requires { at (is repeat_word) (drop c0.pos parser.old.kinds.now) ≡ true }
-    ensures { ParseForm (parse_repeat (parse_block limit) depth.forms) (entry parser c0) (exit parser result.c) result }
+    ensures { ParseForm (parse_repeat (parse_block depth.limit.forms) depth.forms) (entry parser c0) (exit parser result.c) result }
 {
     let h = header(parser, c0, SyntaxKind::RepeatOp, Word::Repeat);
     let b = inner_block(parser, h, BlockOwner::Repeat, Terminators::End, depth);

@@ -1,28 +1,25 @@
 // Where a block stands, and which it is.
 ghost use Rattle.std.specs.Prelude.{◌≡◌, ◌+◌, ◌≤◌, ◌<◌};
-ghost use Rattle.grammar.specs.Block.{MAX_CONTROL_FLOW_NESTING as limit};
 
 use grammar::block::{BlockOwner, Terminators};
+use grammar::limit::NestingLimit;
 
-// At most this many control-flow nodes stand in one another.
-pub(crate) const MAX_CONTROL_FLOW_NESTING: u16 = 256;
-
-// How many control forms stand around something.
+// How many control forms stand around something, and how many may.
 #[derive(Clone, Copy)]
 pub struct Depth {
     pub forms: u16,
-    ghost within: { forms ≤ limit },
+    pub limit: NestingLimit,
+    ghost within: { forms ≤ limit.forms },
 }
 
 impl Depth {
-    pub const TOP: Depth = Depth { forms: 0 };
-
     pub(crate) fn deeper(self) -> Depth
-        requires { self.forms < limit }
-        ensures { result.forms ≡ self.forms + 1 }
+        requires { self.forms < self.limit.forms }
+        ensures { (result.forms ≡ self.forms + 1) × (result.limit ≡ self.limit) }
     {
         Depth {
             forms: self.forms + 1,
+            limit: self.limit,
         }
     }
 }

@@ -7,7 +7,7 @@ ghost use Rattle.blocks.specs.Shapes.{stop, ItemAt, BlockRounds, FirstRounds};
 
 use crate::arm::{BlockArm, block_arm_here};
 use crate::close::{BlockEnd, close, ended_file};
-use crate::place::{BlockPlace, MAX_CONTROL_FLOW_NESTING};
+use crate::place::BlockPlace;
 use crate::reject::reject_excessive_control_flow_nesting;
 use crate::step::take;
 use lexer::syntax::SyntaxKind;
@@ -28,7 +28,7 @@ fn form_here(parser: &mut Parser, c0: Cursor, place: BlockPlace) -> Stopped
     requires { block_arm place.terminators (drop c0.pos parser.old.kinds.now) ≡ Control }
     ensures { BlockRounds place (entry parser c0) (exit parser (stop result)) result }
 {
-    if MAX_CONTROL_FLOW_NESTING <= place.depth.forms {
+    if place.depth.limit.forms <= place.depth.forms {
         let d = reject_excessive_control_flow_nesting(parser, c0);
         return Stopped::Closed(ended_file(parser, d));
     }

@@ -1,5 +1,5 @@
-// The frames of the input: eight little-endian numbers (the part, bytes of the source, entries of the six slices), then the source, and for
-// lines and columns the offsets.
+// The frames of the input: nine little-endian numbers (the part, the limit on nesting, bytes of the source, entries of the six slices), then the
+// source, and for lines and columns the offsets.
 use crate::{lexing, positions, reading};
 use cst::Slices;
 use frames::header::frame_number;
@@ -37,6 +37,7 @@ impl TryFrom<usize> for Part {
 #[derive(Clone, Copy)]
 struct Header {
     part: Part,
+    limit: u64,
     source: usize,
     kinds: usize,
     ends: usize,
@@ -48,12 +49,13 @@ struct Header {
 
 // The next header, or `None` where the input ends or there is no such part.
 fn read_header(from: &mut impl Read) -> Option<Header> {
-    let mut head = [0u8; 32];
+    let mut head = [0u8; 36];
     from.read_exact(&mut head).ok()?;
-    let numbers: [usize; 8] = array::from_fn(|i| frame_number(&head, 4 * i));
-    let [part, source, kinds, ends, events, messages, starts, stops] = numbers;
+    let numbers: [usize; 9] = array::from_fn(|i| frame_number(&head, 4 * i));
+    let [part, limit, source, kinds, ends, events, messages, starts, stops] = numbers;
     Some(Header {
         part: Part::try_from(part).ok()?,
+        limit: limit as u64,
         source,
         kinds,
         ends,
@@ -64,19 +66,20 @@ fn read_header(from: &mut impl Read) -> Option<Header> {
     })
 }
 
-// Answers a source, or `None` where the input ends. Offsets stand where a reading has the ends of tokens, their lines where it has starts,
+// Answers a source, or `None` where the input ends. The limit is the reading's and the text's. Offsets stand where a reading has the ends of tokens, their lines where it has starts,
 // their columns where stops.
 fn put_part(
     out: &mut impl Write,
     from: &mut impl Read,
     part: Part,
+    limit: u64,
     source: &[u8],
     slices: &mut Slices<'_>,
 ) -> Option<io::Result<()>> {
     match part {
         Part::Lexer => Some(lexing::put_lexing(out, source, slices)),
-        Part::Reading => Some(reading::put_reading(out, source, slices)),
-        Part::Tree => Some(show::write_tree(out, source, slices)),
+        Part::Reading => Some(reading::put_reading(out, limit, source, slices)),
+        Part::Tree => Some(show::write_tree(out, limit, source, slices)),
         Part::Lines => {
             positions::put_positions(out, from, source, slices.ends, slices.starts, slices.stops)
         }
@@ -102,7 +105,7 @@ fn answer_frame(
         stops: slices.stops.get_mut(..header.stops)?,
     };
     from.read_exact(source).ok()?;
-    put_part(out, from, header.part, source, &mut lent)
+    put_part(out, from, header.part, header.limit, source, &mut lent)
 }
 
 // All frames. The count makes the loop end, and no input has as many frames.

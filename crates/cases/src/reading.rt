@@ -16,14 +16,19 @@ fn fill(slices: &mut Slices<'_>) {
 }
 
 // The seven lines of an answer.
-pub fn put_reading(out: &mut impl Write, source: &[u8], slices: &mut Slices<'_>) -> io::Result<()> {
+pub fn put_reading(
+    out: &mut impl Write,
+    limit: u64,
+    source: &[u8],
+    slices: &mut Slices<'_>,
+) -> io::Result<()> {
     fill(slices);
     let FourNumbers {
         status,
         first,
         second,
         third,
-    } = FourNumbers::from(cst::parse_text(source, slices));
+    } = FourNumbers::from(cst::parse_text(limit, source, slices));
     write_line(out, &[status, first, second, third])?;
     write_line(out, slices.kinds)?;
     write_line(out, slices.ends)?;

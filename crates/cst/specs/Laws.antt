@@ -13,8 +13,7 @@ use Rattle.lexer.specs.Tokens.{room, token_kinds, token_ends, TokensFit}
 use Rattle.lexer.specs.Laws.{length_ends}
 use Rattle.grammar.specs.Words.{kind_of}
 use Rattle.grammar.specs.Out.{Diag, diags}
-use Rattle.grammar.specs.Source.{symbols}
-use Rattle.grammar.specs.Block.{MAX_CONTROL_FLOW_NESTING as limit}
+use Rattle.grammar.specs.Source.{symbols, source_places}
 use Rattle.items.specs.Entry.{ParserSlices, Parse}
 use Rattle.marks.specs.Marks.{first_refused}
 use Rattle.marks.specs.Code.{mark}
@@ -24,7 +23,7 @@ use Rattle.places.proofs.Laws.{messages_of_places}
 use Rattle.places.proofs.Writes.{places_over}
 use Rattle.answer.specs.declared.Answer.{Answer}
 use Rattle.answer.specs.declared.Answer.TheVariants.{TokenRoom}
-use Rattle.answer.specs.Answer.{Slices, slices, Outcome, outcome, places_of, from_row_3, from_row_4, from_row_5}
+use Rattle.answer.specs.Answer.{Slices, slices, Outcome, outcome, from_row_3, from_row_4, from_row_5}
 use Rattle.cst.specs.Reading.{MarkedTokens, WriteReading}
 
 take_map : (g : ℕ → ℕ) (r : ℕ) (vs : List ℕ) → map g (take r vs) ≡ take r (map g vs)
@@ -78,49 +77,49 @@ module _ (source kinds ends : List ℕ) (t : ℕ) (kinds₁ ends₁ : List ℕ) 
 abbrev pub with_kinds : List ℕ → Outcome → Outcome
 with_kinds k o = outcome o.answer (slices k o.slices.ends o.slices.events o.slices.messages o.slices.starts o.slices.stops)
 
-module _ (source ends ev dm ds de k k' : List ℕ) where
+module _ (limit : ℕ) (source ends ev dm ds de k k' : List ℕ) where
   by_rows : (u : Bool) (q : Option ℕ)
-      → with_kinds k' (cond u (outcome (TokenRoom (length (tokenize source))) (slices k ends ev dm ds de)) (from_row_4 q source (slices k ends ev dm ds de)))
-      ≡ cond u (outcome (TokenRoom (length (tokenize source))) (slices k' ends ev dm ds de)) (from_row_4 q source (slices k' ends ev dm ds de))
+      → with_kinds k' (cond u (outcome (TokenRoom (length (tokenize source))) (slices k ends ev dm ds de)) (from_row_4 q limit source (slices k ends ev dm ds de)))
+      ≡ cond u (outcome (TokenRoom (length (tokenize source))) (slices k' ends ev dm ds de)) (from_row_4 q limit source (slices k' ends ev dm ds de))
   unfolding from_row_4 from_row_5
   by_rows true q = refl
   by_rows false None = refl
   by_rows false (Some n) = refl
 
-  pub other_kinds : length k ≡ length k' → with_kinds k' (from_row_3 source (slices k ends ev dm ds de)) ≡ from_row_3 source (slices k' ends ev dm ds de)
+  pub other_kinds : length k ≡ length k' → with_kinds k' (from_row_3 limit source (slices k ends ev dm ds de)) ≡ from_row_3 limit source (slices k' ends ev dm ds de)
   unfolding from_row_3
   other_kinds e =
-      ap (λ n. with_kinds k' (cond (ltb (min n (length ends)) (length (tokenize source))) (outcome (TokenRoom (length (tokenize source))) (slices k ends ev dm ds de)) (from_row_4 (first_refused 0 (tokenize source)) source (slices k ends ev dm ds de)))) e
+      ap (λ n. with_kinds k' (cond (ltb (min n (length ends)) (length (tokenize source))) (outcome (TokenRoom (length (tokenize source))) (slices k ends ev dm ds de)) (from_row_4 (first_refused 0 (tokenize source)) limit source (slices k ends ev dm ds de)))) e
       ∙ by_rows (ltb (min (length k') (length ends)) (length (tokenize source))) (first_refused 0 (tokenize source))
 
 -- Row 3 and those behind it leave the kinds.
-kept_by_rows : (u : Bool) (q : Option ℕ) (a : Answer) (source : List ℕ) (s : Slices) → (cond u (outcome a s) (from_row_4 q source s)).slices.kinds ≡ s.kinds
+kept_by_rows : (u : Bool) (q : Option ℕ) (a : Answer) (limit : ℕ) (source : List ℕ) (s : Slices) → (cond u (outcome a s) (from_row_4 q limit source s)).slices.kinds ≡ s.kinds
 unfolding from_row_4 from_row_5
-kept_by_rows true q a source s = refl
-kept_by_rows false None a source s = refl
-kept_by_rows false (Some n) a source s = refl
+kept_by_rows true q a limit source s = refl
+kept_by_rows false None a limit source s = refl
+kept_by_rows false (Some n) a limit source s = refl
 
-pub kinds_stay : (source : List ℕ) (s : Slices) → (from_row_3 source s).slices.kinds ≡ s.kinds
+pub kinds_stay : (limit : ℕ) (source : List ℕ) (s : Slices) → (from_row_3 limit source s).slices.kinds ≡ s.kinds
 unfolding from_row_3
-kinds_stay source s = kept_by_rows _ _ _ source s
+kinds_stay limit source s = kept_by_rows _ _ _ limit source s
 
 -- ---- The grammar and the places.
 module _
-    (s F ends : List ℕ) (anchor : ℕ) (b w : ParserSlices) (de ds' de' : List ℕ)
+    (limit : ℕ) (s F ends : List ℕ) (anchor : ℕ) (b w : ParserSlices) (de ds' de' : List ℕ)
     (symbols_are : F ≡ symbols s) (ends_are : ends ≡ token_ends s) (anchor_is : anchor ≡ last_char s)
-    (same_de : length b.starts ≡ length de) (parsed : Parse F b w)
+    (same_de : length b.starts ≡ length de) (parsed : Parse limit F b w)
     (placed : Places ends anchor w.c.diags w.starts de ds' de')
   where
-    p : Parse (symbols s) b w
+    p : Parse limit (symbols s) b w
     p = rw symbols_are at parsed
 
     abbrev said : List Diag
     said = diags limit (symbols s)
 
-    written : (ds' ≡ over b.starts 0 (map (λ p. p.start) (places_of s))) × (de' ≡ over de 0 (map (λ p. p.stop) (places_of s)))
+    written : (ds' ≡ over b.starts 0 (map (λ p. p.start) (source_places limit s))) × (de' ≡ over de 0 (map (λ p. p.stop) (source_places limit s)))
     written = places_over (token_ends s) (last_char s) said b.starts de ds' de' same_de (rw (ends_are, anchor_is, p.diagnostic_count, p.starts_are) at placed)
 
-    pub reading_is : WriteReading s b.events b.messages b.starts de w.c.events w.c.diags w.events w.messages ds' de'
+    pub reading_is : WriteReading limit s b.events b.messages b.starts de w.c.events w.c.diags w.events w.messages ds' de'
     reading_is = record {
       event_count = p.event_count;
       diagnostic_count = p.diagnostic_count ∙ sym (length-map said _);

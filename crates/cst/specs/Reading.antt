@@ -4,13 +4,14 @@ use Rattle.std.specs.Prelude.{ℕ, ◌≤◌, ◌≡◌, List, map, length, take
 use Rattle.room.specs.Over.{over}
 use Rattle.lexer.specs.Lexer.{tokenize}
 use Rattle.lexer.specs.Tokens.{room, token_ends}
+use Rattle.grammar.specs.Source.{source_events, source_places}
 use Rattle.marks.specs.Code.{mark}
 use Rattle.answer.specs.declared.Answer.{Answer}
-use Rattle.answer.specs.Answer.{Slices, outcome, parse_text, events_of, places_of}
+use Rattle.answer.specs.Answer.{Slices, outcome, from_row_1}
 
--- The reading of a source refuses it with this answer, whatever the slices, which it leaves as they are.
+-- The reading of a source refuses it with this answer at every limit, whatever the slices, which it leaves as they are.
 abbrev pub Refuses : List ℕ → Answer → Type 0
-Refuses source refusal = (s : Slices) → parse_text source s ≡ outcome refusal s
+Refuses source refusal = (limit : ℕ) (s : Slices) → from_row_1 limit source s ≡ outcome refusal s
 
 -- t tokens, and where they have room, all of them marked.
 pub record MarkedTokens (source : List ℕ) (t : ℕ) (kinds ends : List ℕ) : Type 0 where
@@ -19,10 +20,10 @@ pub record MarkedTokens (source : List ℕ) (t : ℕ) (kinds ends : List ℕ) : 
   pub ends_are : t ≤ room kinds ends → take t ends ≡ token_ends source
 
 -- e events and d diagnostics, each slice as far as it goes.
-pub record WriteReading (source events messages starts stops : List ℕ) (e d : ℕ) (events' messages' starts' stops' : List ℕ) : Type 0 where
-  pub event_count : e ≡ length (events_of source)
-  pub diagnostic_count : d ≡ length (places_of source)
-  pub events_are : events' ≡ over events 0 (events_of source)
-  pub messages_are : messages' ≡ over messages 0 (map (λ p. p.msg) (places_of source))
-  pub starts_are : starts' ≡ over starts 0 (map (λ p. p.start) (places_of source))
-  pub stops_are : stops' ≡ over stops 0 (map (λ p. p.stop) (places_of source))
+pub record WriteReading (limit : ℕ) (source events messages starts stops : List ℕ) (e d : ℕ) (events' messages' starts' stops' : List ℕ) : Type 0 where
+  pub event_count : e ≡ length (source_events limit source)
+  pub diagnostic_count : d ≡ length (source_places limit source)
+  pub events_are : events' ≡ over events 0 (source_events limit source)
+  pub messages_are : messages' ≡ over messages 0 (map (λ p. p.msg) (source_places limit source))
+  pub starts_are : starts' ≡ over starts 0 (map (λ p. p.start) (source_places limit source))
+  pub stops_are : stops' ≡ over stops 0 (map (λ p. p.stop) (source_places limit source))

@@ -10,13 +10,14 @@ ghost use Rattle.cst.specs.Reading.{MarkedTokens};
 
 use crate::{Slices, Text};
 use answer::Answer;
+use grammar::limit::NestingLimit;
 use marks::Read;
 
 // The t tokens are read, the three diagnostic slices as far as the shortest goes; indices of tokens become places in bytes.
-fn parse_from_row_5(text: Text, t: usize, slices: Slices) -> Answer
+fn parse_from_row_5(limit: NestingLimit, text: Text, t: usize, slices: Slices) -> Answer
     requires { (t ≤ length slices.kinds.now) × (take t slices.kinds.now ≡ symbols text.bytes.now)
         × (t ≤ length slices.ends.now) × (take t slices.ends.now ≡ token_ends text.bytes.now) }
-    ensures { outcome result (exit_lists slices.exit) ≡ from_row_5 text.entry.bytes.now (lists slices.entry) }
+    ensures { outcome result (exit_lists slices.exit) ≡ from_row_5 limit.forms text.entry.bytes.now (lists slices.entry) }
 {
     let Slices {
         kinds,
@@ -29,6 +30,7 @@ fn parse_from_row_5(text: Text, t: usize, slices: Slices) -> Answer
     let room = messages.len().min(starts.len()).min(stops.len());
     let anchor = utf8::last_char(text.bytes);
     let end = items::file::parse(
+        limit,
         &kinds[..t],
         events,
         &mut messages[..room],
@@ -56,11 +58,16 @@ fn parse_from_row_5(text: Text, t: usize, slices: Slices) -> Answer
 }
 
 // Rows 3 and 4: tokens that have no room, a refused word; else the rest of the reading.
-pub fn parse_from_row_3(text: Text, read: Read, slices: &mut Slices) -> Answer
+pub fn parse_from_row_3(
+    limit: NestingLimit,
+    text: Text,
+    read: Read,
+    slices: &mut Slices,
+) -> Answer
     requires { (read.refusal ≡ first_refused 0 (tokenize text.bytes.now))
         × (MarkedTokens text.bytes.now read.count slices.old.kinds.now slices.old.ends.now) }
     ensures same_slices { SameSlices slices.old slices.new }
-    ensures answer { outcome result (lists slices.new) ≡ from_row_3 text.entry.bytes.now (lists slices.old) }
+    ensures answer { outcome result (lists slices.new) ≡ from_row_3 limit.forms text.entry.bytes.now (lists slices.old) }
 {
     let t = read.count;
     if slices.kinds.len().min(slices.ends.len()) < t {
@@ -78,7 +85,7 @@ pub fn parse_from_row_3(text: Text, read: Read, slices: &mut Slices) -> Answer
                 starts: slices.starts,
                 stops: slices.stops,
             };
-            parse_from_row_5(text, t, lent)
+            parse_from_row_5(limit, text, t, lent)
         }
     }
 }

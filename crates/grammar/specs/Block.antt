@@ -1,9 +1,9 @@
 -- Blocks and the four control forms. A block contains the forms and each of them contains blocks: the forms are written over the blocks
 -- inside them, and parse_block ties the knot.
 -- Defines: parse_structured_header_suffixes, reject_excessive_control_flow_nesting, parse_if, parse_while, parse_do_while, parse_repeat,
--- parse_block. The limit on nesting is a parameter; the reader's is MAX_CONTROL_FLOW_NESTING.
+-- parse_block. The limit on nesting is a parameter, from 1 to MAX_CONTROL_FLOW_NESTING, which is the unit's.
 -- Assumes nothing: these are definitions.
-use Rattle.std.specs.Prelude.{ℕ, zero, suc, Bool, true, false, List, [], ◌∷◌, leb, length}
+use Rattle.std.specs.Prelude.{ℕ, zero, suc, Bool, true, false, ◌&&◌, List, [], ◌∷◌, leb, length}
 use Rattle.lexer.specs.Syntax.{DocComment, Number, QuotedString, Dot, LBracket, RBracket}
 use Rattle.grammar.specs.Words.{Sym, DO, ELSE, END, IF, REPEAT, WHILE}
 use Rattle.grammar.specs.Look.{one_of, at, eof, at_kind, at_keyword, at_name_like, at_regular_trivia, at_terminator, at_stray_else, at_top_level_form_starter_in_block, at_control_flow_operation, can_start_instruction}
@@ -21,6 +21,10 @@ pub use Rattle.grammar.specs.declared.block.BlockParseOutcome.{BlockParseOutcome
 -- Control-flow nodes in one another.
 abbrev pub MAX_CONTROL_FLOW_NESTING : ℕ
 MAX_CONTROL_FLOW_NESTING = 256
+
+-- M-104: 'from 1 to 256'.
+abbrev pub limit_allowed : ℕ → Bool
+limit_allowed limit = leb 1 limit && leb limit MAX_CONTROL_FLOW_NESTING
 
 -- Behind the dot of a suffix.
 unfoldable pub suffix_operand : P Bool

@@ -3,6 +3,7 @@
 
 pub mod block;
 pub mod event;
+pub mod limit;
 pub mod message;
 pub mod nesting;
 pub mod words;

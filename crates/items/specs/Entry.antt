@@ -3,7 +3,6 @@
 use Rattle.std.specs.Prelude.{◌≡◌, List, ℕ, map, length}
 use Rattle.room.specs.Over.{over}
 use Rattle.grammar.specs.Words.{File}
-use Rattle.grammar.specs.Block.{MAX_CONTROL_FLOW_NESTING as limit}
 use Rattle.grammar.specs.Out.{events as events_of, diags as diags_of}
 use Rattle.parser.specs.declared.cursor.Cursor.{Cursor}
 
@@ -21,8 +20,8 @@ pub record ParserSlices : Type 0 where
 abbrev pub parser_slices : List ℕ → List ℕ → List ℕ → Cursor → ParserSlices
 parser_slices events messages starts c = record { events = events; messages = messages; starts = starts; c = c }
 
--- w is what is left after the file F, where the slices were b's
-pub record Parse (F : File) (b w : ParserSlices) : Type 0 where
+-- w is what is left after the file F at this limit, where the slices were b's
+pub record Parse (limit : ℕ) (F : File) (b w : ParserSlices) : Type 0 where
   pub pos : w.c.pos ≡ length F
   pub event_count : w.c.events ≡ length (events_of limit F)
   pub diagnostic_count : w.c.diags ≡ length (diags_of limit F)

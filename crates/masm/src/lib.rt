@@ -9,6 +9,7 @@ ghost use Rattle.lines.specs.MasmLines.{MasmLines};
 // The reading: the status, and the other three numbers in the first words of `counts`.
 #[unsafe(no_mangle)]
 pub extern "C" fn masm_parse_text(
+    limit: u64,
     source: &[u8],
     kinds: &mut [u16],
     ends: &mut [u32],
@@ -19,10 +20,12 @@ pub extern "C" fn masm_parse_text(
     counts: &mut [u64],
 ) -> u64
     ensures { MasmParseText
-        source.now (entry_slices kinds ends events messages starts stops) counts.old
+        limit source.now (entry_slices kinds ends events messages starts stops) counts.old
         result (exit_slices kinds ends events messages starts stops) counts.new }
 {
-    cst::masm_parse_text(source, kinds, ends, events, messages, starts, stops, counts)
+    cst::masm_parse_text(
+        limit, source, kinds, ends, events, messages, starts, stops, counts,
+    )
 }
 
 // The line and the column of each offset, and how many were written.

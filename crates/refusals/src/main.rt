@@ -1,4 +1,5 @@
-// Calls of `masm_parse_text` that the program `cases` does not make: counts of two words, and sources at the greatest length.
+// Calls of `masm_parse_text` that the program `cases` does not make: counts of two words, limits of more than 32 bits, and sources at the
+// greatest length.
 #![tactic(auto)]
 
 use frames::output::{Output, write_line, write_number, write_numbers};
@@ -7,11 +8,17 @@ use std::io;
 use std::io::Write;
 
 // One call: its status and counts, then the slices of tokens and events, each a line.
-fn put_call(out: &mut impl Write, source: &[u8], counts: &mut [u64]) -> io::Result<()> {
+fn put_call(
+    out: &mut impl Write,
+    limit: u64,
+    source: &[u8],
+    counts: &mut [u64],
+) -> io::Result<()> {
     let mut kinds = [7u16; 2];
     let mut ends = [7u32; 2];
     let mut events = [7u16; 4];
     let status = cst::masm_parse_text(
+        limit,
         source,
         &mut kinds,
         &mut ends,
@@ -29,13 +36,17 @@ fn put_call(out: &mut impl Write, source: &[u8], counts: &mut [u64]) -> io::Resu
     write_line(out, &events)
 }
 
-// The three calls: counts of two words, the whole source, and all of it but its last byte.
+// The calls: counts of two words, and a limit that is not allowed, which comes before the length; the whole source, and all of it but its
+// last byte. Two of the limits would be allowed if they were cut.
 fn put_calls(out: &mut impl Write, source: &[u8]) -> io::Result<()> {
+    put_call(out, 0, source, &mut [7u64; 2])?;
+    for limit in [0, 257, 65_537, 4_294_967_301] {
+        put_call(out, limit, source, &mut [7u64; 3])?;
+    }
     let mut counts = [7u64; 3];
-    put_call(out, source, &mut [7u64; 2])?;
-    put_call(out, source, &mut counts)?;
+    put_call(out, 1, source, &mut counts)?;
     if let [shorter @ .., _] = source {
-        put_call(out, shorter, &mut counts)?;
+        put_call(out, 256, shorter, &mut counts)?;
     }
     out.flush()
 }

@@ -7,6 +7,7 @@ use std::{io, iter};
 
 fn put_diagnostic(
     out: &mut impl Write,
+    limit: u64,
     source: &[u8],
     position: Position,
     message: u16,
@@ -19,7 +20,7 @@ fn put_diagnostic(
     out.write_all(b" ")?;
     // Where the bytes are not in the source, there is no text.
     if let Some(said) = source.get(start as usize..end as usize) {
-        put_message(out, message, said)?;
+        put_message(out, limit, message, said)?;
     }
     out.write_all(b"\n")
 }
@@ -27,6 +28,7 @@ fn put_diagnostic(
 // Diagnostics stand in the order of their places, so the source is gone through once. Past the end of the slices of places is 0.
 pub fn put_diagnostics(
     out: &mut impl Write,
+    limit: u64,
     source: &[u8],
     messages: &[u16],
     starts: &[u32],
@@ -38,7 +40,7 @@ pub fn put_diagnostics(
     let stops = stops.iter().copied().chain(iter::repeat(0));
     for ((&message, start), end) in messages.iter().zip(starts).zip(stops) {
         let position = walk.position(start as usize);
-        put_diagnostic(out, source, position, message, start, end)?;
+        put_diagnostic(out, limit, source, position, message, start, end)?;
     }
     Ok(())
 }

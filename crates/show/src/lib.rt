@@ -4,6 +4,7 @@
 use answer::{Answer, FourNumbers};
 use cst::Slices;
 use frames::output::{Output, write_tagged};
+use grammar::limit::MAX_CONTROL_FLOW_NESTING;
 use std::io;
 use std::io::Write;
 
@@ -31,6 +32,7 @@ fn put_row(out: &mut impl Write, answer: Answer) -> io::Result<()> {
 // The first `e` events and `d` diagnostics, as far as the slices go.
 fn put_lists(
     out: &mut impl Write,
+    limit: u64,
     source: &[u8],
     slices: &Slices<'_>,
     e: usize,
@@ -41,6 +43,7 @@ fn put_lists(
     events::put_events(out, slices.ends, &slices.events[..e])?;
     diagnostics::put_diagnostics(
         out,
+        limit,
         source,
         &slices.messages[..d],
         slices.starts,
@@ -48,12 +51,17 @@ fn put_lists(
     )
 }
 
-// What `tree` prints for a source, the slices being its room, to any writer.
-pub fn write_tree(out: &mut impl Write, source: &[u8], slices: &mut Slices<'_>) -> io::Result<()> {
+// What `tree` prints for a source at a limit, the slices being its room, to any writer.
+pub fn write_tree(
+    out: &mut impl Write,
+    limit: u64,
+    source: &[u8],
+    slices: &mut Slices<'_>,
+) -> io::Result<()> {
     if LONGEST < source.len() {
         return out.write_all(b"long\n");
     }
-    let answer = cst::parse_text(source, slices);
+    let answer = cst::parse_text(limit, source, slices);
     put_row(out, answer)?;
     match answer {
         Answer::OutputRoom {
@@ -65,12 +73,12 @@ pub fn write_tree(out: &mut impl Write, source: &[u8], slices: &mut Slices<'_>) 
             events,
             diagnostics,
             ..
-        } => put_lists(out, source, slices, events, diagnostics),
+        } => put_lists(out, limit, source, slices, events, diagnostics),
         _ => Ok(()),
     }
 }
 
-// The same to standard output. `Output` never fails, so there is no result to look at, and the caller needs no case of an error.
+// The same to standard output, at the unit's limit. `Output` never fails, so there is no result to look at, and the caller needs no case of an error.
 pub fn put_tree<P: Print>(out: &mut Output<'_, '_, P>, source: &[u8], slices: &mut Slices<'_>) {
-    let _ = write_tree(out, source, slices);
+    let _ = write_tree(out, MAX_CONTROL_FLOW_NESTING.into(), source, slices);
 }

@@ -1,5 +1,6 @@
 // The texts of the messages, by number (docs/MESSAGES.md), and no Display of `Message`: the slice that is printed holds numbers.
-use grammar::message::Message;
+use frames::output::write_numbers;
+use grammar::message::{Message, PlainMessage};
 use std::io;
 use std::io::Write;
 
@@ -54,17 +55,21 @@ static TEXTS: &[&str] = &[
     "unexpected token in block",
     "expected `]` to close structured operation suffix",
     "expected a structured operation suffix",
-    "control-flow nesting depth exceeded the maximum depth of 256",
+    "control-flow nesting depth exceeded the maximum depth of",
     "unrecognized token",
     "unexpected closing delimiter `)`",
     "unexpected closing delimiter `]`",
     "unexpected closing delimiter `}`",
 ];
 
-// The text of message n, or nothing where there is no such message. For an unrecognized token it goes on with the token, in backticks.
-pub fn put_message(out: &mut impl Write, n: u16, token: &[u8]) -> io::Result<()> {
+// The text of message n, or nothing where there is no such message. Past the depth limit it goes on with the limit, for an unrecognized token
+// with the token, in backticks.
+pub fn put_message(out: &mut impl Write, limit: u64, n: u16, token: &[u8]) -> io::Result<()> {
     let text = TEXTS.get(usize::from(n)).copied().unwrap_or("");
     out.write_all(text.as_bytes())?;
+    if n == u16::from(Message::Plain(PlainMessage::NestingTooDeep)) {
+        write_numbers(out, &[limit])?;
+    }
     if n == u16::from(Message::UnrecognizedToken) {
         out.write_all(b" `")?;
         out.write_all(token)?;

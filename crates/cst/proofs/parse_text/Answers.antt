@@ -1,24 +1,25 @@
--- `cst::parse_text` meets its contract: rows 1 and 2 are past where there is a text. Assumes nothing.
-use Prim.Native.Nat.{ℕ, ◌≤◌}
-use mathlib.Core.Path.{◌≡◌, refl, sym, ◌∙◌}
+-- `cst::parse_text` meets its contract: row 9, or the rows from 1 on where the limit is allowed. Assumes nothing.
+use mathlib.Core.Bool.{true, false}
 use mathlib.Core.List.{List}
-use borrow.Author.Tests.{le-ltb}
-use lib.ListN.{length}
-use Rattle.lexer.specs.Tokens.{MAX_SOURCE}
-use Rattle.std.specs.Prelude.{Ok}
-use Rattle.utf8.specs.Validate.{validate}
-use Rattle.answer.specs.Answer.{Slices, Outcome, with_tokens, from_row_3, from_row_2, parse_text}
+use mathlib.Core.Path.{◌≡◌, refl, sym, ◌∙◌}
+use Prim.Native.Nat.{ℕ}
+use Rattle.grammar.specs.Block.{limit_allowed}
+use Rattle.answer.specs.declared.Answer.TheVariants.{LimitOutOfRange}
+use Rattle.answer.specs.Answer.{Slices, Outcome, outcome, from_row_1, parse_text}
 use Rattle.cst.proofs.parse_text.Goals as goal
 
--- The text b is the source's.
-goes_on : (b source : List ℕ) (s : Slices) {o : Outcome} → b ≡ source → length b ≤ MAX_SOURCE → validate b ≡ Ok tt
-    → o ≡ from_row_3 b (with_tokens b s) → o ≡ parse_text source s
-unfolding parse_text from_row_2
-goes_on b source s same h v e = rw (sym same) (e ∙ rw (le-ltb MAX_SOURCE (length b) h, v) refl)
+module _ (limit : ℕ) (source : List ℕ) (s : Slices) where
+  outside : limit_allowed limit ≡ false → outcome LimitOutOfRange s ≡ parse_text limit source s
+  unfolding parse_text
+  outside h = rw h refl
 
-pub returns-in-Err-clause-answer : goal.returns-in-Err-clause-answer
-returns-in-Err-clause-answer c = sym (c.in-Err.ensures.1 _)
+  -- The limit n is this one.
+  within : {n : ℕ} {o : Outcome} → limit_allowed limit ≡ true → n ≡ limit → o ≡ from_row_1 n source s → o ≡ parse_text limit source s
+  unfolding parse_text
+  within h same e = rw h (rw (sym same) e)
 
-pub returns-in-Ok-clause-answer : goal.returns-in-Ok-clause-answer
-returns-in-Ok-clause-answer c =
-    goes_on _ _ _ c.in-Ok.ensures.0 c.in-Ok.text.within_limit c.in-Ok.text.is_utf8 c.parse_utf8.ensures.answer
+pub returns-in-None-clause-answer : goal.returns-in-None-clause-answer
+returns-in-None-clause-answer c = outside _ _ _ (sym c.in-None.ensures.allowed)
+
+pub returns-in-Some-clause-answer : goal.returns-in-Some-clause-answer
+returns-in-Some-clause-answer c = within _ _ _ (sym c.in-Some.ensures.allowed) c.in-Some.ensures.same c.parse_from_row_1.ensures.answer

@@ -6,7 +6,7 @@ use Rattle.blocks.specs.declared.arm.BlockArm.{BlockArm}
 use Rattle.blocks.specs.Arms.{by_block_arm}
 use Rattle.blocks.proofs.Laws.{meant, deeper, round, said_no_item, gives, at_form, at_end, from_form, repeat_here, formed, finish_at, no_condition, condition, at_while, no_else, with_else}
 use Rattle.parser.proofs.Kit.{on_to, off_to, node_to, bind_to, yes_to, no_to}
-use Rattle.grammar.specs.Block.{MAX_CONTROL_FLOW_NESTING as limit, parse_block, parse_control_flow, do_condition, parse_do_while, parse_if, ended, parse_repeat, parse_while}
+use Rattle.grammar.specs.Block.{parse_block, parse_control_flow, do_condition, parse_do_while, parse_if, ended, parse_repeat, parse_while}
 use Rattle.grammar.specs.Words.{is, DO, IF, WHILE}
 use Rattle.parser.proofs.Ahead.{at_here, at_not, at_other}
 use Rattle.blocks.specs.Shapes.{else_part}
@@ -27,21 +27,21 @@ unfolding parse_block by_block_arm
 block_from-returns-then-f t c =
     let begun = c.first_rounds-s.ensures in
     let here = (at_form c.loop-s.parser c.in-Form.is (c.loop-s.invariant.on _ begun.rounds)).there in
-    let form = deeper c.args.start.place.depth.forms c.deeper.ensures c.parse_control_flow-f.ensures.ran in
+    let form = deeper c.args.start.place.depth c.deeper.result c.deeper.ensures c.parse_control_flow-f.ensures.ran in
     let rest = bind_to _ form (on_to _ c.if-f.true (gives c.ended_file.ensures.outcome)) in
-    let inside = here.on _ _ (round c.args.start.place BlockArm.Control (sym here.arm) refl (off_to _ (lt-leb limit c.args.start.place.depth.forms here.below) rest)) in
+    let inside = here.on _ _ (round c.args.start.place BlockArm.Control (sym here.arm) refl (off_to _ (lt-leb _ _ here.below) rest)) in
     record { ran = node_to _ begun.wrote inside c.ended_file.ensures.wrote; here = said_no_item c.ended_file.ensures.item }
 
 pub block_from-loop-s-preserved : goal.block_from-loop-s-preserved
 unfolding by_block_arm
 block_from-loop-s-preserved t c =
-    let form = deeper c.args.start.place.depth.forms c.deeper.ensures c.parse_control_flow-f.ensures.ran in
+    let form = deeper c.args.start.place.depth c.deeper.result c.deeper.ensures c.parse_control_flow-f.ensures.ran in
     let i = c.loop-s.invariant in
     record {
       on = λ w r.
           let rounds = at_form c.loop-s.parser c.in-Form.is (i.on w r) in
           let here = rounds.there in
-          from_form _ rounds (λ u x h. round c.args.start.place BlockArm.Control (sym here.arm) refl (off_to _ (lt-leb limit c.args.start.place.depth.forms here.below) (bind_to _ form (off_to _ c.if-f.false h))))
+          from_form _ rounds (λ u x h. round c.args.start.place BlockArm.Control (sym here.arm) refl (off_to _ (lt-leb _ _ here.below) (bind_to _ form (off_to _ c.if-f.false h))))
           c.parse_control_flow-f.ensures.ran.ran.onward c.next_rounds-s.ensures;
     }
 
@@ -109,38 +109,40 @@ parse_control_flow-returns-in_default t c =
     }
 
 pub parse_do_while-keyword_line-line-requires : goal.parse_do_while-keyword_line-line-requires
-parse_do_while-keyword_line-line-requires t c = at_while c.args.depth.forms c.inner_block-b.ensures.ran (sym c.found_terminator.ensures ∙ c.if-found_terminator.true)
+parse_do_while-keyword_line-line-requires t c = at_while _ c.args.depth.forms c.inner_block-b.ensures.ran (sym c.found_terminator.ensures ∙ c.if-found_terminator.true)
 
 pub parse_do_while-returns : goal.parse_do_while-returns
 unfolding parse_do_while
 parse_do_while-returns t c =
+    let limit = c.args.depth.limit.forms in
     let depth = c.args.depth.forms in
     let first = c.inner_block-b.ensures.ran in
     elim c.if-found_terminator.branch [
       | parse_do_while-then-found_terminator w ↦
           (let end = finish_at w.parser-is w.b-is c.finish.ensures in
           let last = w.inner_block-b-then-found_terminator.ensures.ran in
-          let rest = condition depth c.inner_block-b.result.outcome c.found_terminator.ensures w.if-found_terminator.true w.keyword_line-line.ensures last end.ran in
+          let rest = condition limit depth c.inner_block-b.result.outcome c.found_terminator.ensures w.if-found_terminator.true w.keyword_line-line.ensures last end.ran in
           formed _ (do_condition (parse_block limit) depth) c.do_header-h.ensures first end rest)
       | parse_do_while-else-found_terminator w ↦
           (let end = finish_at w.parser-is w.b-is c.finish.ensures in
-          formed _ (do_condition (parse_block limit) depth) c.do_header-h.ensures first end (no_condition depth c.inner_block-b.result.outcome c.found_terminator.ensures w.if-found_terminator.false end.ran))
+          formed _ (do_condition (parse_block limit) depth) c.do_header-h.ensures first end (no_condition limit depth c.inner_block-b.result.outcome c.found_terminator.ensures w.if-found_terminator.false end.ran))
     ]
 
 pub parse_if-returns : goal.parse_if-returns
 unfolding parse_if
 parse_if-returns t c =
+    let limit = c.args.depth.limit.forms in
     let depth = c.args.depth.forms in
     let first = c.inner_block-b.ensures.ran in
     elim c.if-goes_to_else.branch [
       | parse_if-then-goes_to_else w ↦
           (let end = finish_at w.parser-is w.b-is c.finish.ensures in
           let last = w.inner_block-b-then-goes_to_else.ensures.ran in
-          let rest = with_else depth c.inner_block-b.result.outcome c.goes_to_else.ensures w.if-goes_to_else.true w.keyword_line-line.ensures last end.ran in
+          let rest = with_else limit depth c.inner_block-b.result.outcome c.goes_to_else.ensures w.if-goes_to_else.true w.keyword_line-line.ensures last end.ran in
           formed _ (else_part (parse_block limit) depth) c.header-h.ensures first end rest)
       | parse_if-else-goes_to_else w ↦
           (let end = finish_at w.parser-is w.b-is c.finish.ensures in
-          formed _ (else_part (parse_block limit) depth) c.header-h.ensures first end (no_else depth c.inner_block-b.result.outcome c.goes_to_else.ensures w.if-goes_to_else.false end.ran))
+          formed _ (else_part (parse_block limit) depth) c.header-h.ensures first end (no_else limit depth c.inner_block-b.result.outcome c.goes_to_else.ensures w.if-goes_to_else.false end.ran))
     ]
 
 pub parse_repeat-returns : goal.parse_repeat-returns

@@ -9,7 +9,6 @@ use Rattle.blocks.proofs.Laws.{meant, takes, round, absorbs, no_item, from_here}
 use Rattle.parser.proofs.Ahead.{remembers_later}
 use Rattle.parser.proofs.Kit.{same_file, same_remaining, ◌farther◌, ◌then_to◌, goes_on}
 use Rattle.parser.proofs.Laws.{past_here}
-use Rattle.grammar.specs.Block.{MAX_CONTROL_FLOW_NESTING as limit}
 use Rattle.blocks.proofs.rounds.rounds.Goals as goal
 
 pub loop-t-smaller : goal.loop-t-smaller
@@ -26,7 +25,7 @@ loop-t-preserved c =
     let p = c.args.place in (
       goes_on i (λ w' r k.
           round p (BlockArm.Takes _) c.block_arm_here.ensures.arm c.in-Takes.is
-          (t.ensures then_to absorbs limit p.owner p.terminators p.depth.forms v.ensures k)),
+          (t.ensures then_to absorbs p.depth.limit.forms p.owner p.terminators p.depth.forms v.ensures k)),
       c.loop-t.invariant.1 farther t.ensures.onward farther v.ensures.onward,
       remembers_later _ (same_file (t.ensures.onward farther v.ensures.onward)) (omega (arith, t.ensures.onward, v.ensures.onward)) c.block_arm_here.ensures.known,
       no_item,

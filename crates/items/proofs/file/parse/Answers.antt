@@ -5,4 +5,4 @@ use Rattle.parser.proofs.Kit.{node}
 use Rattle.items.proofs.file.parse.Goals as goal
 
 pub returns : goal.returns
-returns c = whole _ c.requires (search rules) (search rules) (search rules) (from_start c.default.ensures (node _ c.start_node-a.ensures c.source_items-b.ensures c.finish_node.ensures))
+returns c = whole c.args.limit.forms _ c.requires (search rules) (search rules) (search rules) (from_start c.args.limit.forms c.default.ensures (node _ c.start_node-a.ensures c.source_items-b.ensures c.finish_node.ensures))
