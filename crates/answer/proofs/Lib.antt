@@ -6,7 +6,10 @@ pub mod JoinedCalls
 pub mod Facts
 pub mod MissingEnds
 pub mod CutOff
+pub mod HigherLimit
 pub mod JoinedLines
 pub mod Cases
 pub mod Needed
 pub mod Instances
+pub mod Limits
+pub mod HigherNeeded

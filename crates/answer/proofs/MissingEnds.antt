@@ -1,6 +1,6 @@
 -- Missing closers, of every call that returned 0.
 -- Assumes nothing.
-use Rattle.std.specs.Prelude.{ℕ, zero, suc, ◌≡◌, refl, Bool, true, false, cond, length}
+use Rattle.std.specs.Prelude.{ℕ, ◌≡◌, refl, Bool, true, false, cond, length}
 use Rattle.std.proofs.Common.{sym, ap, subst, ◌∙◌}
 use mathlib.Core.List.{List, [], ◌∷◌, map}
 use Rattle.std.proofs.lemmas.List.{length-map}
@@ -14,6 +14,7 @@ use Rattle.grammar.specs.Out.{Diag, diags, Place, place, places}
 use Rattle.grammar.specs.Source.{symbols, source_places}
 use Rattle.grammar.specs.Source
 use Rattle.grammar.specs.Endings.{ending, endings, Endings}
+use Rattle.grammar.specs.Laws.Out.{place_msg}
 use Rattle.grammar.proofs.Theorems.MissingEnds.{one_missing_end}
 use Rattle.answer.specs.Answer.{Slices}
 use Rattle.answer.specs.Call.{MasmParseText}
@@ -24,11 +25,6 @@ use Rattle.answer.specs.MissingEnds.{diagnostics_of, place_endings, CallEnd, Mis
 of_places : (ps : List Place) → diagnostics_of (map (λ p. p.msg) ps) (map (λ p. p.start) ps) (map (λ p. p.stop) ps) ≡ ps
 of_places [] = refl
 of_places (p ∷ ps) = ap (λ (l : List Place). p ∷ l) (of_places ps)
-
-place_msg : (m : ℕ) (es : List ℕ) (s anchor i : ℕ) → (place m es s anchor i).msg ≡ m
-place_msg m [] s anchor i = refl
-place_msg m (e ∷ es) s anchor zero = refl
-place_msg m (e ∷ es) s anchor (suc i) = place_msg m es e anchor i
 
 place_end : (m : ℕ) (es : List ℕ) (s anchor : ℕ) → place m es s anchor (length es) ≡ record { msg = m; start = anchor; stop = anchor }
 place_end m [] s anchor = refl

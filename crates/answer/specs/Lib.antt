@@ -15,5 +15,6 @@ pub mod Within
 pub mod Facts
 pub mod MissingEnds
 pub mod CutOff
+pub mod HigherLimit
 pub mod Cases
 pub mod Spaces

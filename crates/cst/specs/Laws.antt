@@ -14,12 +14,12 @@ use Rattle.lexer.specs.Laws.{length_ends}
 use Rattle.grammar.specs.Words.{kind_of}
 use Rattle.grammar.specs.Out.{Diag, diags}
 use Rattle.grammar.specs.Source.{symbols, source_places}
+use Rattle.grammar.specs.Laws.Out.{messages_of_places}
 use Rattle.items.specs.Entry.{ParserSlices, Parse}
 use Rattle.marks.specs.Marks.{first_refused}
 use Rattle.marks.specs.Code.{mark}
 use Rattle.marks.specs.Laws.{marks_unmarked}
 use Rattle.places.specs.Places.{Places}
-use Rattle.places.proofs.Laws.{messages_of_places}
 use Rattle.places.proofs.Writes.{places_over}
 use Rattle.answer.specs.declared.Answer.{Answer}
 use Rattle.answer.specs.declared.Answer.TheVariants.{TokenRoom}

@@ -58,12 +58,7 @@ fn parse_from_row_5(limit: NestingLimit, text: Text, t: usize, slices: Slices) -
 }
 
 // Rows 3 and 4: tokens that have no room, a refused word; else the rest of the reading.
-pub fn parse_from_row_3(
-    limit: NestingLimit,
-    text: Text,
-    read: Read,
-    slices: &mut Slices,
-) -> Answer
+pub fn parse_from_row_3(limit: NestingLimit, text: Text, read: Read, slices: &mut Slices) -> Answer
     requires { (read.refusal ≡ first_refused 0 (tokenize text.bytes.now))
         × (MarkedTokens text.bytes.now read.count slices.old.kinds.now slices.old.ends.now) }
     ensures same_slices { SameSlices slices.old slices.new }

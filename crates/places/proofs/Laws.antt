@@ -17,11 +17,7 @@ pub place_is : (m : ℕ) (ends : List ℕ) (anchor i : ℕ) → place m ends 0 a
 unfolding start_of stop_of
 place_is m ends anchor i = place_from m ends 0 anchor i
 
--- the messages, the starts and the stops of grammar's places
-pub messages_of_places : (ends : List ℕ) (anchor : ℕ) (l : List Diag) → map (λ p. p.msg) (places ends anchor l) ≡ map (λ d. d.msg) l
-messages_of_places ends anchor [] = refl
-messages_of_places ends anchor (d ∷ l) = ap₂ ◌∷◌ (ap (λ (p : Place). p.msg) (place_is d.msg ends anchor d.pos)) (messages_of_places ends anchor l)
-
+-- the starts and the stops of grammar's places
 pub starts_of_places : (ends : List ℕ) (anchor : ℕ) (l : List Diag) → map (λ p. p.start) (places ends anchor l) ≡ map (start_of ends anchor) (map (λ d. d.pos) l)
 starts_of_places ends anchor [] = refl
 starts_of_places ends anchor (d ∷ l) = ap₂ ◌∷◌ (ap (λ (p : Place). p.start) (place_is d.msg ends anchor d.pos)) (starts_of_places ends anchor l)

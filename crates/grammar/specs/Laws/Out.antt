@@ -1,12 +1,12 @@
--- Events and diagnostics of one forest behind another.
+-- Events and diagnostics of one forest behind another, and the messages of places.
 -- Assumes nothing.
-use Rattle.std.specs.Prelude.{ℕ, suc, ◌+◌, ◌≡◌, refl, Bool, true, false, length}
+use Rattle.std.specs.Prelude.{ℕ, zero, suc, ◌+◌, ◌≡◌, refl, Bool, true, false, length}
 use Rattle.std.proofs.Common.{sym, ◌∙◌, ap, ap₂, length-append, arith}
 use mathlib.Core.List.{List, [], ◌∷◌, ◌++◌, append_assoc, map, map-append, drop_last}
 use Rattle.lexer.specs.Syntax
 use Rattle.grammar.specs.Words.{is}
 use Rattle.grammar.specs.Run.{num, Forest, nil, leaf, node, say, ◌<>◌, leaves}
-use Rattle.grammar.specs.Out.{kind, ev, Diag, noted, dg}
+use Rattle.grammar.specs.Out.{kind, ev, Diag, noted, dg, place, places}
 use Rattle.grammar.specs.Joins.{move}
 
 pub ev_app : (x y : Forest) → ev (x <> y) ≡ ev x ++ ev y
@@ -39,3 +39,13 @@ pub but_last : (l : List ℕ) (e : ℕ) → drop_last (l ++ e ∷ []) ≡ l
 but_last [] e = refl
 but_last (f ∷ []) e = refl
 but_last (f ∷ g ∷ l) e = ap (λ x. f ∷ x) (but_last (g ∷ l) e)
+
+-- a place has its diagnostic's message
+pub place_msg : (m : ℕ) (es : List ℕ) (s anchor i : ℕ) → (place m es s anchor i).msg ≡ m
+place_msg m [] s anchor i = refl
+place_msg m (e ∷ es) s anchor zero = refl
+place_msg m (e ∷ es) s anchor (suc i) = place_msg m es e anchor i
+
+pub messages_of_places : (es : List ℕ) (anchor : ℕ) (l : List Diag) → map (λ p. p.msg) (places es anchor l) ≡ map (λ d. d.msg) l
+messages_of_places es anchor [] = refl
+messages_of_places es anchor (d ∷ l) = ap₂ ◌∷◌ (place_msg d.msg es 0 anchor d.pos) (messages_of_places es anchor l)

@@ -1,10 +1,9 @@
--- Diagnostics without the depth diagnostic: the premise of HigherLimit in proofs/.
+-- Messages without the depth diagnostic: the premise of HigherLimit in proofs/, and of the theorem about calls in answer.
 -- Assumes nothing: this is a definition.
-use Rattle.std.specs.Prelude.{Bool, true, not, ◌&&◌, List, [], ◌∷◌, eqb}
-use Rattle.grammar.specs.Out.{Diag}
+use Rattle.std.specs.Prelude.{ℕ, Bool, true, not, ◌&&◌, List, [], ◌∷◌, eqb}
 use Rattle.grammar.specs.Laws.StableBlock.{m_depth}
 
--- No diagnostic is the depth diagnostic.
-abbrev pub calmly : List Diag → Bool
-calmly [] = true
-calmly (d ∷ l) = not (eqb m_depth d.msg) && calmly l
+-- None of these messages is the depth diagnostic.
+abbrev pub without_depth : List ℕ → Bool
+without_depth [] = true
+without_depth (m ∷ ms) = not (eqb m_depth m) && without_depth ms
