@@ -5,7 +5,7 @@ use borrow.Author.Tests.{le-leb}
 use Rattle.blocks.specs.declared.arm.BlockArm.{BlockArm}
 use Rattle.blocks.specs.Arms.{by_block_arm}
 use Rattle.blocks.proofs.Laws.{round, said_no_item, gives}
-use Rattle.parser.proofs.Kit.{◌farther◌, on_to, ◌then_to◌}
+use Rattle.parser.proofs.Kit.{stays, ◌farther◌, on_to, ◌then_to◌}
 use Rattle.blocks.proofs.rounds.form_here.Goals as goal
 
 pub returns-then-place : goal.returns-then-place
@@ -21,4 +21,12 @@ returns-then-place c =
         wrote = c.ended_file.ensures.wrote;
         here = said_no_item c.ended_file.ensures.item;
       };
+    }
+
+-- At a form below the limit nothing was done.
+pub returns : goal.returns
+returns c =
+    record {
+      onward = stays;
+      there = record { on = λ v r h. h; arm = c.requires; below = omega arith };
     }
