@@ -41,9 +41,9 @@ int main(int count, char **words)
         perror("read");
         return 3;
     }
-    uint64_t status = masm_parse_text(source, length, SLICE(kinds), SLICE(token_ends),
-                                      SLICE(events), SLICE(messages), SLICE(starts), SLICE(ends),
-                                      SLICE(counts));
+    uint64_t status = masm_parse_text(MASM_MAX_CONTROL_FLOW_NESTING, source, length, SLICE(kinds),
+                                      SLICE(token_ends), SLICE(events), SLICE(messages),
+                                      SLICE(starts), SLICE(ends), SLICE(counts));
     puts(masm_status_text(status));
     if (status != MASM_ACCEPTED)
         return 2;

@@ -9,8 +9,8 @@
    other name, and needs nothing but `memset`.
 
    masm_names.h names kinds and statuses, masm_messages.h has the texts of the diagnostics, and
-   docs/TREE.md says what stands under each node. examples/read.c is a program to start from, and
-   examples/lines.c shows the second call. */
+   docs/TREE.md says what stands under each node. examples/read.c is a program to start from,
+   examples/preview.c reads on a small stack, and examples/lines.c shows the second call. */
 #ifndef MASM_CST_H
 #define MASM_CST_H
 
@@ -21,16 +21,22 @@
 extern "C" {
 #endif
 
-/* The longest source, in bytes, and the most nodes that are ever open together. */
+/* The longest source, in bytes. */
 #define MASM_MAX_SOURCE 1048576u
-#define MASM_MAX_OPEN 516u
 
-/* The stack that a call takes, in bytes: measured (tests/c/stack_test.c), not proved. */
-#define MASM_STACK 81920u
+/* The unit's limit on control-flow nodes in each other, and the largest. */
+#define MASM_MAX_CONTROL_FLOW_NESTING 256u
+
+/* The most nodes that are open together in a reading at a limit. */
+#define MASM_MAX_OPEN(limit) (2 * MASM_SIZE(limit) + 4)
+
+/* The stack that a reading at a limit takes, in bytes: measured (tests/c/stack_test.c), not proved.
+   MASM_STACK(1) is enough for masm_lines. */
+#define MASM_STACK(limit) (256 * MASM_SIZE(limit) + 16384)
 
 /* Lengths of slices that suffice for every source of up to n bytes. None is 0, so that for an empty
-   source too malloc, or a vector's data(), gives a pointer that is not null. n is evaluated once.
-   Above MASM_MAX_SOURCE a source is refused, whatever the rooms. */
+   source too malloc, or a vector's data(), gives a pointer that is not null. Above MASM_MAX_SOURCE
+   a source is refused, whatever the rooms. Each macro here evaluates n, or the limit, once. */
 #define MASM_SOURCE_ROOM(n) (MASM_SIZE(n) + 1)
 #define MASM_TOKEN_ROOM(n) (MASM_SIZE(n) + 1)
 #define MASM_EVENT_ROOM(n) (7 * MASM_SIZE(n) + 2)
@@ -44,7 +50,7 @@ extern "C" {
 #endif
 
 /* What the call returns: what is then in counts[0], [1] and [2], when, and what is written to the
-   other slices. All else is as it was before. Checked in the order 6, 1, 2, 3, 4, 5. */
+   other slices. All else is as it was before. Checked in the order 6, 9, 1, 2, 3, 4, 5. */
 enum masm_status {
     MASM_ACCEPTED = 0,     /* T, E, D, the numbers of tokens, events and diagnostics; all of them */
     MASM_TOO_LONG = 1,     /* 0, 0, 0: over MASM_MAX_SOURCE bytes; nothing */
@@ -54,7 +60,9 @@ enum masm_status {
     MASM_UNWANTED = 4,     /* offset, 0, 0: of the first `use` or `extern`; all tokens */
     MASM_OUTPUT_SHORT = 5, /* T, E, D: more events or diagnostics than fit; all tokens, and the
                               first events and diagnostics that fit */
-    MASM_COUNTS_SHORT = 6  /* nothing, counts too: it is shorter than MASM_COUNTS */
+    MASM_COUNTS_SHORT = 6, /* nothing, counts too: it is shorter than MASM_COUNTS */
+    MASM_LIMIT_OUT_OF_RANGE = 9 /* 0, 0, 0: the limit is 0, or above
+                                   MASM_MAX_CONTROL_FLOW_NESTING; nothing */
 };
 
 /* In counts[1] behind MASM_NOT_UTF8: the source ends in the middle of a character, as when its
@@ -134,6 +142,12 @@ enum masm_kind {
 
 /* Reads `source`. Each slice is a pointer and a length in elements.
 
+   limit: the most control-flow nodes (MASM_IF_OP to MASM_REPEAT_OP) in each other. Where one more
+   begins, the rest of the file is one MASM_ERROR node with message MASM_NESTING_TOO_DEEP
+   (masm_messages.h), and no missing `end` is reported. The unit passes
+   MASM_MAX_CONTROL_FLOW_NESTING, a service with small stacks a smaller limit. A file without that
+   message at a limit reads the same at every larger one. Files to be joined and the whole are read
+   at one limit.
    token_kinds, token_ends: a token's kind and the offset behind its last byte; it starts where the
    one before ended. The room for tokens is the shorter length.
    events: the tree from its root, a MASM_SOURCE_FILE; the tokens in it are all tokens in order.
@@ -157,7 +171,7 @@ enum masm_kind {
    kinds with marks on them and starts holds token indices. Then nothing outside the slices is read
    or written but the stack. Any number of threads may call at once, with slices of their own; they
    may share a source. */
-uint64_t masm_parse_text(const uint8_t *source, size_t source_len,
+uint64_t masm_parse_text(uint64_t limit, const uint8_t *source, size_t source_len,
                          uint16_t *token_kinds, size_t token_kinds_len,
                          uint32_t *token_ends, size_t token_ends_len,
                          uint16_t *events, size_t events_len,

@@ -13,10 +13,31 @@
    direction of writing, a megabyte in one line. Show it by masm_escape. */
 #define MASM_UNRECOGNIZED 50u
 
-/* The text of a number from 1 to MASM_MESSAGES; of any other an empty one. It is printable ASCII
-   with nothing of the script in it: the token of MASM_UNRECOGNIZED is the caller's to add, by
-   masm_escape. */
-static inline const char *masm_message(uint16_t number)
+/* This text names the limit of the reading, and masm_message writes it: MASM_MESSAGE_ROOM bytes
+   hold it with any limit, and a NUL. */
+#define MASM_NESTING_TOO_DEEP 49u
+#define MASM_MESSAGE_ROOM 78u
+
+/* Writes a text, behind it a number in decimal, and a NUL. Returns what it wrote. */
+static inline const char *masm_with_number(const char *start, uint64_t number, char *text)
+{
+    char digits[20];
+    size_t first = sizeof digits, length = strlen(start);
+    do
+        digits[--first] = "0123456789"[number % 10];
+    while ((number /= 10) > 0);
+    memcpy(text, start, length);
+    memcpy(text + length, digits + first, sizeof digits - first);
+    text[length + sizeof digits - first] = '\0';
+    return text;
+}
+
+/* The text of a number from 1 to MASM_MESSAGES in a reading at a limit; of any other an empty one.
+   It is printable ASCII with nothing of the script in it: the token of MASM_UNRECOGNIZED is the
+   caller's to add, by masm_escape. That of MASM_NESTING_TOO_DEEP is written to `text` and returned
+   there; for all others `text` is left alone. */
+static inline const char *masm_message(uint64_t limit, uint16_t number,
+                                       char text[MASM_MESSAGE_ROOM])
 {
     static const char *const texts[MASM_MESSAGES + 1] = {
         "",
@@ -68,12 +89,14 @@ static inline const char *masm_message(uint16_t number)
         "unexpected token in block",
         "expected `]` to close structured operation suffix",
         "expected a structured operation suffix",
-        "control-flow nesting depth exceeded the maximum depth of 256",
+        "control-flow nesting depth exceeded the maximum depth of ",
         "unrecognized token",
         "unexpected closing delimiter `)`",
         "unexpected closing delimiter `]`",
         "unexpected closing delimiter `}`"
     };
+    if (number == MASM_NESTING_TOO_DEEP)
+        return masm_with_number(texts[number], limit, text);
     return number <= MASM_MESSAGES ? texts[number] : "";
 }
 

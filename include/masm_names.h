@@ -88,6 +88,7 @@ static inline const char *masm_status_text(uint64_t status)
     case MASM_OUTPUT_SHORT:
         return "the script has more events or diagnostics than there is room for";
     case MASM_COUNTS_SHORT: return "the slice of counts is shorter than 3";
+    case MASM_LIMIT_OUT_OF_RANGE: return "the limit on control-flow nesting is not from 1 to 256";
     default: return "";
     }
 }
