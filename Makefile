@@ -1,5 +1,5 @@
 # The front door. Each target is one command; `make test` is the gate.
-.PHONY: fold read lines check test differ large calls fuzz growth speed store samples mutants choose economy index
+.PHONY: fold read preview lines check test differ large calls fuzz growth speed store samples mutants choose economy index
 .DELETE_ON_ERROR:
 MAKEFLAGS += --no-builtin-rules
 
@@ -11,6 +11,10 @@ fold: target/fold
 # The same for the program to start from.
 read: target/read
 	@target/read $(FILE) || [ $$? -eq 1 ]
+
+# The same for a service that previews at a limit of 64, on a small stack.
+preview: target/preview
+	@target/preview $(FILE) || [ $$? -eq 1 ]
 
 # The line and column of every offset of FILE.
 lines: target/lines
@@ -24,6 +28,9 @@ target/fold: $(wildcard examples/fold/* include/*.h) $(archive)
 
 target/read: examples/read.c $(wildcard include/*.h) $(archive)
 	$(CC) $(C_FLAGS) $< $(archive) -o $@
+
+target/preview: examples/preview.c $(wildcard include/*.h) $(archive)
+	$(CC) $(C_FLAGS) -pthread $< $(archive) -o $@
 
 target/lines: examples/lines.c $(wildcard include/*.h) $(archive)
 	$(CC) $(C_FLAGS) $< $(archive) -o $@
