@@ -104,8 +104,10 @@ static void show_report(const struct reading *r, size_t start, size_t end, const
 void show_diagnostics(const struct reading *r)
 {
     size_t shown = r->diagnostics < MOST_SHOWN ? r->diagnostics : MOST_SHOWN;
+    char text[MASM_MESSAGE_ROOM];
     for (size_t i = 0; i < shown; i++)
-        show_report(r, r->starts[i], r->ends[i], "diagnostic", masm_message(r->messages[i]));
+        show_report(r, r->starts[i], r->ends[i], "diagnostic",
+                    masm_message(r->limit, r->messages[i], text));
     if (shown == r->diagnostics)
         return;
     start_row('>', "");

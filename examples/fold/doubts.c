@@ -76,7 +76,7 @@ static struct doubts find_doubts(const struct reading *r, struct survey *s, cons
     struct doubts d = { 0 };
     bool in_body = false;
     uint16_t before = MASM_NEWLINE;
-    size_t end = item->token_end < s->limit ? item->token_end : s->limit;
+    size_t end = item->token_end < s->read_end ? item->token_end : s->read_end;
     size_t line = first_line(r, item->token); /* in which the word before ends */
     for (size_t i = item->token; i < end; i++) {
         uint16_t kind = r->token_kinds[i];
@@ -145,7 +145,7 @@ void show_doubts(const struct reading *r, struct survey *s, const struct item *i
 
 void show_limit(const struct reading *r, const struct survey *s)
 {
-    start_row('>', "%7zu !  %-10s", first_line(r, s->limit), label_of(MASM_ERROR));
-    put_words("from here on nothing was read: blocks lie deeper than 256");
+    start_row('>', "%7zu !  %-10s", first_line(r, s->read_end), label_of(MASM_ERROR));
+    put_words("from here on nothing was read: blocks lie deeper than %zu", r->limit);
     end_row();
 }

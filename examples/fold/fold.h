@@ -16,6 +16,7 @@ enum { NARROWEST = 40, WIDEST = 1000 };
 struct options {
     bool help, open, ascii;
     size_t width; /* 0 where none is given */
+    size_t limit;
     const char *file;
     const char **names;
     size_t name_count;
@@ -51,9 +52,11 @@ void show_title(const char *left, const char *name);
 void complain(const char *outside, const char *words);
 bool finish_output(void);
 
-/* A source, the line and column of each offset up to its length, and what the call gave of it. */
+/* A source, the line and column of each offset up to its length, and what the call gave of it at a
+   limit. */
 struct reading {
     const char *name;
+    size_t limit;
     uint8_t *source;
     size_t length;
     uint32_t *lines;
@@ -83,8 +86,7 @@ size_t text_end(const struct reading *r, size_t from, size_t to);
 size_t line_count(const struct reading *r);
 
 /* tokens.c */
-enum { TOO_DEEP = 49 }; /* the message where blocks lie too deep (docs/MESSAGES.md) */
-uint64_t parse(struct reading *r);
+uint64_t parse(struct reading *r, size_t limit);
 size_t token_start(const struct reading *r, size_t token);
 size_t token_at(const struct reading *r, size_t offset);
 size_t first_line(const struct reading *r, size_t token);
@@ -126,7 +128,7 @@ struct survey {
     struct fact *facts;
     struct item *items;
     size_t item_count;
-    size_t limit; /* the token from which on nothing was read: the depth limit */
+    size_t read_end; /* the token from which on nothing was read: blocks lie too deep */
 };
 void make_survey(const struct reading *r, struct survey *s);
 const char *label_of(uint16_t kind);

@@ -23,7 +23,7 @@ static size_t last_text(const struct reading *r, size_t token, size_t end)
 /* Folds an item's block with its `end`, unless they end in the line in which the header ends. */
 static void fold_item(const struct reading *r, struct survey *s, const struct item *item)
 {
-    size_t end = item->token_end < s->limit ? item->token_end : s->limit;
+    size_t end = item->token_end < s->read_end ? item->token_end : s->read_end;
     size_t first = item->block;
     while (first < end && is_blank(r->token_kinds[first]))
         first++;
@@ -140,11 +140,11 @@ static void show_rows(const struct reading *r, struct survey *s, struct totals *
     for (size_t token = 0; token < r->tokens;) {
         bool starts = next < s->item_count && s->items[next].token == token;
         bool folded = (s->facts[token].flags & FOLDED) != 0;
-        if (token == s->limit || folded || (starts && s->items[next].kind != MASM_ERROR))
+        if (token == s->read_end || folded || (starts && s->items[next].kind != MASM_ERROR))
             end_piece(r, &row);
         if (starts)
             show_doubts(r, s, &s->items[next++]);
-        if (token == s->limit)
+        if (token == s->read_end)
             show_limit(r, s);
         if (folded)
             token = show_fold(r, s, &s->items[next - 1], token, totals);

@@ -10,7 +10,7 @@
 /* Shows what was read; the exit status. */
 static int show(struct reading *r, const struct options *o)
 {
-    uint64_t status = parse(r);
+    uint64_t status = parse(r, o->limit);
     if (status != MASM_ACCEPTED) {
         show_refusal(r, status);
         return REFUSED;

@@ -1,5 +1,6 @@
 /* To which token each diagnostic belongs: the row or the fold with that token is marked. */
 #include "fold.h"
+#include "masm_messages.h"
 
 /* Messages by number, as in docs/MESSAGES.md. */
 enum {
@@ -14,7 +15,7 @@ enum {
 static bool is_about_token(uint16_t message)
 {
     return message == UNEXPECTED_AT_TOP || message == MISPLACED_DOC
-        || message == UNEXPECTED_IN_BLOCK || message >= TOO_DEEP;
+        || message == UNEXPECTED_IN_BLOCK || message >= MASM_NESTING_TOO_DEEP;
 }
 
 /* The item that was open when something was missed at a token: the last one that starts before it.

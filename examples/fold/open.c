@@ -49,8 +49,8 @@ static void show_notes(const struct reading *r, struct survey *s, size_t *next, 
 {
     for (; *next < s->item_count && token_start(r, s->items[*next].token) < to; ++*next)
         show_doubts(r, s, &s->items[*next]);
-    size_t limit = token_start(r, s->limit);
-    if (s->limit < r->tokens && limit >= from && limit < to)
+    size_t read_end = token_start(r, s->read_end);
+    if (s->read_end < r->tokens && read_end >= from && read_end < to)
         show_limit(r, s);
 }
 

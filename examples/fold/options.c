@@ -6,7 +6,7 @@
 #include "fold.h"
 
 const char HELP[] =
-    "usage: fold [--open] [--ascii] [--width N] FILE [NAME...]\n"
+    "usage: fold [--open] [--ascii] [--width N] [--limit N] FILE [NAME...]\n"
     "\n"
     "Shows a Miden Assembly script of up to 1048576 bytes; FILE is - for standard\n"
     "input. All lines are shown but those in the blocks of procedures and `begin`\n"
@@ -25,6 +25,8 @@ const char HELP[] =
     "--ascii    escapes every character outside ASCII; so it is in a terminal whose\n"
     "           locale is not UTF-8\n"
     "--width N  columns of a row, 40 to 1000; else the terminal's, COLUMNS, or 80\n"
+    "--limit N  how deep control flow is read, 1 to 256; else 256, as the unit reads.\n"
+    "           What lies deeper, and all behind it, is `unread`\n"
     "\n"
     "A backslash is shown as \\\\. What is invisible or moves the text beside it\n"
     "(controls, marks, right-to-left letters, format characters) is shown as \\t, \\r\n"
@@ -35,18 +37,30 @@ const char HELP[] =
     "Exit status: 0 without diagnostics, 1 with some, 2 if the script is refused,\n"
     "3 if it could not be read or shown or the command line is wrong.\n";
 
+/* Whether a text is a number from `least` to `most`, which has less than five digits. */
+static bool read_number(const char *text, size_t least, size_t most, size_t *number)
+{
+    *number = 0;
+    for (size_t i = 0; text != NULL && isdigit((unsigned char)text[i]) && i < 5; i++)
+        *number = 10 * *number + (size_t)(text[i] - '0');
+    size_t digits = text == NULL ? 0 : strspn(text, "0123456789");
+    return digits > 0 && text[digits] == '\0' && *number >= least && *number <= most;
+}
+
 static bool take_width(struct options *o, const char *text)
 {
-    unsigned long number = 0;
-    for (size_t i = 0; text != NULL && isdigit((unsigned char)text[i]) && i < 5; i++)
-        number = 10 * number + (unsigned long)(text[i] - '0');
-    size_t digits = text == NULL ? 0 : strspn(text, "0123456789");
-    if (digits == 0 || text[digits] != '\0' || number < NARROWEST || number > WIDEST) {
-        complain("--width", "needs a number of columns from 40 to 1000");
-        return false;
-    }
-    o->width = number;
-    return true;
+    if (read_number(text, NARROWEST, WIDEST, &o->width))
+        return true;
+    complain("--width", "needs a number of columns from 40 to 1000");
+    return false;
+}
+
+static bool take_limit(struct options *o, const char *text)
+{
+    if (read_number(text, 1, MASM_MAX_CONTROL_FLOW_NESTING, &o->limit))
+        return true;
+    complain("--limit", "needs a depth from 1 to 256");
+    return false;
 }
 
 static bool take_option(struct options *o, const char *word)
@@ -59,6 +73,8 @@ static bool take_option(struct options *o, const char *word)
         o->ascii = true;
     else if (strncmp(word, "--width=", 8) == 0)
         return take_width(o, word + 8);
+    else if (strncmp(word, "--limit=", 8) == 0)
+        return take_limit(o, word + 8);
     else {
         complain(word, "no such option; fold --help names them");
         return false;
@@ -89,6 +105,7 @@ static bool is_whole(const struct options *o)
 bool read_options(struct options *o, int count, char **words)
 {
     bool ended = false;
+    o->limit = MASM_MAX_CONTROL_FLOW_NESTING;
     o->names = need((size_t)count, sizeof *o->names);
     for (int i = 1; i < count; i++) {
         const char *word = words[i];
@@ -99,6 +116,8 @@ bool read_options(struct options *o, int count, char **words)
             ended = true;
         else if (strcmp(word, "--width") == 0)
             taken = take_width(o, words[++i]);
+        else if (strcmp(word, "--limit") == 0)
+            taken = take_limit(o, words[++i]);
         else
             taken = take_option(o, word);
         if (!taken)

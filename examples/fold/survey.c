@@ -1,11 +1,12 @@
 /* One walk through the events: what the tree says of each token and of each item. */
 #include "fold.h"
+#include "masm_messages.h"
 
-/* A place in the events. At most MASM_MAX_OPEN nodes are open together, so `kinds` has room. */
+/* A place in the events. `kinds` has room at every limit. */
 struct walk {
     size_t event, token;
     unsigned open, blocks, errors;
-    uint16_t kinds[MASM_MAX_OPEN];
+    uint16_t kinds[MASM_MAX_OPEN(MASM_MAX_CONTROL_FLOW_NESTING)];
     bool fresh;           /* the innermost node has no token yet */
     bool opened, closed;  /* blocks since the last token */
     struct item *item;    /* the one that the walk is in, if any */
@@ -46,10 +47,10 @@ static size_t count_items(const struct reading *r)
 
 /* The token from which on nothing was read because blocks lie too deep; else the number of tokens.
    It is where the only diagnostic of this number stands. */
-static size_t find_limit(const struct reading *r)
+static size_t find_read_end(const struct reading *r)
 {
     for (size_t i = 0; i < r->diagnostics; i++)
-        if (r->messages[i] == TOO_DEEP)
+        if (r->messages[i] == MASM_NESTING_TOO_DEEP)
             return token_at(r, r->starts[i]);
     return r->tokens;
 }
@@ -121,7 +122,7 @@ static bool is_proper(struct walk *w, bool is_word)
 
 static uint8_t label_in(const struct survey *s, const struct walk *w, uint16_t kind)
 {
-    if (w->token >= s->limit)
+    if (w->token >= s->read_end)
         return MASM_ERROR;
     if (w->item == NULL)
         return (uint8_t)kind;
@@ -163,7 +164,7 @@ void make_survey(const struct reading *r, struct survey *s)
     struct walk w = { 0 };
     s->facts = need(r->tokens, sizeof *s->facts);
     s->items = need(count_items(r), sizeof *s->items);
-    s->limit = find_limit(r);
+    s->read_end = find_read_end(r);
     for (; w.event < r->event_count; w.event++) {
         uint16_t event = r->events[w.event];
         if (event >= MASM_WHITESPACE)

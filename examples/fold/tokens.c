@@ -4,8 +4,9 @@
 #include "fold.h"
 
 /* Makes the call with rooms that suffice for any source of this length. */
-uint64_t parse(struct reading *r)
+uint64_t parse(struct reading *r, size_t limit)
 {
+    r->limit = limit;
     size_t n = r->length > MASM_MAX_SOURCE ? 0 : r->length;
     size_t tokens = MASM_TOKEN_ROOM(n), events = MASM_EVENT_ROOM(n);
     size_t diagnostics = MASM_DIAGNOSTIC_ROOM(n);
@@ -15,7 +16,7 @@ uint64_t parse(struct reading *r)
     r->messages = need(diagnostics, sizeof *r->messages);
     r->starts = need(diagnostics, sizeof *r->starts);
     r->ends = need(diagnostics, sizeof *r->ends);
-    uint64_t status = masm_parse_text(r->source, r->length, r->token_kinds, tokens,
+    uint64_t status = masm_parse_text(limit, r->source, r->length, r->token_kinds, tokens,
                                       r->token_ends, tokens, r->events, events,
                                       r->messages, diagnostics, r->starts, diagnostics,
                                       r->ends, diagnostics, r->counts, MASM_COUNTS);

@@ -99,9 +99,8 @@ impl Check<'_, '_> {
             expected
                 .extend(doubts(tree, item).words.into_iter().map(|words| (left.clone(), words)));
         }
-        if token == tree.limit && tree.tokens[token].start == next {
-            let words = "from here on nothing was read: blocks lie deeper than 256".to_string();
-            expected.push((format!("{:7} !  {:10}", tree.line_of(next), "unread"), words));
+        if token == tree.read_end && tree.tokens[token].start == next {
+            expected.push(tree.depth_note());
         }
         self.seen.doubts += expected.len() as u64;
         let found = std::mem::take(&mut self.notes);
@@ -247,7 +246,7 @@ impl Check<'_, '_> {
 /// The tokens of an item that are to be folded.
 fn folded(tree: &Tree, item: &Item, named: &[String]) -> Option<Range<usize>> {
     let blank = |token: &usize| is_blank(tree.tokens[*token].kind);
-    let (block, end) = (item.block?, item.end.min(tree.limit));
+    let (block, end) = (item.block?, item.end.min(tree.read_end));
     let first = (block..end).find(|token| !blank(token))?;
     let last = (first..end).rfind(|token| !blank(token))?;
     let header = (item.first..block).rfind(|token| !blank(token))?;

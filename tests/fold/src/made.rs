@@ -2,6 +2,7 @@
 
 use corpus::{random::Random, tails::broken_script};
 use fuzz::{check::Input, generate::case};
+use reference::MAX_CONTROL_FLOW_NESTING;
 
 /// Quotes over lines, line ends of all sorts, letters, delimiters left open, words that start items.
 const PIECES: [&str; 50] = [
@@ -24,20 +25,28 @@ const BROKEN: u64 = 20;
 /// One in so many scripts stands behind blocks up to the limit of depth, or beyond it.
 const DEEP: usize = 40;
 
+/// A script, and the limit of depth at which it is to be shown; the number may be none.
+pub struct Script {
+    pub source: Vec<u8>,
+    pub limit: u64,
+}
+
 /// The script of a number; the same for the same seed.
-pub fn script(seed: u64, number: u64) -> (Vec<u8>, Random) {
+pub fn script(seed: u64, number: u64) -> (Script, Random) {
     let (input, mut random) = case(seed, number);
+    let (limit, mut source) = match input {
+        Input::Source(limit, source) => (limit, source),
+        Input::Pair(limit, first, second) => (limit, [first, second].concat()),
+    };
     if number.is_multiple_of(BROKEN) {
         let (source, end) = (broken_script(&mut random), random.pick(&["\n", "\r\n", "\r"]));
-        return (ended(&source, |_| end, &mut random), random);
+        let source = ended(&source, |_| end, &mut random);
+        return (Script { source, limit }, random);
     }
-    let mut source = match input {
-        Input::Source(source) => source,
-        Input::Pair(first, second) => [first, second].concat(),
-    };
     if random.one_in(DEEP) {
-        let blocks =
-            random.pick(&["if.true\n", "do ", "repeat.2 # c\n"]).repeat(random.between(254, 258));
+        let most = limit.min(MAX_CONTROL_FLOW_NESTING) as usize;
+        let depth = (most + 2).saturating_sub(random.below(5));
+        let blocks = random.pick(&["if.true\n", "do ", "repeat.2 # c\n"]).repeat(depth);
         source = [b"begin\n", blocks.as_bytes(), &source].concat();
     }
     let source = match random.below(8) {
@@ -50,7 +59,7 @@ pub fn script(seed: u64, number: u64) -> (Vec<u8>, Random) {
         _ => pieces(source, &mut random),
     };
     let last = if random.one_in(8) { random.pick(&["\r", "\r\n", "\"\\\r\n", "$\r"]) } else { "" };
-    ([&source, last.as_bytes()].concat(), random)
+    (Script { source: [&source, last.as_bytes()].concat(), limit }, random)
 }
 
 fn ended(

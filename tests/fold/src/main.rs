@@ -14,6 +14,7 @@ mod view;
 use std::{env, path::PathBuf, process::ExitCode, time::Instant};
 
 use folded::Seen;
+use made::Script;
 use view::View;
 
 const USAGE: &str = "usage: fold_check --fold PROGRAM --files N --seed N";
@@ -47,8 +48,8 @@ fn run(program: PathBuf, files: u64, seed: u64) -> ExitCode {
         if number > 0 && number.is_multiple_of(PROGRESS) {
             println!("{number} files, {:.0} s", begun.elapsed().as_secs_f64());
         }
-        let (source, mut random) = made::script(seed, number);
-        let view = View::chosen(program.clone(), &source, &mut random);
+        let (Script { source, limit }, mut random) = made::script(seed, number);
+        let view = View::chosen(program.clone(), limit, &source, &mut random);
         bytes += source.len();
         match view.check(&source) {
             Ok(seen) => add(&mut total, &seen),

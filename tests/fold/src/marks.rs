@@ -48,7 +48,7 @@ pub fn doubts(tree: &Tree, item: &Item) -> Doubts {
     if item.kind == Kind::Error as u16 {
         return Doubts::default();
     }
-    let end = item.end.min(tree.limit);
+    let end = item.end.min(tree.read_end);
     let starts: Vec<usize> =
         (item.first + 1..end).filter(|&token| begins_line(tree, token)).collect();
     let proper = proper(tree, item);

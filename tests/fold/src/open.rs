@@ -66,10 +66,8 @@ fn expected_notes(tree: &Tree, from: usize, to: usize) -> Vec<(String, String)> 
         let left = format!("{line:7}  ? {:10}", tree.item_label(item));
         notes.extend(doubts(tree, item).words.into_iter().map(|words| (left.clone(), words)));
     }
-    if tree.limit < tree.tokens.len() && here(tree.limit) {
-        let line = tree.line_of(tree.tokens[tree.limit].start);
-        let words = "from here on nothing was read: blocks lie deeper than 256".to_string();
-        notes.push((format!("{line:7} !  {:10}", "unread"), words));
+    if tree.read_end < tree.tokens.len() && here(tree.read_end) {
+        notes.push(tree.depth_note());
     }
     notes
 }

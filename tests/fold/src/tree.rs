@@ -46,8 +46,10 @@ pub struct Tree<'a> {
     pub nodes: Vec<Node>,
     pub items: Vec<Item>,
     pub diagnostics: Vec<Diagnostic>,
+    /// How deep blocks may lie.
+    pub limit: u64,
     /// The first token that was not read because blocks lie too deep; else their number.
-    pub limit: usize,
+    pub read_end: usize,
 }
 
 pub fn is_blank(kind: u16) -> bool {
@@ -70,7 +72,7 @@ struct Walk {
 const FIRST_TOKEN: u16 = Kind::Whitespace as u16;
 
 impl<'a> Tree<'a> {
-    pub fn new(source: &'a [u8], parsed: &Parsed) -> Self {
+    pub fn new(source: &'a [u8], parsed: &Parsed, limit: u64) -> Self {
         let diagnostics = parsed.diagnostics.clone();
         let mut tree = Self {
             source,
@@ -79,14 +81,15 @@ impl<'a> Tree<'a> {
             nodes: Vec::new(),
             items: Vec::new(),
             diagnostics,
-            limit: parsed.tokens.len(),
+            limit,
+            read_end: parsed.tokens.len(),
         };
         tree.build(parsed);
         for item in 0..tree.items.len() {
             tree.items[item].head = tree.head_word(&tree.items[item]);
         }
         if let Some(deep) = tree.diagnostics.iter().find(|diagnostic| diagnostic.message == 49) {
-            tree.limit = tree.token_at(deep.start as usize);
+            tree.read_end = tree.token_at(deep.start as usize);
         }
         tree
     }
@@ -154,6 +157,13 @@ impl<'a> Tree<'a> {
         (walk.opens, walk.closes) = (false, false);
     }
 
+    /// What is said where nothing was read any more: whose row it is, and the words.
+    pub fn depth_note(&self) -> (String, String) {
+        let line = self.line_of(self.tokens[self.read_end].start);
+        let words = format!("from here on nothing was read: blocks lie deeper than {}", self.limit);
+        (format!("{line:7} !  {:10}", "unread"), words)
+    }
+
     pub fn token_at(&self, offset: usize) -> usize {
         self.tokens.partition_point(|token| token.end <= offset)
     }
@@ -216,7 +226,7 @@ impl<'a> Tree<'a> {
     }
 
     pub fn label(&self, token: usize) -> &'static str {
-        if token >= self.limit {
+        if token >= self.read_end {
             return "unread";
         }
         let Some(item) = self.tokens[token].item else { return "comment" };

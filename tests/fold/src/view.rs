@@ -7,7 +7,7 @@ use std::{
 };
 
 use corpus::random::Random;
-use reference::Reading;
+use reference::{MAX_CONTROL_FLOW_NESTING, Reading, limits::ALLOWED};
 
 use crate::{
     folded::{self, Seen},
@@ -24,6 +24,7 @@ const CUT_OFF: &str = "the file ends in the middle of a character, as when a tra
 #[derive(Debug, Clone)]
 pub struct View {
     pub program: PathBuf,
+    pub limit: u64,
     pub page: Page,
     pub open: bool,
     pub names: Vec<String>,
@@ -36,16 +37,16 @@ struct Outcome {
 }
 
 impl View {
-    /// A view chosen for a script: of some width, now and then in ASCII or with a name.
-    pub fn chosen(program: PathBuf, source: &[u8], random: &mut Random) -> Self {
+    /// A view chosen for a script at a limit: of some width, now and then in ASCII or with a name.
+    pub fn chosen(program: PathBuf, limit: u64, source: &[u8], random: &mut Random) -> Self {
         let width = random.pick(&[80, 80, 80, 40, 41, 57, 100, 1000]);
         let page = Page { width, ascii: random.one_in(6) };
         let open = random.one_in(3);
         let mut names = Vec::new();
         if !open && random.one_in(5) {
-            names.extend(name(source, random));
+            names.extend(name(limit, source, random));
         }
-        Self { program, page, open, names }
+        Self { program, limit, page, open, names }
     }
 
     fn run(&self, source: &[u8]) -> Outcome {
@@ -53,6 +54,9 @@ impl View {
         command.env_remove("COLUMNS").arg("-").args(&self.names);
         if self.page.width != 80 {
             command.arg(format!("--width={}", self.page.width));
+        }
+        if self.limit != MAX_CONTROL_FLOW_NESTING {
+            command.arg(format!("--limit={}", self.limit));
         }
         if self.page.ascii {
             command.arg("--ascii");
@@ -75,7 +79,10 @@ impl View {
     /// Shows a script and checks what is shown.
     pub fn check(&self, source: &[u8]) -> Result<Seen, String> {
         let outcome = self.run(source);
-        let reading = reference::reading(source);
+        if !ALLOWED.contains(&self.limit) {
+            return check_bad_limit(&outcome);
+        }
+        let reading = reference::reading(self.limit, source);
         if let (true, Reading::Parsed(_)) =
             (self.names.iter().any(|name| name == MISSING), &reading)
         {
@@ -87,7 +94,7 @@ impl View {
         let rows = rows(&outcome.output, &self.page)?;
         let (status, seen) = match &reading {
             Reading::Parsed(parsed) => {
-                let tree = Tree::new(source, parsed);
+                let tree = Tree::new(source, parsed, self.limit);
                 (i32::from(!tree.diagnostics.is_empty()), self.check_rows(&tree, &rows)?)
             },
             Reading::Refused(numbers) => {
@@ -166,15 +173,21 @@ impl View {
     }
 }
 
+fn check_bad_limit(outcome: &Outcome) -> Result<Seen, String> {
+    let said = outcome.errors == "fold: --limit: needs a depth from 1 to 256\n";
+    let right = outcome.status == Some(3) && outcome.output.is_empty() && said;
+    if right { Ok(Seen::default()) } else { Err("a bad limit is not told".to_string()) }
+}
+
 fn check_head(head: &Row, left: &str) -> Result<(), String> {
     let right = !head.own && head.left.trim_end() == left && head.words() == "standard input";
     if right { Ok(()) } else { Err(format!("the first row is {head:?}")) }
 }
 
 /// A name that is in the script, or one that is not.
-fn name(source: &[u8], random: &mut Random) -> Option<String> {
-    let Reading::Parsed(parsed) = reference::reading(source) else { return None };
-    let tree = Tree::new(source, &parsed);
+fn name(limit: u64, source: &[u8], random: &mut Random) -> Option<String> {
+    let Reading::Parsed(parsed) = reference::reading(limit, source) else { return None };
+    let tree = Tree::new(source, &parsed, limit);
     let mut names: Vec<String> = vec![MISSING.to_string()];
     let of = |name: &[u8]| String::from_utf8(name.to_vec()).ok();
     names.extend(tree.items.iter().filter_map(|item| of(tree.name(item)?)).take(20));
