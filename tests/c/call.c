@@ -18,10 +18,10 @@ void fail(const char *what)
         fprintf(stderr, "%s: wrong %s\n", case_name, what);
 }
 
-struct call make_call(enum lending how, const uint8_t *source, size_t length, struct rooms rooms)
+struct call make_call(enum lending how, const struct question *question, struct rooms rooms)
 {
-    struct call call = { .source = lend(how, length), .rooms = rooms };
-    memcpy(call.source.data, source, length);
+    struct call call = { question->limit, .source = lend(how, question->length), .rooms = rooms };
+    memcpy(call.source.data, question->source, question->length);
     forbid_writes(&call.source);
     for (int i = 0; i < SLICES; i++)
         call.slices[i] = lend(how, rooms.length[i] * WIDTHS[i]);
@@ -67,7 +67,7 @@ struct row {
     size_t tokens, events, diagnostics;
 };
 
-static struct row row_of(const struct full *full, struct rooms rooms)
+static struct row row_of(uint64_t limit, const struct full *full, struct rooms rooms)
 {
     const size_t *room = rooms.length;
     size_t tokens = least(room[TOKEN_KINDS], room[TOKEN_ENDS]);
@@ -75,6 +75,8 @@ static struct row row_of(const struct full *full, struct rooms rooms)
     size_t t = full->token_kinds.count, e = full->events.count, d = full->messages.count;
     if (room[COUNTS] < MASM_COUNTS)
         return (struct row){ .status = MASM_COUNTS_SHORT };
+    if (limit < 1 || limit > MASM_MAX_CONTROL_FLOW_NESTING)
+        return (struct row){ .status = MASM_LIMIT_OUT_OF_RANGE };
     if (full->status == MASM_TOO_LONG)
         return (struct row){ .status = MASM_TOO_LONG };
     if (full->status == MASM_NOT_UTF8)
@@ -125,11 +127,23 @@ static void check_guards(const struct call *call, const uint8_t *source)
             fail("guards");
 }
 
-void check_call(enum lending how, const uint8_t *source, size_t length, struct rooms rooms,
+size_t most_open(struct list events)
+{
+    size_t most = 0;
+    for (size_t i = 0, open = 0; i < events.count; i++) {
+        if (events.numbers[i] == MASM_CLOSE)
+            open--;
+        else if (events.numbers[i] < MASM_WHITESPACE && ++open > most)
+            most = open;
+    }
+    return most;
+}
+
+void check_call(enum lending how, const struct question *question, struct rooms rooms,
                 const struct full *full)
 {
-    struct row row = row_of(full, rooms);
-    struct call call = make_call(how, source, length, rooms);
+    struct row row = row_of(question->limit, full, rooms);
+    struct call call = make_call(how, question, rooms);
     const size_t written[] = { row.tokens,      row.tokens,      row.events,
                                row.diagnostics, row.diagnostics, row.diagnostics };
     if (call.status != row.status)
@@ -139,6 +153,8 @@ void check_call(enum lending how, const uint8_t *source, size_t length, struct r
             fail(NAMES[i]);
     if (!counts_hold(&call, &row))
         fail(NAMES[COUNTS]);
-    check_guards(&call, source);
+    if (row.status == MASM_ACCEPTED && most_open(full->events) > MASM_MAX_OPEN(question->limit))
+        fail("number of open nodes");
+    check_guards(&call, question->source);
     end_call(&call);
 }

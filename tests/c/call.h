@@ -11,7 +11,14 @@ struct list {
     size_t count;
 };
 
-/* What a source must give with room enough. */
+/* What a call reads, and at which limit. */
+struct question {
+    uint64_t limit;
+    const uint8_t *source;
+    size_t length;
+};
+
+/* What a source must give with room enough, at a limit that is none to refuse. */
 struct full {
     uint64_t status; /* 0, 1, 2 or 4 */
     uint64_t offset; /* for 2 and 4 */
@@ -27,6 +34,7 @@ struct rooms {
 };
 
 struct call {
+    uint64_t limit;
     struct lent source;
     struct lent slices[SLICES];
     struct rooms rooms;
@@ -38,13 +46,16 @@ extern const char *case_name;
 extern unsigned calls, failures;
 
 void fail(const char *what);
-struct call make_call(enum lending how, const uint8_t *source, size_t length, struct rooms rooms);
+struct call make_call(enum lending how, const struct question *question, struct rooms rooms);
 void end_call(struct call *call);
 uint32_t entry(const struct call *call, enum slice slice, size_t index);
 uint64_t count_of(const struct call *call, size_t index);
-void check_call(enum lending how, const uint8_t *source, size_t length, struct rooms rooms,
+void check_call(enum lending how, const struct question *question, struct rooms rooms,
                 const struct full *full);
 struct list list_of(const struct full *full, enum slice slice);
+
+/* The most nodes that are open together in events. */
+size_t most_open(struct list events);
 
 /* faults.c: the call, and behind it the fault that MASM_FAULT names. */
 uint64_t faulty_call(struct call *call);

@@ -3,9 +3,10 @@
 
 #define LIST(...) { (const uint32_t[]){ __VA_ARGS__ }, \
                     sizeof((const uint32_t[]){ __VA_ARGS__ }) / sizeof(uint32_t) }
-#define TEXT(text) text, sizeof text - 1
+#define AT(limit, text) { limit, (const uint8_t *)text, sizeof text - 1 }
+#define TEXT(text) AT(1, text)
 
-/* Document 01's examples, then refusals. A list that is not named is empty. */
+/* Document 01's examples, M-104's, then refusals. A list that is not named is empty. */
 const struct test_case CASES[] = {
     { "T1 empty", TEXT(""),
       { .events = LIST(2, 0) } },
@@ -38,7 +39,7 @@ const struct test_case CASES[] = {
         .token_ends = LIST(4, 5, 6, 7, 12, 13, 14, 15, 16, 17, 18),
         .events = LIST(2, 14, 31, 27, 31, 27, 18, 1, 0, 0, 0, 10, 31, 27, 31, 27, 44, 27, 25, 33, 0,
             0, 0), .messages = LIST(11), .starts = LIST(7), .ends = LIST(12) } },
-    { "T9 while in a do body", TEXT("begin do while.true end while end end"),
+    { "T9 while in a do body", AT(2, "begin do while.true end while end end"),
       { .token_kinds = LIST(31, 27, 31, 27, 31, 41, 31, 27, 31, 27, 31, 27, 31, 27, 31),
         .token_ends = LIST(5, 6, 8, 9, 14, 15, 19, 20, 23, 24, 29, 30, 33, 34, 37),
         .events = LIST(2, 13, 31, 27, 18, 21, 31, 27, 18, 20, 31, 41, 31, 27, 18, 0, 31, 0, 27, 0,
@@ -83,6 +84,26 @@ const struct test_case CASES[] = {
       { .token_kinds = LIST(31, 27, 1, 27, 31), .token_ends = LIST(5, 6, 7, 8, 11),
         .events = LIST(2, 13, 31, 27, 18, 1, 60, 0, 27, 0, 31, 0, 0), .messages = LIST(46, 50),
         .starts = LIST(6, 6), .ends = LIST(7, 7) } },
+    { "one if in another at 1", AT(1, "begin if if x end"),
+      { .token_kinds = LIST(31, 27, 31, 27, 31, 27, 31, 27, 31),
+        .token_ends = LIST(5, 6, 8, 9, 11, 12, 13, 14, 17),
+        .events = LIST(2, 13, 31, 27, 18, 19, 31, 27, 18, 1, 31, 27, 31, 27, 31, 0, 0, 0, 0, 0, 0),
+        .messages = LIST(49), .starts = LIST(9), .ends = LIST(11) } },
+    { "one if behind another at 1", AT(1, "begin if end if end end"),
+      { .token_kinds = LIST(31, 27, 31, 27, 31, 27, 31, 27, 31, 27, 31),
+        .token_ends = LIST(5, 6, 8, 9, 12, 13, 15, 16, 19, 20, 23),
+        .events = LIST(2, 13, 31, 27, 18, 19, 31, 27, 18, 0, 31, 0, 27, 19, 31, 27, 18, 0, 31, 0,
+            27, 0, 31, 0, 0) } },
+    { "while with a suffix in a do body at 1", AT(1, "begin do while.x"),
+      { .token_kinds = LIST(31, 27, 31, 27, 31, 41, 31),
+        .token_ends = LIST(5, 6, 8, 9, 14, 15, 16),
+        .events = LIST(2, 13, 31, 27, 18, 21, 31, 27, 18, 1, 31, 41, 31, 0, 0, 0, 0, 0, 0),
+        .messages = LIST(49), .starts = LIST(9), .ends = LIST(14) } },
+    { "while without one at 1", AT(1, "begin do while x"),
+      { .token_kinds = LIST(31, 27, 31, 27, 31, 27, 31),
+        .token_ends = LIST(5, 6, 8, 9, 14, 15, 16),
+        .events = LIST(2, 13, 31, 27, 18, 21, 31, 27, 18, 0, 31, 27, 18, 23, 31, 0, 0, 0, 0, 0, 0),
+        .messages = LIST(6), .starts = LIST(15), .ends = LIST(15) } },
     { "use", TEXT("begin use"),
       { .status = MASM_UNWANTED, .offset = 6, .token_kinds = LIST(31, 27, 31),
         .token_ends = LIST(5, 6, 9) } },

@@ -3,10 +3,10 @@
 
 #include "call.h"
 
+/* With `full` at its limit and, without the depth diagnostic, at every larger one. */
 struct test_case {
     const char *name;
-    const char *source;
-    size_t length;
+    struct question question;
     struct full full;
 };
 

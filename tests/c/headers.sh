@@ -1,9 +1,9 @@
-# Part of tests/c/run: the headers in C and C++, their names, and what the archive needs.
+# Part of tests/c/run: the headers in C and C++, their names and texts, and what the archive needs.
 
-echo "== headers: rooms, hostile text, C++, what the archive needs"
+echo "== headers: rooms, limits, hostile text, C++, what the archive needs"
 careful=(-Wall -Wextra -Wconversion -pedantic -Werror -Iinclude)
 for header in include/*.h; do gcc -x c -std=c11 "${careful[@]}" -fsyntax-only "$header"; done
-for test in macros_test escape_test; do
+for test in macros_test messages_test escape_test; do
     build "$test" "tests/c/$test.c" -- -Wconversion -pedantic "${sanitized[@]}"
     "$out/$test"
 done
@@ -34,3 +34,43 @@ if [ -f "$syntax" ]; then
 else
     echo "no syntax.rs: the names are not compared with the Rust's"
 fi
+
+echo "== messages"
+build print_messages tests/c/print_messages.c -- -O2
+sed -nE 's/^\| ([0-9]+) \| (.*) \| `.*$/\1 \2/p' docs/MESSAGES.md >"$out/messages"
+for limit in 256 64 1; do
+    sed "/^49 /s/256\$/$limit/" "$out/messages" | diff - <("$out/print_messages" "$limit") ||
+        stop "masm_messages.h at limit $limit and docs/MESSAGES.md differ"
+done
+
+echo "== each wrong header is found"
+wrong() { # HEADER EDIT TEST: with this edit of sed the test meets a static assertion, or fails
+    local status=0
+    rm -rf "$out/include"
+    cp -r include "$out"
+    sed -i "$2" "$out/include/$1"
+    ! cmp -s "include/$1" "$out/include/$1" || stop "no fault is made by $2"
+    faults=$((faults + 1))
+    if ! gcc -std=c11 "${sanitized[@]}" -I"$out/include" "tests/c/$3.c" -o "$out/wrong" 2>"$out/found"; then
+        grep -q 'static assertion failed' "$out/found" || stop "$1 with $2 is no header"
+        return
+    fi
+    "$out/wrong" >"$out/found" 2>&1 || status=$?
+    [ "$status" = 1 ] || stop "$1 with $2 is not found"
+}
+for edit in 's/_NESTING 256u/_NESTING 255u/' 's/OUT_OF_RANGE = 9/OUT_OF_RANGE = 7/' \
+    's/(limit) + 4)/(limit) + 3)/' 's/(limit) + 4)/(limit) + 5)/' 's/(2 \* MASM_SIZE(limit)/(MASM_SIZE(2 * limit)/' \
+    's/(2 \* MASM_SIZE(limit)/(MASM_SIZE(limit) + MASM_SIZE(limit)/' 's/(limit) + 4)/(limit) + 4u/; s/(2 \* MASM/2 * MASM/' \
+    's/(256 \* MASM_SIZE(limit)/(240 * MASM_SIZE(limit)/' 's/ + 16384)/ + 8192)/' \
+    's/(256 \* MASM_SIZE(limit)/(MASM_SIZE(256 * limit)/'; do
+    wrong masm_cst.h "$edit" macros_test
+done
+for edit in 's/number(texts\[number\], limit/number(texts[number], 256/' 's/, limit, text)/, (uint8_t)limit, text)/' \
+    's/, limit, text)/, (uint32_t)limit, text)/' 's/, limit, text)/, limit + 1, text)/' 's/_ROOM 78u/_ROOM 77u/' 's/_ROOM 78u/_ROOM 79u/' \
+    's/TOO_DEEP 49u/TOO_DEEP 48u/' "/= '\\\\0';/d" 's/digits\[20\]/digits[19]/' 's/10) > 0/10) > 9/' \
+    's/<= MASM_MESSAGES ?/< MASM_MESSAGES ?/'; do
+    wrong masm_messages.h "$edit" messages_test
+done
+for edit in 's/from 1 to 256/from 1 to 255/' '/case MASM_LIMIT_OUT_OF_RANGE/d' 's/default: return ""/default: return "x"/'; do
+    wrong masm_names.h "$edit" print_names
+done

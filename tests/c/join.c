@@ -4,9 +4,10 @@
 
 #include "call.h"
 
-static struct call call_on(enum lending how, const char *text, struct rooms rooms)
+static struct call call_on(enum lending how, uint64_t limit, const char *text, struct rooms rooms)
 {
-    return make_call(how, (const uint8_t *)text, strlen(text), rooms);
+    struct question question = { limit, (const uint8_t *)text, strlen(text) };
+    return make_call(how, &question, rooms);
 }
 
 static struct rooms ample(size_t n)
@@ -59,16 +60,16 @@ static bool joined(const struct call *whole, const struct call *a, const struct 
         && same(whole, ENDS, a, da, b, 0, db, length);
 }
 
-bool joins(enum lending how, const char *a, const char *b)
+bool joins(enum lending how, struct limits limits, const char *a, const char *b)
 {
     char text[256] = "";
     strncat(text, a, 100);
     strncat(text, b, 100);
-    struct call first = call_on(how, a, ample(strlen(a)));
-    struct call second = call_on(how, b, ample(strlen(b)));
+    struct call first = call_on(how, limits.a, a, ample(strlen(a)));
+    struct call second = call_on(how, limits.b, b, ample(strlen(b)));
     bool result = false;
     if (accepted(&first) && accepted(&second)) {
-        struct call whole = call_on(how, text, sums(&first, &second));
+        struct call whole = call_on(how, limits.whole, text, sums(&first, &second));
         result = joined(&whole, &first, &second);
         end_call(&whole);
     }

@@ -3,10 +3,7 @@
 
 #include "call.h"
 
-/* `begin` and `ifs` times ` if`: up to 256, one missing `end`; with one more, the depth diagnostic. */
-void check_nested(enum lending how, size_t ifs);
-
-/* Spaces up to the limit, one more, and one more of bytes that are no UTF-8. */
-void check_sizes(enum lending how);
+/* Spaces up to the longest source, one more, and one more of bytes that are no UTF-8. */
+void check_sizes(enum lending how, uint64_t limit);
 
 #endif

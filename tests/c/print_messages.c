@@ -1,11 +1,15 @@
-/* Prints the table of masm_messages.h as `number text`. */
+/* Prints the table of masm_messages.h, for a reading at the limit that the word says, as
+   `number text`. */
 #include <stdio.h>
+#include <stdlib.h>
 
 #include "masm_messages.h"
 
-int main(void)
+int main(int count, char **words)
 {
+    char text[MASM_MESSAGE_ROOM];
+    uint64_t limit = count == 2 ? strtoull(words[1], NULL, 10) : 0;
     for (uint16_t number = 1; number <= MASM_MESSAGES; number++)
-        printf("%u %s\n", number, masm_message(number));
-    return masm_message(0)[0] != '\0' || masm_message(MASM_MESSAGES + 1)[0] != '\0';
+        printf("%u %s\n", number, masm_message(limit, number, text));
+    return count == 2 ? 0 : 2;
 }

@@ -11,15 +11,23 @@ static bool empty(const char *text)
     return text[0] == '\0';
 }
 
-/* Each status has a text, no number beside them has, and the one on the length names the limit. */
+/* Whether a status's text names a number. */
+static bool names(uint64_t status, unsigned number)
+{
+    char digits[16];
+    snprintf(digits, sizeof digits, "%u", number);
+    return strstr(masm_status_text(status), digits) != NULL;
+}
+
+/* Each status has a text, and no number beside them has. Two name the most that is allowed. */
 static bool statuses_hold(void)
 {
-    static const uint64_t others[] = { MASM_COUNTS_SHORT + 1, UINT64_C(1) << 32, UINT64_MAX };
-    char limit[16];
-    snprintf(limit, sizeof limit, "%u", MASM_MAX_SOURCE);
-    bool holds = strstr(masm_status_text(MASM_TOO_LONG), limit) != NULL;
+    static const uint64_t others[] = { 7, 8, 10, UINT64_C(1) << 32, UINT64_MAX };
+    bool holds = names(MASM_TOO_LONG, MASM_MAX_SOURCE)
+        && names(MASM_LIMIT_OUT_OF_RANGE, MASM_MAX_CONTROL_FLOW_NESTING);
     for (uint64_t status = MASM_ACCEPTED; status <= MASM_COUNTS_SHORT; status++)
         holds = holds && !empty(masm_status_text(status));
+    holds = holds && !empty(masm_status_text(MASM_LIMIT_OUT_OF_RANGE));
     for (size_t i = 0; i < sizeof others / sizeof others[0]; i++)
         holds = holds && empty(masm_status_text(others[i]));
     return holds;

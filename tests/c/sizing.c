@@ -11,11 +11,10 @@ static size_t room_from(const struct call *call, size_t index, size_t most)
 }
 
 /* Makes the call with these rooms and sets those that it says are too short; its status. */
-static uint64_t size_by_call(enum lending how, const uint8_t *source, size_t length,
-                             struct rooms *rooms)
+static uint64_t size_by_call(enum lending how, const struct question *question, struct rooms *rooms)
 {
-    struct call call = make_call(how, source, length, *rooms);
-    size_t *room = rooms->length;
+    struct call call = make_call(how, question, *rooms);
+    size_t *room = rooms->length, length = question->length;
     if (call.status == MASM_TOKEN_SHORT)
         room[TOKEN_KINDS] = room[TOKEN_ENDS] = room_from(&call, 0, MASM_TOKEN_ROOM(length));
     if (call.status == MASM_OUTPUT_SHORT) {
@@ -40,14 +39,14 @@ static bool statuses_hold(const uint64_t *statuses, size_t count, const struct f
     return holds && at + 1 == count && statuses[at] == full->status;
 }
 
-void check_sizing(enum lending how, const uint8_t *source, size_t length, const struct full *full)
+void check_sizing(enum lending how, const struct question *question, const struct full *full)
 {
     struct rooms rooms = { .length = { [COUNTS] = MASM_COUNTS } };
     uint64_t statuses[3] = { MASM_TOKEN_SHORT };
     size_t count = 0;
     bool sized = false;
     while (!sized && count < 3) {
-        statuses[count] = size_by_call(how, source, length, &rooms);
+        statuses[count] = size_by_call(how, question, &rooms);
         sized = statuses[count] != MASM_TOKEN_SHORT && statuses[count] != MASM_OUTPUT_SHORT;
         count++;
     }

@@ -5,6 +5,6 @@
 
 /* The slices sized by what the call returns, as masm_cst.h says: 3 tells the tokens, 5 the events
    and diagnostics, and a third call has room for exactly all of them. */
-void check_sizing(enum lending how, const uint8_t *source, size_t length, const struct full *full);
+void check_sizing(enum lending how, const struct question *question, const struct full *full);
 
 #endif

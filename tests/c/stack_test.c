@@ -1,7 +1,8 @@
-/* How much stack a call takes, the first on sources that are nested as deep as can be: masm_cst.h
-   names the most that the test allows. */
+/* How much stack a call takes, the first at several limits on sources that are nested as deep as
+   can be: masm_cst.h names the most that the test allows. */
 #define _GNU_SOURCE
 #include <pthread.h>
+#include <stdbool.h>
 #include <stdio.h>
 #include <stdlib.h>
 #include <string.h>
@@ -18,6 +19,7 @@ static uint32_t token_ends[LENGTH];
 static uint32_t starts[MASM_DIAGNOSTIC_ROOM(LENGTH)], ends[MASM_DIAGNOSTIC_ROOM(LENGTH)];
 static uint64_t counts[MASM_COUNTS];
 static uint8_t longest[MASM_MAX_SOURCE];
+static uint64_t limit;
 
 static void *nothing(void *argument)
 {
@@ -26,10 +28,11 @@ static void *nothing(void *argument)
 
 static void *call(void *argument)
 {
-    masm_parse_text(source, LENGTH, token_kinds, LENGTH, token_ends, LENGTH, events,
-                    MASM_EVENT_ROOM(LENGTH), messages, MASM_DIAGNOSTIC_ROOM(LENGTH), starts,
-                    MASM_DIAGNOSTIC_ROOM(LENGTH), ends, MASM_DIAGNOSTIC_ROOM(LENGTH), counts,
-                    MASM_COUNTS);
+    if (masm_parse_text(limit, source, LENGTH, token_kinds, LENGTH, token_ends, LENGTH, events,
+                        MASM_EVENT_ROOM(LENGTH), messages, MASM_DIAGNOSTIC_ROOM(LENGTH), starts,
+                        MASM_DIAGNOSTIC_ROOM(LENGTH), ends, MASM_DIAGNOSTIC_ROOM(LENGTH), counts,
+                        MASM_COUNTS) != MASM_ACCEPTED)
+        exit(2);
     return argument;
 }
 
@@ -86,23 +89,62 @@ static size_t taken_for(const char *piece, size_t count)
     return taken_by(call);
 }
 
-int main(void)
+/* The four forms first. */
+static const char *const PIECES[] = { " if", " while", " do", " repeat", " do while", " if else",
+                                      " if while do repeat", "(", "@a(", "\n" };
+enum { FORMS = 4, PIECE_COUNT = sizeof PIECES / sizeof *PIECES };
+
+/* The most that a call takes at the limit: with as many pieces as it allows in each other, and with
+   as many as there is room for. */
+static size_t most_taken(void)
 {
-    static const char *const pieces[] = { " if", " while", " do", " repeat", " do while",
-                                          " if else", " if while do repeat", "(", "@a(", "\n" };
-    size_t most = 0, level = 0;
-    for (size_t i = 0; i < sizeof pieces / sizeof pieces[0]; i++) {
-        size_t whole = taken_for(pieces[i], LENGTH);
+    size_t most = 0;
+    for (size_t i = 0; i < 2 * PIECE_COUNT; i++) {
+        size_t whole = taken_for(PIECES[i / 2], i % 2 == 0 ? (size_t)limit : LENGTH);
         most = whole > most ? whole : most;
     }
-    /* The four forms alone: what a hundred more levels take. */
-    for (size_t i = 0; i < 4; i++) {
-        size_t each = (taken_for(pieces[i], 200) - taken_for(pieces[i], 100)) / 100;
-        printf("stack_test: %zu bytes a level of%s\n", each, pieces[i]);
-        level = each > level ? each : level;
+    return most;
+}
+
+/* Whether at each limit a call takes as much as masm_cst.h says, or less. The fault `deeper` reads
+   at the largest one. */
+static bool limits_hold(void)
+{
+    static const uint64_t limits[] = { 1, 2, 64, 128, 255, MASM_MAX_CONTROL_FLOW_NESTING };
+    bool holds = true;
+    for (size_t i = 0; i < sizeof limits / sizeof limits[0]; i++) {
+        limit = getenv("MASM_FAULT") == NULL ? limits[i] : MASM_MAX_CONTROL_FLOW_NESTING;
+        size_t most = most_taken(), allowed = MASM_STACK(limits[i]);
+        printf("stack_test: %zu bytes at most at limit %u, of %zu\n", most, (unsigned)limits[i],
+               allowed);
+        holds = holds && most > 0 && most <= allowed;
     }
+    return holds;
+}
+
+/* What one level more takes, by a hundred of each form, is at most 240 bytes. */
+static bool levels_hold(void)
+{
+    bool holds = true;
+    limit = MASM_MAX_CONTROL_FLOW_NESTING;
+    for (size_t i = 0; i < FORMS; i++) {
+        size_t level = (taken_for(PIECES[i], 200) - taken_for(PIECES[i], 100)) / 100;
+        printf("stack_test: %zu bytes a level of%s\n", level, PIECES[i]);
+        holds = holds && level <= 240;
+    }
+    return holds;
+}
+
+static bool lines_hold(void)
+{
     memset(longest, '\r', sizeof longest);
-    size_t lines = taken_by(call_lines);
-    printf("stack_test: %zu bytes at most, %zu for lines\n", most, lines);
-    return most > 0 && most <= MASM_STACK && lines <= MASM_STACK && level <= 240 ? 0 : 1;
+    size_t lines = taken_by(call_lines), allowed = MASM_STACK(1);
+    printf("stack_test: %zu bytes for lines, of %zu\n", lines, allowed);
+    return lines > 0 && lines <= allowed;
+}
+
+int main(void)
+{
+    bool limits = limits_hold(), levels = levels_hold(), lines = lines_hold();
+    return limits && levels && lines ? 0 : 1;
 }

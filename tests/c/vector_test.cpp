@@ -27,24 +27,25 @@ struct reading {
             && token_ends.data() && starts.data() && ends.data() && counts.data();
     }
 
-    uint64_t read(size_t n)
+    uint64_t read(uint64_t limit, size_t n)
     {
-        return masm_parse_text(source.data(), n, kinds.data(), kinds.size(), token_ends.data(),
-                               token_ends.size(), events.data(), events.size(), messages.data(),
-                               messages.size(), starts.data(), starts.size(), ends.data(),
-                               ends.size(), counts.data(), counts.size());
+        return masm_parse_text(limit, source.data(), n, kinds.data(), kinds.size(),
+                               token_ends.data(), token_ends.size(), events.data(), events.size(),
+                               messages.data(), messages.size(), starts.data(), starts.size(),
+                               ends.data(), ends.size(), counts.data(), counts.size());
     }
 };
 
 // Whether a text is accepted with so many tokens, events and diagnostics, in an open and shut root.
-static bool reads(const char *text, uint64_t tokens, uint64_t events, uint64_t diagnostics)
+static bool reads(uint64_t limit, const char *text, uint64_t tokens, uint64_t events,
+                  uint64_t diagnostics)
 {
     size_t n = std::strlen(text);
     reading r(n);
     if (!r.has_memory())
         return false;
     std::memcpy(r.source.data(), text, n);
-    return r.read(n) == MASM_ACCEPTED && r.counts[0] == tokens && r.counts[1] == events
+    return r.read(limit, n) == MASM_ACCEPTED && r.counts[0] == tokens && r.counts[1] == events
         && r.counts[2] == diagnostics && r.events[0] == MASM_SOURCE_FILE
         && r.events[events - 1] == MASM_CLOSE;
 }
@@ -64,9 +65,12 @@ static bool places(const char *text, const std::vector<uint32_t> &offsets,
 
 int main()
 {
-    bool passed = reads("", 0, 2, 0) && reads("begin add end\n", 6, 14, 0)
-        && reads("begin", 1, 7, 1) && std::strcmp(masm_kind_name(MASM_BLOCK), "Block") == 0
-        && std::strcmp(masm_message(22), "unexpected top-level token") == 0
+    char text[MASM_MESSAGE_ROOM];
+    bool passed = reads(256, "", 0, 2, 0) && reads(1, "begin add end\n", 6, 14, 0)
+        && reads(64, "begin", 1, 7, 1) && reads(1, "begin if if x end", 9, 21, 1)
+        && std::strcmp(masm_kind_name(MASM_BLOCK), "Block") == 0
+        && std::strcmp(masm_message(64, 22, text), "unexpected top-level token") == 0
+        && masm_message(64, MASM_NESTING_TOO_DEEP, text) == text
         && places("", { 0 }, { 1 }, { 1 })
         && places("a\r\nb\rc", { 5, 2, 9 }, { 3, 1, 3 }, { 1, 3, 2 });
     std::printf("vector_test: %s\n", passed ? "passed" : "failed");
