@@ -24,7 +24,8 @@ use Rattle.answer.specs.HigherLimit.{RoomFor, GivesSame, SameReply}
 module _
     (limit higher : ℕ) (source : List ℕ) (s : Slices) (counts : List ℕ) {r : ℕ} {s' : Slices} {counts' : List ℕ}
     (seen : MasmParseText limit source s counts r s' counts') (accepted : r ≡ 0)
-    (calm : without_depth (given s' counts').messages ≡ true) (above : limit ≤ higher) (allowed : higher ≤ MAX_CONTROL_FLOW_NESTING)
+    (calm : without_depth (given s' counts').messages ≡ true)
+    (above : limit ≤ higher) (allowed : higher ≤ MAX_CONTROL_FLOW_NESTING)
   where
     last : LastRow limit source s counts
     last = last_row_of_call limit source s counts seen accepted

@@ -104,7 +104,8 @@ module _ (limit : ℕ) (a b : List ℕ) (j : CallsJoin a (reading_slices limit a
 -- fits what was lent for it, the call on the join returns 0 and gives A's tokens, items and diagnostics and then B's.
 module _
     (limit : ℕ) (a b : List ℕ) (sa sb sj : Slices) (ca cb cj : List ℕ) {ra rb rj : ℕ} {sa' sb' sj' : Slices} {ca' cb' cj' : List ℕ}
-    (on_a : MasmParseText limit a sa ca ra sa' ca') (on_b : MasmParseText limit b sb cb rb sb' cb') (on_join : MasmParseText limit (a ++ b) sj cj rj sj' cj')
+    (on_a : MasmParseText limit a sa ca ra sa' ca') (on_b : MasmParseText limit b sb cb rb sb' cb')
+    (on_join : MasmParseText limit (a ++ b) sj cj rj sj' cj')
   where
     pub joined_calls : ra ≡ 0 → rb ≡ 0 → length (a ++ b) ≤ MAX_SOURCE → Fits sj cj ca' cb' → CallsJoin a (given sa' ca') (given sb' cb')
         → JoinReply (length a) (given sa' ca') (given sb' cb') (given sj' cj') ca' cb' cj' rj

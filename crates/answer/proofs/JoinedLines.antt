@@ -15,7 +15,8 @@ use Rattle.answer.proofs.JoinedCalls.{joined_calls}
 
 module _
     (limit : ℕ) (a b : List ℕ) (sa sb sj : Slices) (ca cb cj : List ℕ) {ra rb rj : ℕ} {sa' sb' sj' : Slices} {ca' cb' cj' : List ℕ}
-    (on_a : MasmParseText limit a sa ca ra sa' ca') (on_b : MasmParseText limit b sb cb rb sb' cb') (on_join : MasmParseText limit (a ++ b) sj cj rj sj' cj')
+    (on_a : MasmParseText limit a sa ca ra sa' ca') (on_b : MasmParseText limit b sb cb rb sb' cb')
+    (on_join : MasmParseText limit (a ++ b) sj cj rj sj' cj')
     (za : ra ≡ 0) (zb : rb ≡ 0) (small : length (a ++ b) ≤ MAX_SOURCE) (fits : Fits sj cj ca' cb')
     (joins : CallsJoin a (given sa' ca') (given sb' cb'))
   where
