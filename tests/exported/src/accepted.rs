@@ -4,9 +4,9 @@ use reference::{Diagnostic, Parsed, Rooms, Slices, Token};
 
 use crate::zones::{Call, call};
 
-/// What the call gives of a source, if it accepts; the texts of diagnostics are empty.
-pub fn accepted(made: Call, source: &[u8], rooms: Rooms) -> Option<Parsed> {
-    let (status, slices) = call(made, source, rooms);
+/// What the call gives of a source at a limit, if it accepts; the texts of diagnostics are empty.
+pub fn accepted(made: Call, limit: u64, source: &[u8], rooms: Rooms) -> Option<Parsed> {
+    let (status, slices) = call(made, limit, source, rooms);
     given(status, &slices?)
 }
 

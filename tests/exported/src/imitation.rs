@@ -1,11 +1,15 @@
 //! The reference in the place of the calls, for tests that put faults in.
 
-use reference::{Answer, Rooms, answer, lines};
+use reference::{
+    Answer, Rooms, answer,
+    limits::{ALLOWED, at_least},
+    lines,
+};
 
 use crate::Lent;
 
-/// What the reference says, written into lent slices.
-pub fn answer_into(source: &[u8], lent: &mut Lent) -> u64 {
+/// What the reference says, written into lent slices. In the place of an allowed limit with which it is not compiled it takes the next.
+pub fn answer_into(limit: u64, source: &[u8], lent: &mut Lent) -> u64 {
     let rooms = Rooms {
         counts: lent.counts.len(),
         token_kinds: lent.token_kinds.len(),
@@ -15,7 +19,8 @@ pub fn answer_into(source: &[u8], lent: &mut Lent) -> u64 {
         starts: lent.starts.len(),
         ends: lent.ends.len(),
     };
-    let Answer { status, slices, .. } = answer(source, rooms);
+    let compiled = at_least(limit).filter(|_| ALLOWED.contains(&limit)).unwrap_or(limit);
+    let Answer { status, slices, .. } = answer(compiled, source, rooms);
     lent.counts.copy_from_slice(&slices.counts);
     lent.token_kinds.copy_from_slice(&slices.token_kinds);
     lent.token_ends.copy_from_slice(&slices.token_ends);

@@ -31,17 +31,18 @@ impl<'a> From<&'a mut Slices> for Lent<'a> {
 }
 
 #[cfg(not(masm_cst))]
-pub fn parse_text(_: &[u8], _: Lent) -> u64 {
+pub fn parse_text(_: u64, _: &[u8], _: Lent) -> u64 {
     panic!("{MISSING}");
 }
 
 /// Makes the call; the status.
 #[cfg(masm_cst)]
-pub fn parse_text(source: &[u8], lent: Lent) -> u64 {
+pub fn parse_text(limit: u64, source: &[u8], lent: Lent) -> u64 {
     let Lent { counts, token_kinds, token_ends, events, messages, starts, ends } = lent;
     // SAFETY: the pointers and lengths are those of eight slices that do not overlap.
     unsafe {
         masm_parse_text(
+            limit,
             source.as_ptr(),
             source.len(),
             token_kinds.as_mut_ptr(),
@@ -89,6 +90,7 @@ pub fn lines(source: &[u8], offsets: &[u32], lines: &mut [u32], columns: &mut [u
 #[cfg(masm_cst)]
 unsafe extern "C" {
     fn masm_parse_text(
+        limit: u64,
         source: *const u8,
         source_len: usize,
         token_kinds: *mut u16,

@@ -9,7 +9,7 @@ use reference::{
 use crate::Lent;
 
 /// The exported call, or one that is faulty on purpose.
-pub type Call = fn(&[u8], Lent) -> u64;
+pub type Call = fn(u64, &[u8], Lent) -> u64;
 
 /// The exported call for lines and columns, or one that is faulty on purpose.
 pub type LinesCall = fn(&[u8], &[u32], &mut [u32], &mut [u32]) -> u64;
@@ -20,12 +20,12 @@ const ZONE: usize = 64;
 /// No UTF-8 has this byte where a character starts.
 const ZONE_BYTE: u8 = 0xAA;
 
-/// The status and what is left in the slices; nothing for the slices where a red zone is written.
-pub fn call(made: Call, source: &[u8], rooms: Rooms) -> (u64, Option<Slices>) {
+/// The status at a limit, and what is left in the slices; nothing for the slices where a red zone is written.
+pub fn call(made: Call, limit: u64, source: &[u8], rooms: Rooms) -> (u64, Option<Slices>) {
     let zone = [ZONE_BYTE; ZONE];
     let bytes = [&zone, source, &zone].concat();
     let mut slices = Slices::filled(with_zones(rooms));
-    let status = made(&bytes[ZONE..ZONE + source.len()], lent(&mut slices));
+    let status = made(limit, &bytes[ZONE..ZONE + source.len()], lent(&mut slices));
     (status, inside(&slices))
 }
 

@@ -18,17 +18,21 @@ include!(concat!(env!("OUT_DIR"), "/table.rs"));
 
 #[path = "../../reference/src/answer.rs"]
 pub mod answer;
-#[path = "../../reference/src/ast.rs"]
+#[path = "../../reference/limits/ast.rs"]
 pub mod ast;
 #[path = "../../reference/src/parsed.rs"]
 pub mod parsed;
 
 // Names that the upstream sources and the reference's files expect at the crate root.
 pub use miden_utils_diagnostics as diagnostics;
-pub use reference::{MAX_CONTROL_FLOW_NESTING, messages};
+pub use reference::messages;
 pub use syntax::MasmLanguage;
 
+/// The limit of the patched parser.
+pub const MAX_CONTROL_FLOW_NESTING: usize = reference::MAX_CONTROL_FLOW_NESTING as usize;
+
 pub mod equivalent;
+pub mod limits;
 pub mod pool;
 mod run;
 pub mod stores;

@@ -4,6 +4,7 @@ use std::{cell::Cell, panic, thread};
 
 use crate::{
     answer::{self, Reading},
+    limits::MAX_CONTROL_FLOW_NESTING,
     parsed::{self, Token},
 };
 
@@ -36,7 +37,7 @@ pub fn step() {
 
 /// What a mutant makes of a source; nothing where it panics or does not end.
 pub fn reading(mutant: usize, source: &[u8]) -> Option<Reading> {
-    run(mutant, source, || answer::reading(source))
+    run(mutant, source, || answer::reading(MAX_CONTROL_FLOW_NESTING, source))
 }
 
 /// The lexer's tokens alone.

@@ -5,7 +5,7 @@ use std::{fs, path::PathBuf};
 use corpus::{Family, Size};
 
 use crate::{
-    ITSELF,
+    ITSELF, MAX_CONTROL_FLOW_NESTING,
     answer::{Answer, Reading, Rooms},
     reading, tokens,
 };
@@ -85,20 +85,24 @@ impl Store {
 /// The parts of program `cases` that read; one more counts lines.
 const READING: usize = 3;
 
-/// The frames of program `cases`, part by part: the part, the length of the source and of the six
-/// slices, the source. Those that ask for lines are left out; they have offsets behind the source,
-/// four bytes each, and their number in the place of the token ends.
+/// The frames of program `cases`, part by part: the part, the limit, the length of the source and of the six
+/// slices, the source. Those at other limits than the mutants' are left out, and those that ask for lines; they
+/// have offsets behind the source, four bytes each, and their number in the place of the token ends.
 fn framed() -> [Vec<(Vec<u8>, Rooms)>; READING] {
     let file = PathBuf::from(env!("CARGO_MANIFEST_DIR")).join("../../crates/cases/stdin");
     let bytes = fs::read(file).expect("the stored cases are there");
     let mut rest = bytes.as_slice();
     let mut cases = [const { Vec::new() }; READING];
     while !rest.is_empty() {
-        let [part, length, lengths @ ..]: [usize; 8] = std::array::from_fn(|_| number(&mut rest));
+        let [part, limit, length, lengths @ ..]: [usize; 9] =
+            std::array::from_fn(|_| number(&mut rest));
         let (source, behind) = rest.split_at(length);
         rest = behind;
         match cases.get_mut(part) {
-            Some(cases) => cases.push((source.to_vec(), rooms(lengths))),
+            Some(cases) if limit == MAX_CONTROL_FLOW_NESTING => {
+                cases.push((source.to_vec(), rooms(lengths)));
+            },
+            Some(_) => {},
             None => rest = &rest[4 * lengths[1]..],
         }
     }

@@ -83,7 +83,10 @@ fn names_are_different() {
 fn no_mutant_is_the_reference() {
     for source in corpus::examples::all() {
         let found = reading(ITSELF, &source).expect("a reading");
-        assert_eq!(format!("{found:?}"), format!("{:?}", reference::reading(&source)));
+        assert_eq!(
+            format!("{found:?}"),
+            format!("{:?}", reference::reading(reference::MAX_CONTROL_FLOW_NESTING, &source))
+        );
     }
 }
 

@@ -2,7 +2,10 @@
 
 use std::str;
 
-use crate::parsed::{self, Parsed, Token};
+use crate::{
+    limits,
+    parsed::{self, Parsed, Token},
+};
 
 /// A longer source is refused.
 pub const MAX_SOURCE: usize = 1_048_576;
@@ -129,7 +132,7 @@ impl Slices {
 /// What a source holds, before any room is looked at.
 #[derive(Debug, Clone, PartialEq, Eq)]
 pub enum Reading {
-    /// Refusal 1 or 2.
+    /// Refusal 9, 1 or 2.
     Refused([u64; 4]),
     /// Refusal 4: the tokens, and where the first `use` or `extern` starts.
     Unwanted(Vec<Token>, usize),
@@ -137,8 +140,8 @@ pub enum Reading {
 }
 
 /// The answer over slices that hold the fillers.
-pub fn answer(source: &[u8], rooms: Rooms) -> Answer {
-    reading(source).answer(rooms)
+pub fn answer(limit: u64, source: &[u8], rooms: Rooms) -> Answer {
+    reading(limit, source).answer(rooms)
 }
 
 /// The source as text, or the numbers of refusal 1 or 2.
@@ -152,12 +155,16 @@ pub fn text(source: &[u8]) -> Result<&str, [u64; 4]> {
     })
 }
 
-pub fn reading(source: &[u8]) -> Reading {
+/// What the source holds at a limit: any number that is none of those allowed is refused before the source is looked at.
+pub fn reading(limit: u64, source: &[u8]) -> Reading {
+    if !limits::ALLOWED.contains(&limit) {
+        return Reading::Refused([9, 0, 0, 0]);
+    }
     match text(source) {
         Err(refusal) => Reading::Refused(refusal),
         Ok(text) => match parsed::unwanted(text) {
             Some(offset) => Reading::Unwanted(parsed::tokens(text), offset),
-            None => Reading::Parsed(parsed::parsed(text)),
+            None => Reading::Parsed(parsed::parsed(limit, text)),
         },
     }
 }

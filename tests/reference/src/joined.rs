@@ -6,13 +6,13 @@ use crate::{
     syntax::SyntaxKind,
 };
 
-/// Whether the upstream parser's reading of the join is as demand 3 says; nothing where its
+/// Whether the upstream parser's reading of the join, at a limit, is as demand 3 says; nothing where its
 /// premise does not hold.
-pub fn obeyed(first: &[u8], second: &[u8]) -> Option<bool> {
-    obeyed_by(|source, _| accepted(source), first, second)
+pub fn obeyed(limit: u64, first: &[u8], second: &[u8]) -> Option<bool> {
+    obeyed_by(|source, _| accepted(limit, source), first, second)
 }
 
-/// The same of any reader, which is given a source and rooms and answers if it accepts. The join
+/// The same of any reader at one limit, which is given a source and rooms and answers if it accepts. The join
 /// is read with the least rooms that demand 3 allows.
 pub fn obeyed_by(
     mut read: impl FnMut(&[u8], Rooms) -> Option<Parsed>,
@@ -31,9 +31,9 @@ pub fn obeyed_by(
 }
 
 /// The reading of an accepted source.
-fn accepted(source: &[u8]) -> Option<Parsed> {
+fn accepted(limit: u64, source: &[u8]) -> Option<Parsed> {
     let text = answer::text(source).ok()?;
-    unwanted(text).is_none().then(|| parsed(text))
+    unwanted(text).is_none().then(|| parsed(limit, text))
 }
 
 /// The last token is a newline ending in LF, and the token before it is the `end` that closes a

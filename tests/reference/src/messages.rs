@@ -8,10 +8,10 @@ const DOCUMENT: &str = include_str!("../../../docs/MESSAGES.md");
 
 /// The two texts that vary: the token is quoted after the first, the limit named in the second.
 pub const UNRECOGNIZED: &str = "unrecognized token";
-const DEPTH: &str = "control-flow nesting depth exceeded the maximum depth of ";
+const DEPTH_TEXT: &str = "control-flow nesting depth exceeded the maximum depth of ";
 
-/// The limit that the document's depth text names.
-const DOCUMENT_DEPTH: usize = 256;
+/// The number of that about nesting.
+pub const DEPTH: u16 = 49;
 
 #[derive(Debug, Clone, PartialEq, Eq)]
 pub struct Row {
@@ -26,8 +26,8 @@ pub fn rows() -> &'static [Row] {
     ROWS.get_or_init(|| DOCUMENT.lines().filter_map(row).collect())
 }
 
-/// The number of a text that the parser reported.
-pub fn number_of(text: &str) -> Option<u16> {
+/// The number of a text that the parser reported at a limit, which the depth text names. The document names the unit's.
+pub fn number_of(limit: u64, text: &str) -> Option<u16> {
     static NUMBERS: OnceLock<HashMap<&str, u16>> = OnceLock::new();
     let numbers =
         NUMBERS.get_or_init(|| rows().iter().map(|row| (row.text.as_str(), row.number)).collect());
@@ -35,8 +35,9 @@ pub fn number_of(text: &str) -> Option<u16> {
     if text.strip_prefix(UNRECOGNIZED).is_some_and(quotes_token) {
         return numbers.get(UNRECOGNIZED).copied();
     }
-    if text.strip_prefix(DEPTH) == Some(&MAX_CONTROL_FLOW_NESTING.to_string()) {
-        return numbers.get(format!("{DEPTH}{DOCUMENT_DEPTH}").as_str()).copied();
+    if let Some(named) = text.strip_prefix(DEPTH_TEXT) {
+        let document = format!("{DEPTH_TEXT}{MAX_CONTROL_FLOW_NESTING}");
+        return numbers.get(document.as_str()).copied().filter(|_| named == limit.to_string());
     }
     numbers.get(text).copied()
 }

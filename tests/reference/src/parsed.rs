@@ -1,8 +1,9 @@
 //! What `parse_text` makes of a text, in the numbers of document 01.
 
+use miden_utils_diagnostics::miette::MietteDiagnostic;
 use rowan::Event;
 
-use crate::{lexer, messages, parser, syntax::SyntaxKind};
+use crate::{lexer, limits, messages, syntax::SyntaxKind};
 
 /// The event for a token of kind Error; kind 1 itself would open an Error node.
 const ERROR_TOKEN: u16 = 60;
@@ -28,6 +29,13 @@ pub struct Parsed {
     pub diagnostics: Vec<Diagnostic>,
 }
 
+impl Parsed {
+    /// Whether forms are nested deeper than the limit allows.
+    pub fn is_too_deep(&self) -> bool {
+        self.diagnostics.iter().any(|found| found.message == messages::DEPTH)
+    }
+}
+
 /// The lexer's tokens alone.
 pub fn tokens(text: &str) -> Vec<Token> {
     lexer::tokenize_text(text)
@@ -47,14 +55,27 @@ pub fn unwanted(text: &str) -> Option<usize> {
         .map(|token| token.span().into_slice_index().start)
 }
 
-/// Tokens, events and diagnostics of a text without `use` and `extern`.
-pub fn parsed(text: &str) -> Parsed {
-    let parse = parser::parse_text(text);
-    let root = parse.syntax();
-    assert_eq!(root.green().text(), text, "the leaves are not the source");
-    let events = root.green().events().iter().map(event_number).collect();
-    let diagnostics = parse.diagnostics().iter().map(numbered).collect();
+/// Tokens, events and diagnostics of a text without `use` and `extern`, at a limit on nesting.
+pub fn parsed(limit: u64, text: &str) -> Parsed {
+    let (green, diagnostics) = limits::parse(limit, text);
+    assert_eq!(green.text(), text, "the leaves are not the source");
+    let events = green.events().iter().map(event_number).collect();
+    let diagnostics = diagnostics.iter().map(|found| numbered(limit, found)).collect();
     Parsed { tokens: tokens(text), events, diagnostics }
+}
+
+/// The most nodes that are open together.
+pub fn most_open(events: &[u16]) -> usize {
+    let (mut open, mut most) = (0, 0);
+    for event in events {
+        match event {
+            0 => open -= 1,
+            1..=26 => open += 1,
+            _ => {},
+        }
+        most = most.max(open);
+    }
+    most
 }
 
 fn event_number(event: &Event) -> u16 {
@@ -66,11 +87,11 @@ fn event_number(event: &Event) -> u16 {
     }
 }
 
-fn numbered(diagnostic: &crate::diagnostics::miette::MietteDiagnostic) -> Diagnostic {
+fn numbered(limit: u64, diagnostic: &MietteDiagnostic) -> Diagnostic {
     let labels = diagnostic.labels.as_deref().unwrap_or_default();
     let [label] = labels else { panic!("a diagnostic with {} labels", labels.len()) };
     let text = label.label.clone();
-    let message = messages::number_of(&text)
+    let message = messages::number_of(limit, &text)
         .unwrap_or_else(|| panic!("docs/MESSAGES.md has no number for: {text}"));
     Diagnostic { message, start: label.range.start, end: label.range.end, text }
 }

@@ -21,12 +21,12 @@ pub const ROOMS: answer::Rooms = answer::Rooms {
     ends: MAX_INPUT,
 };
 
-/// What `tree` prints for this input. After `ok` and `no 5` the events and diagnostics in the slices follow.
-pub fn tree(source: &[u8]) -> Vec<u8> {
+/// What `tree` prints for this input at a limit; its own is the unit's. After `ok` and `no 5` the events and diagnostics in the slices follow.
+pub fn tree(limit: u64, source: &[u8]) -> Vec<u8> {
     if source.len() > MAX_INPUT {
         return b"long\n".to_vec();
     }
-    let answer::Answer { status, counts: [a, b, c], .. } = answer::answer(source, ROOMS);
+    let answer::Answer { status, counts: [a, b, c], .. } = answer::answer(limit, source, ROOMS);
     let mut out = match status {
         0 => format!("ok {a} {b} {c}\n"),
         _ => format!("no {status} {a} {b} {c}\n"),
@@ -34,7 +34,7 @@ pub fn tree(source: &[u8]) -> Vec<u8> {
     .into_bytes();
     if status == 0 || status == 5 {
         let text = str::from_utf8(source).expect("a source with a tree is UTF-8");
-        let parsed = parsed::parsed(text);
+        let parsed = parsed::parsed(limit, text);
         print_events(&mut out, &parsed);
         let lines = Lines::of(source);
         for diagnostic in parsed.diagnostics.iter().take(ROOMS.diagnostics()) {

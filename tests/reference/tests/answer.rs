@@ -1,7 +1,7 @@
 //! The rows of document 01's answer table.
 
 use reference::{
-    Answer, MAX_SOURCE, Rooms, Slices, answer,
+    Answer, LIMITS, MAX_CONTROL_FLOW_NESTING, MAX_SOURCE, Rooms, Slices, answer,
     answer::{FILL_U16, FILL_U32},
 };
 
@@ -20,7 +20,7 @@ fn summary(answer: &Answer, rooms: Rooms) -> (u64, [u64; 3], [bool; 3]) {
 }
 
 fn check(source: &[u8], rooms: Rooms, expected: (u64, [u64; 3], [bool; 3])) -> Answer {
-    let found = answer(source, rooms);
+    let found = answer(MAX_CONTROL_FLOW_NESTING, source, rooms);
     assert_eq!(summary(&found, rooms), expected);
     if rooms.counts >= 3 {
         assert_eq!(found.slices.counts[..3], expected.1);
@@ -33,6 +33,28 @@ fn six_counts_too_short() {
     let rooms = Rooms { counts: 2, ..ROOMS };
     let found = check(&vec![b'a'; MAX_SOURCE + 1], rooms, (6, [0; 3], [true; 3]));
     assert_eq!(found.slices, Slices::filled(rooms));
+}
+
+/// Before any other refusal but 6, which leaves the counts too; no bits of the limit are cut off.
+#[test]
+fn nine_no_limit() {
+    let refused =
+        [0, 257, 65_541, u64::from(u32::MAX), (1 << 32) + 5, (1 << 32) + 256, 1 << 63, u64::MAX];
+    let long = vec![0xFF; MAX_SOURCE + 1];
+    for limit in refused {
+        for source in [&b""[..], b"\xFF", b"use", &long] {
+            for rooms in [ROOMS, Rooms { counts: 3, ..Rooms::NONE }] {
+                let found = answer(limit, source, rooms);
+                assert_eq!(summary(&found, rooms), (9, [0; 3], [true; 3]));
+                assert_eq!(found.slices.counts, [0; 3]);
+            }
+            let rooms = Rooms { counts: 2, ..ROOMS };
+            assert_eq!(answer(limit, source, rooms).status, 6);
+        }
+    }
+    for limit in LIMITS {
+        assert_eq!(answer(limit, &long, ROOMS).status, 1);
+    }
 }
 
 #[test]

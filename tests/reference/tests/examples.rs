@@ -1,6 +1,14 @@
 //! Document 01's examples, run on the reference.
 
-use reference::{Answer, MAX_SOURCE, Rooms, answer, parsed, tokens, tree::tree};
+use reference::{Answer, MAX_CONTROL_FLOW_NESTING, MAX_SOURCE, Parsed, Rooms, answer, tokens};
+
+fn parsed(text: &str) -> Parsed {
+    reference::parsed(MAX_CONTROL_FLOW_NESTING, text)
+}
+
+fn tree(source: &[u8]) -> Vec<u8> {
+    reference::tree::tree(MAX_CONTROL_FLOW_NESTING, source)
+}
 
 /// (start, end) of each diagnostic.
 fn spans(text: &str) -> Vec<(u32, u32)> {
@@ -13,7 +21,7 @@ fn lexed(text: &str) -> Vec<(u16, u32)> {
 }
 
 fn ample(source: &[u8]) -> Answer {
-    answer(source, Rooms::ample(source.len()))
+    answer(MAX_CONTROL_FLOW_NESTING, source, Rooms::ample(source.len()))
 }
 
 #[test]

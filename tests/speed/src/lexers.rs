@@ -4,6 +4,7 @@
 //! behind the tokens with status 3.
 
 use exported::Lent;
+use reference::MAX_CONTROL_FLOW_NESTING;
 
 use crate::{inputs, table, timing};
 
@@ -94,7 +95,7 @@ fn proved(source: &[u8], slices: &mut Slices) -> u64 {
         starts: &mut [],
         ends: &mut [],
     };
-    assert_eq!(exported::parse_text(source, lent), TOKEN_ROOM);
+    assert_eq!(exported::parse_text(MAX_CONTROL_FLOW_NESTING, source, lent), TOKEN_ROOM);
     assert_eq!(counts[0], *room as u64 + 1, "the number of tokens");
     counts[0]
 }

@@ -1,7 +1,7 @@
 //! Where the call's time goes. It ends early where the source is refused or a room is short, so the
 //! times of three calls tell its parts.
 
-use reference::{Rooms, Slices};
+use reference::{MAX_CONTROL_FLOW_NESTING as LIMIT, Rooms, Slices};
 
 use crate::{inputs, timing};
 
@@ -52,7 +52,7 @@ fn shortened(mut source: Vec<u8>) -> Vec<u8> {
 fn print_row(name: &str, source: Vec<u8>) {
     let rooms = Rooms::ample(source.len() + NOT_UTF8.len());
     let mut slices = Slices::filled(rooms);
-    assert_eq!(exported::parse_text(&source, (&mut slices).into()), 0);
+    assert_eq!(exported::parse_text(LIMIT, &source, (&mut slices).into()), 0);
     let tokens = slices.counts[0] as usize;
     let short = Slices::filled(Rooms { token_kinds: tokens - 1, ..rooms });
     let not_utf8 = [&source, NOT_UTF8].concat();
@@ -69,15 +69,15 @@ fn print_row(name: &str, source: Vec<u8>) {
 }
 
 fn not_utf8(_: &[u8], ends: &mut Ends) -> u64 {
-    expect(2, exported::parse_text(&ends.not_utf8, (&mut ends.slices).into()))
+    expect(2, exported::parse_text(LIMIT, &ends.not_utf8, (&mut ends.slices).into()))
 }
 
 fn token_room(source: &[u8], ends: &mut Ends) -> u64 {
-    expect(3, exported::parse_text(source, (&mut ends.short).into()))
+    expect(3, exported::parse_text(LIMIT, source, (&mut ends.short).into()))
 }
 
 fn accepted(source: &[u8], ends: &mut Ends) -> u64 {
-    expect(0, exported::parse_text(source, (&mut ends.slices).into()))
+    expect(0, exported::parse_text(LIMIT, source, (&mut ends.slices).into()))
 }
 
 fn expect(expected: u64, status: u64) -> u64 {

@@ -1,7 +1,7 @@
 //! The whole reader: the exported call against the upstream parser, and against what no reader can
 //! do without.
 
-use reference::{Rooms, Slices, answer, parser};
+use reference::{MAX_CONTROL_FLOW_NESTING, Rooms, Slices, answer, parser};
 
 use crate::{inputs, table, timing};
 
@@ -39,9 +39,9 @@ pub fn run() {
 
 /// The call's answer, which is the reference's.
 fn check(input: &inputs::Input, rooms: Rooms) -> [u64; 3] {
-    let expected = answer(&input.bytes, rooms);
+    let expected = answer(MAX_CONTROL_FLOW_NESTING, &input.bytes, rooms);
     let mut slices = Slices::filled(rooms);
-    let status = exported::parse_text(&input.bytes, (&mut slices).into());
+    let status = exported::parse_text(MAX_CONTROL_FLOW_NESTING, &input.bytes, (&mut slices).into());
     let same = (status, slices) == (expected.status, expected.slices);
     assert!(same, "call and reference differ on {}", input.name);
     expected.counts
@@ -54,7 +54,7 @@ fn upstream(source: &[u8], _: &mut Lent) -> u64 {
 }
 
 fn proved(source: &[u8], lent: &mut Lent) -> u64 {
-    exported::parse_text(source, (&mut lent.slices).into())
+    exported::parse_text(MAX_CONTROL_FLOW_NESTING, source, (&mut lent.slices).into())
 }
 
 fn copy(source: &[u8], lent: &mut Lent) -> u64 {

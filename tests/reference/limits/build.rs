@@ -1,7 +1,7 @@
 //! Finds the upstream sources, checks that they are the expected ones and names them as modules.
 //!
-//! `MASM_CST_SRC` is their folder (a relative path starts at the repository root) and
-//! `MASM_CST_DEPTH` the limit on control-flow nesting, 256 unless set.
+//! `MASM_CST_SRC` is their folder (a relative path starts at the repository root). The limit on control-flow nesting stands in
+//! the package's name.
 
 use std::{
     env, fs,
@@ -10,12 +10,11 @@ use std::{
 };
 
 const DEFAULT_SOURCES: &str = "../shared/docs/src/crates/assembly-syntax-cst/src";
-const DEFAULT_DEPTH: &str = "256";
 
 fn main() {
-    let package = PathBuf::from(env::var("CARGO_MANIFEST_DIR").unwrap());
-    let folder = package.join("../..").join(setting("MASM_CST_SRC", DEFAULT_SOURCES));
-    let sums = package.join("sources.sha256");
+    let limits = PathBuf::from(env::var("CARGO_MANIFEST_DIR").unwrap()).join("..");
+    let folder = limits.join("../../..").join(setting("MASM_CST_SRC", DEFAULT_SOURCES));
+    let sums = limits.join("../sources.sha256");
     println!("cargo::rerun-if-changed={}", sums.display());
 
     let mut modules = String::new();
@@ -27,13 +26,16 @@ fn main() {
         modules += &format!("#[path = {:?}]\npub mod {module};\n", path.canonicalize().unwrap());
     }
 
-    let depth = setting("MASM_CST_DEPTH", DEFAULT_DEPTH);
-    let Ok(depth) = depth.parse::<usize>() else {
-        stop(&format!("MASM_CST_DEPTH is not a number: {depth}"));
-    };
-    modules += &format!("pub const MAX_CONTROL_FLOW_NESTING: usize = {depth};\n");
+    let limit = limit(&env::var("CARGO_PKG_NAME").unwrap());
+    modules += &format!("pub const MAX_CONTROL_FLOW_NESTING: usize = {limit};\n");
     let out = PathBuf::from(env::var("OUT_DIR").unwrap()).join("sources.rs");
     fs::write(out, modules).unwrap();
+}
+
+/// The number behind `limit_`.
+fn limit(package: &str) -> usize {
+    let number = package.strip_prefix("limit_").and_then(|number| number.parse().ok());
+    number.expect("a package named by its limit")
 }
 
 fn setting(name: &str, default: &str) -> String {
