@@ -1,6 +1,6 @@
 //! Limits: nesting around its limit, sources around 1,048,576 bytes, quotes at every ending.
 
-use reference::{MAX_CONTROL_FLOW_NESTING, MAX_SOURCE};
+use reference::MAX_SOURCE;
 
 /// Control forms: what opens one, what stands before its closer, its closer.
 pub const FORMS: [(&str, &str, &str); 6] = [
@@ -12,9 +12,9 @@ pub const FORMS: [(&str, &str, &str); 6] = [
     ("do ", "while ", "end "),
 ];
 
-/// The control forms nested two less deep than allowed to three more, closed and left open, in both owners.
-pub fn depths() -> impl Iterator<Item = Vec<u8>> {
-    let around = MAX_CONTROL_FLOW_NESTING - 2..=MAX_CONTROL_FLOW_NESTING + 3;
+/// The control forms nested two less deep than a limit allows to three more, closed and left open, in both owners.
+pub fn depths(limit: usize) -> impl Iterator<Item = Vec<u8>> {
+    let around = limit.saturating_sub(2)..=limit + 3;
     around.flat_map(|depth| [mixed(depth)].into_iter().chain(alike(depth)))
 }
 

@@ -1,8 +1,8 @@
 //! Document 01's examples, the messages' smallest inputs, and sources that tell the reader's definitions from their neighbours.
 
-use reference::{MAX_CONTROL_FLOW_NESTING, messages};
+use reference::messages;
 
-use crate::{chosen::CHOSEN, spellings::KEYWORDS};
+use crate::{chosen::CHOSEN, limits::UNIT, spellings::KEYWORDS};
 
 const TABLE: [&str; 20] = [
     "", "begin", "\r\r\n", "\"\"", "\"a b\"", "\"a\\\nb\"", "\"a\n", "0b12", ")",
@@ -69,10 +69,10 @@ pub fn neighbours() -> impl Iterator<Item = Vec<u8>> {
 /// The limit on nesting met in every form, in the second block of an `if` and a `do`, and just not met.
 pub fn deepest() -> impl Iterator<Item = Vec<u8>> {
     let met = ["do do", "while while", "repeat repeat", "if else if", "do while if"];
-    let met = met.into_iter().map(|last| opened(MAX_CONTROL_FLOW_NESTING - 1, last));
+    let met = met.into_iter().map(|last| opened(UNIT - 1, last));
     let inner =
         "repeat if a end end while if end end do if end while if end end if if end else if end end";
-    met.chain([opened(MAX_CONTROL_FLOW_NESTING - 2, inner)])
+    met.chain([opened(UNIT - 2, inner)])
 }
 
 /// So many open `if`, and what stands behind them.

@@ -1,6 +1,6 @@
 //! The frames that program `cases` reads.
 
-use reference::Rooms;
+use reference::{MAX_CONTROL_FLOW_NESTING, Rooms};
 
 use crate::offsets::Question;
 
@@ -13,25 +13,26 @@ pub enum Asked {
     Lines,
 }
 
-/// The number of what is asked, the length of the source and of the six slices, then the source.
-pub fn frame(asked: Asked, source: &[u8], rooms: Rooms) -> Vec<u8> {
+/// The number of what is asked, the limit, the length of the source and of the six slices, then the source.
+pub fn frame(asked: Asked, limit: u64, source: &[u8], rooms: Rooms) -> Vec<u8> {
     let Rooms { token_kinds, token_ends, events, messages, starts, ends, .. } = rooms;
     let lengths = [source.len(), token_kinds, token_ends, events, messages, starts, ends];
-    let mut bytes = (asked as u32).to_le_bytes().to_vec();
-    for length in lengths {
-        let length = u32::try_from(length).expect("lengths fit in four bytes");
-        bytes.extend(length.to_le_bytes());
+    let numbers = [asked as u64, limit].into_iter().chain(lengths.map(|length| length as u64));
+    let mut bytes = Vec::new();
+    for number in numbers {
+        let number = u32::try_from(number).expect("numbers of a frame fit in four bytes");
+        bytes.extend(number.to_le_bytes());
     }
     bytes.extend(source);
     bytes
 }
 
-/// The same frame for lines: the number of offsets stands in the place of the token ends, the rooms
+/// The frame for lines, with the unit's limit: the number of offsets stands in the place of the token ends, the rooms
 /// of lines and columns in those of the starts and ends. The offsets follow the source.
 pub fn lines_frame(source: &[u8], question: &Question) -> Vec<u8> {
     let Question { offsets, lines, columns } = question;
     let rooms = Rooms { token_ends: offsets.len(), starts: *lines, ends: *columns, ..Rooms::NONE };
-    let mut bytes = frame(Asked::Lines, source, rooms);
+    let mut bytes = frame(Asked::Lines, MAX_CONTROL_FLOW_NESTING, source, rooms);
     bytes.extend(offsets.iter().flat_map(|offset| offset.to_le_bytes()));
     bytes
 }

@@ -2,10 +2,12 @@
 
 pub mod chosen;
 pub mod damage;
+pub mod deep;
 pub mod edges;
 pub mod examples;
 pub mod frame;
 pub mod lexical;
+pub mod limits;
 pub mod lines;
 pub mod near;
 pub mod nested;
@@ -25,17 +27,28 @@ pub mod tails;
 pub mod utf8;
 pub mod written;
 
+use std::iter;
+
+use limits::{Limited, UNIT};
 use random::Random;
-use reference::MAX_SOURCE;
+use reference::{MAX_CONTROL_FLOW_NESTING, MAX_SOURCE};
 use rooms::Plan;
 use spellings::{GLUED, SPELLINGS};
 
-/// A source and the rooms lent for it.
+/// A source, the limit at which it is read and the rooms lent for it.
 #[derive(Debug, Clone, PartialEq, Eq)]
 pub struct Case {
     pub family: Family,
+    pub limit: u64,
     pub source: Vec<u8>,
     pub plan: Plan,
+}
+
+impl Case {
+    /// A case at the unit's limit.
+    pub fn at_unit(family: Family, source: Vec<u8>, plan: Plan) -> Self {
+        Self { family, limit: MAX_CONTROL_FLOW_NESTING, source, plan }
+    }
 }
 
 #[derive(Debug, Clone, Copy, PartialEq, Eq)]
@@ -82,14 +95,20 @@ pub enum Family {
     Places,
     /// Line ends of every sort.
     Lines,
+    /// Control forms nested around each limit, and numbers that are no limits.
+    Limits,
+    /// Sources of the families before, at lower limits than the unit's.
+    Lower,
     /// Bytes that are no UTF-8 behind texts that are, and scripts that are cut off.
     Tails,
+    /// Numbers that are no limits, also with short slices.
+    Refusals,
 }
 
 impl Family {
-    /// The families for the whole reader; the first ten are the lexer's, and the first seventeen
-    /// those that programs are asked.
-    pub const ALL: [Self; 18] = [
+    /// The families for the whole reader. The first ten are the lexer's, the first seventeen are at
+    /// the unit's limit, and the first nineteen those that programs are asked.
+    pub const ALL: [Self; 21] = [
         Self::Examples,
         Self::Spaced,
         Self::Joined,
@@ -107,10 +126,14 @@ impl Family {
         Self::Pairs,
         Self::Places,
         Self::Lines,
+        Self::Limits,
+        Self::Lower,
         Self::Tails,
+        Self::Refusals,
     ];
     pub const LEXER: &'static [Self] = Self::ALL.split_at(10).0;
-    pub const PROGRAM: &'static [Self] = Self::ALL.split_at(17).0;
+    pub const UNIT: &'static [Self] = Self::ALL.split_at(17).0;
+    pub const PROGRAM: &'static [Self] = Self::ALL.split_at(19).0;
 
     pub fn name(self) -> String {
         format!("{self:?}").to_lowercase()
@@ -121,19 +144,21 @@ impl Family {
     }
 }
 
-type Sources = Box<dyn Iterator<Item = Vec<u8>> + Send>;
+type Sources<Source = Vec<u8>> = Box<dyn Iterator<Item = Source> + Send>;
 
 /// All cases of a size, family by family.
 pub fn cases(families: &[Family], size: Size) -> impl Iterator<Item = Case> + Send {
     families.iter().flat_map(move |&family| {
         let mut random = Random::new(family as u64);
-        sources(family, size).flat_map(move |source| {
+        limited(family, size).flat_map(move |(limit, source)| {
             let plans = match family {
                 Family::Rooms | Family::Tails => vec![Plan::odd(&mut random)],
                 Family::Slices => Plan::each(),
+                Family::Limits => vec![Plan::AMPLE, Plan::odd(&mut random)],
+                Family::Refusals => Plan::with_few_counts(),
                 _ => vec![Plan::AMPLE],
             };
-            plans.into_iter().map(move |plan| Case { family, source: source.clone(), plan })
+            plans.into_iter().map(move |plan| Case { family, limit, source: source.clone(), plan })
         })
     })
 }
@@ -142,6 +167,12 @@ pub fn cases(families: &[Family], size: Size) -> impl Iterator<Item = Case> + Se
 pub fn pairs(size: Size) -> impl Iterator<Item = pairs::Pair> {
     let mut random = sampling(Family::Pairs);
     (0..PAIRS * times(size)).map(move |_| pairs::pair(&mut random))
+}
+
+/// Those pairs, the same at each of the lowest limits in turn, and a few around each limit.
+pub fn pairs_at_limits(size: Size) -> impl Iterator<Item = (u64, pairs::Pair)> {
+    let at_unit = pairs(size).map(|pair| (MAX_CONTROL_FLOW_NESTING, pair));
+    at_unit.chain((1..=3).cycle().zip(pairs(size))).chain(limits::pairs())
 }
 
 const PAIRS: usize = 15_000;
@@ -165,6 +196,28 @@ fn sampling(family: Family) -> Random {
     Random::new(1000 + family as u64)
 }
 
+/// The sources of a family, each with its limit.
+fn limited(family: Family, size: Size) -> impl Iterator<Item = Limited> + Send {
+    let at_unit = sources(family, size).map(|source| (MAX_CONTROL_FLOW_NESTING, source));
+    at_unit.chain(at_limits(family, size))
+}
+
+/// Those of a family that is read at several limits.
+fn at_limits(family: Family, size: Size) -> Sources<Limited> {
+    match family {
+        Family::Limits => {
+            Box::new(limits::examples().chain(limits::around()).chain(limits::framed_refusals()))
+        },
+        Family::Lower => {
+            let all = Family::UNIT.iter().flat_map(move |family| sources(*family, size));
+            Box::new(limits::lower(all))
+        },
+        Family::Refusals => Box::new(limits::refusals()),
+        _ => Box::new(iter::empty()),
+    }
+}
+
+/// Those of a family that is read at the unit's limit alone.
 fn sources(family: Family, size: Size) -> Sources {
     let longer = u32::from(size != Size::Ci);
     let sampled = |count: usize, make: fn(&mut Random) -> Vec<u8>| -> Sources {
@@ -184,14 +237,14 @@ fn sources(family: Family, size: Size) -> Sources {
         Family::Scripts => Box::new(sampled(1_000, any_script).chain(sampled(2, full_script))),
         Family::Damaged => sampled(30_000, damaged_script),
         Family::Edges => Box::new(
-            edges::depths()
+            edges::depths(UNIT)
                 .chain(edges::endings())
                 .chain(edges::tree_sizes())
                 .chain(edges::sizes()),
         ),
         Family::Rooms => sampled(15_000, any_source),
         Family::Publics => Box::new(publics::all(longer)),
-        Family::Nested => Box::new(nested::all()),
+        Family::Nested => Box::new(nested::all(UNIT)),
         Family::Shapes => Box::new(shapes::all()),
         Family::Slices => Box::new(examples::documented().chain(sampled(200, any_source))),
         Family::Pairs => sampled(PAIRS, pairs::joined),
@@ -205,6 +258,7 @@ fn sources(family: Family, size: Size) -> Sources {
         Family::Tails => {
             Box::new(tails::behind_starts().chain(sampled(30_000, tails::broken_script)))
         },
+        Family::Limits | Family::Lower | Family::Refusals => Box::new(iter::empty()),
     }
 }
 

@@ -118,7 +118,7 @@ fn replaced(random: &mut Random, source: &[u8]) -> Vec<u8> {
 #[cfg(test)]
 mod tests {
     use super::*;
-    use reference::{Lines, Reading, reading};
+    use reference::{Lines, MAX_CONTROL_FLOW_NESTING, Reading, reading};
 
     /// Diagnostics of samples by where they start: at a CR, at the LF of a CR LF, behind a CR that
     /// is no LF's, behind a CR LF.
@@ -127,7 +127,9 @@ mod tests {
         let mut random = Random::new(1);
         let mut counts = [0; 4];
         for source in (0..3_000).map(|_| script_with_ends(&mut random)) {
-            let Reading::Parsed(parsed) = reading(&source) else { continue };
+            let Reading::Parsed(parsed) = reading(MAX_CONTROL_FLOW_NESTING, &source) else {
+                continue;
+            };
             for found in parsed.diagnostics {
                 let (before, behind) = source.split_at(found.start as usize);
                 let lone = before.ends_with(b"\r") && !behind.starts_with(b"\n");

@@ -1,13 +1,10 @@
 //! Control forms left open in front of a boundary: each open block meets it in turn.
 
-use reference::MAX_CONTROL_FLOW_NESTING as LIMIT;
+use std::collections::BTreeSet;
 
 use crate::edges::FORMS;
 
 const OWNERS: [&str; 2] = ["begin ", "proc a\n"];
-
-/// Few forms, and around the limit.
-const DEPTHS: [usize; 8] = [0, 1, 2, 3, LIMIT - 1, LIMIT, LIMIT + 1, LIMIT + 2];
 
 /// What stands behind the open forms.
 const BEHIND: [&str; 18] = [
@@ -31,8 +28,10 @@ const BEHIND: [&str; 18] = [
     "do while .a end",
 ];
 
-pub fn all() -> impl Iterator<Item = Vec<u8>> {
-    DEPTHS.into_iter().flat_map(|depth| {
+/// Few forms, and as many as a limit allows, one less and more.
+pub fn all(limit: usize) -> impl Iterator<Item = Vec<u8>> {
+    let depths: BTreeSet<usize> = (0..=3).chain(limit - 1..=limit + 2).collect();
+    depths.into_iter().flat_map(|depth| {
         FORMS.iter().flat_map(move |(open, middle, _)| {
             let opened = open.repeat(depth);
             // With and without the last form's second block.

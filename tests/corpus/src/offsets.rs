@@ -1,6 +1,6 @@
 //! Offsets whose lines are asked, and the lengths of the slices lent for the answer.
 
-use reference::{Lines, Reading, reading};
+use reference::{Lines, MAX_CONTROL_FLOW_NESTING, Reading, reading};
 
 use crate::{Case, Family, random::Random, rooms::Needs};
 
@@ -103,7 +103,9 @@ fn starts(source: &[u8]) -> Vec<u32> {
     if source.len() > READ {
         return Vec::new();
     }
-    let Reading::Parsed(parsed) = reading(source) else { return Vec::new() };
+    let Reading::Parsed(parsed) = reading(MAX_CONTROL_FLOW_NESTING, source) else {
+        return Vec::new();
+    };
     parsed.diagnostics.iter().take(8 * SOME).map(|found| found.start).collect()
 }
 
@@ -133,7 +135,7 @@ mod tests {
     use crate::rooms::Plan;
 
     fn asked(source: &[u8], order: Order) -> Question {
-        let case = Case { family: Family::Scripts, source: source.to_vec(), plan: Plan::AMPLE };
+        let case = Case::at_unit(Family::Scripts, source.to_vec(), Plan::AMPLE);
         Question::of(&case, &[order]).remove(0)
     }
 

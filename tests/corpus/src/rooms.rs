@@ -119,6 +119,21 @@ impl Plan {
         short.chain([Self::EXACT]).collect()
     }
 
+    /// Up to three counts, with room enough for the rest and with none.
+    pub fn with_few_counts() -> Vec<Self> {
+        let none = Self {
+            counts: 0,
+            token_kinds: Room::Zero,
+            token_ends: Room::Zero,
+            events: Room::Zero,
+            messages: Room::Zero,
+            starts: Room::Zero,
+            ends: Room::Zero,
+        };
+        let plans = [Self::AMPLE, none].into_iter();
+        plans.flat_map(|plan| (0..=3).map(move |counts| Self { counts, ..plan })).collect()
+    }
+
     /// The lengths; no slice is longer than the largest source can fill.
     pub fn rooms(&self, needs: Needs) -> Rooms {
         let tokens = |room: Room| room.length(needs.tokens).min(MAX_SOURCE);

@@ -1,8 +1,6 @@
 //! Sources of one shape and any length, for differential runs, growth and times.
 
-use reference::MAX_CONTROL_FLOW_NESTING;
-
-use crate::{random::Random, script};
+use crate::{limits::UNIT, random::Random, script};
 
 /// A text that repeats one piece.
 #[derive(Debug, Clone, Copy, PartialEq, Eq)]
@@ -65,7 +63,7 @@ const fn deep(
     piece: &'static str,
     tail: &'static str,
 ) -> Shape {
-    Shape { name, deep: MAX_CONTROL_FLOW_NESTING, head, piece, tail }
+    Shape { name, deep: UNIT, head, piece, tail }
 }
 
 impl Shape {

@@ -37,7 +37,7 @@ fn items() -> Vec<&'static str> {
 #[cfg(test)]
 mod tests {
     use super::*;
-    use reference::{Rooms, answer};
+    use reference::{MAX_CONTROL_FLOW_NESTING, Rooms, answer};
 
     #[test]
     fn items_are_procedures() {
@@ -50,7 +50,7 @@ mod tests {
     fn written_scripts_have_no_diagnostics() {
         let source = written(20_000);
         let whole = &source[..source.windows(6).rposition(|w| w == b"\nend\n\n").unwrap() + 5];
-        let answer = answer(whole, Rooms::ample(whole.len()));
+        let answer = answer(MAX_CONTROL_FLOW_NESTING, whole, Rooms::ample(whole.len()));
         assert_eq!((answer.status, answer.counts[2]), (0, 0));
     }
 }

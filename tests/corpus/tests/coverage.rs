@@ -2,8 +2,13 @@
 
 use std::collections::{BTreeMap, BTreeSet};
 
-use corpus::{Case, Family, Size, cases, rooms::Needs};
-use reference::{MAX_CONTROL_FLOW_NESTING, MAX_SOURCE, Reading, messages, reading};
+use corpus::{Case, Family, Size, cases, limits, rooms::Needs};
+use reference::{
+    LIMITS, MAX_SOURCE, Reading,
+    messages::{self, DEPTH},
+    parsed::most_open,
+    reading,
+};
 
 /// One case in so many is looked at, so that the test stays short.
 const STEP: usize = 7;
@@ -16,7 +21,7 @@ fn every_kind_message_and_status_occurs() {
         case.0.is_multiple_of(STEP) || matches!(case.1.family, Family::Examples | Family::Edges)
     };
     for (_, case) in cases(Family::PROGRAM, Size::Ci).enumerate().filter(looked_at) {
-        let reading = reading(&case.source);
+        let reading = reading(case.limit, &case.source);
         let found = reading.answer(case.plan.rooms(Needs::of(&reading)));
         statuses.insert(found.status);
         if found.status == 0 {
@@ -26,37 +31,48 @@ fn every_kind_message_and_status_occurs() {
             shown.extend(&found.slices.messages[..diagnostics]);
         }
     }
-    assert_eq!(statuses, (0..=6).collect());
+    assert_eq!(statuses, (0..=6).chain([9]).collect());
     assert_eq!(kinds, [1].into_iter().chain(27..=59).collect());
     assert_eq!(shown, messages::rows().iter().map(|row| row.number).collect());
     // Extern packages and imports (5, 7, 8, 9) are refused.
     assert_eq!(opened, (0..=26).filter(|kind| ![5, 7, 8, 9].contains(kind)).collect());
 }
 
-/// What document 01 says of every parse.
+/// What document 01 and M-104 say of every parse.
 #[test]
 fn bounds_hold() {
     for case in cases(Family::PROGRAM, Size::Ci).step_by(STEP) {
-        let Reading::Parsed(parsed) = reading(&case.source) else { continue };
+        let Reading::Parsed(parsed) = reading(case.limit, &case.source) else { continue };
         let tokens = parsed.tokens.len();
         assert!(parsed.events.len() <= 7 * tokens + 2);
         assert!(parsed.diagnostics.len() <= 2 * tokens);
-        assert!(most_open(&parsed.events) <= 2 * MAX_CONTROL_FLOW_NESTING + 4);
+        assert!(most_open(&parsed.events) <= most_allowed(case.limit));
     }
 }
 
-/// The most nodes that are open together.
-fn most_open(events: &[u16]) -> usize {
-    let (mut open, mut most) = (0usize, 0);
-    for event in events {
-        match event {
-            0 => open -= 1,
-            1..=26 => open += 1,
-            _ => {},
+/// The most nodes that may be open at a limit.
+fn most_allowed(limit: u64) -> usize {
+    2 * limit as usize + 4
+}
+
+/// So many are open in some source, and so deep are sources that are closed; each limit is met, by one form more too.
+#[test]
+fn sources_go_up_to_each_limit() {
+    let (mut most, mut closed, mut met) = (BTreeMap::new(), BTreeSet::new(), BTreeMap::new());
+    for (limit, source) in limits::around() {
+        let Reading::Parsed(parsed) = reading(limit, &source) else { continue };
+        let open = most_open(&parsed.events);
+        let deepest: &mut usize = most.entry(limit).or_default();
+        *deepest = open.max(*deepest);
+        if parsed.diagnostics.is_empty() && open + 1 >= most_allowed(limit) {
+            closed.insert(limit);
         }
-        most = most.max(open);
+        let depth = parsed.diagnostics.iter().filter(|found| found.message == DEPTH).count();
+        *met.entry(limit).or_insert(0) += depth;
     }
-    most
+    assert_eq!(most, LIMITS.map(|limit| (limit, most_allowed(limit))).into());
+    assert_eq!(closed, LIMITS.into());
+    assert!(met.len() == LIMITS.len() && met.values().all(|count| *count > 200), "{met:?}");
 }
 
 #[test]

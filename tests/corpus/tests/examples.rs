@@ -3,10 +3,12 @@
 use std::collections::BTreeSet;
 
 use corpus::{edges, examples, lexical, places, samples, utf8};
-use reference::{Reading, messages, parsed, reading, tree::tree};
-
-/// The number of the message about nesting.
-const DEPTH: u16 = 49;
+use reference::{
+    MAX_CONTROL_FLOW_NESTING as UNIT, Reading,
+    messages::{self, DEPTH},
+    parsed, reading,
+    tree::tree,
+};
 
 fn text(source: &[u8]) -> &str {
     str::from_utf8(source).expect("the source is text")
@@ -17,7 +19,7 @@ fn the_limit_is_met_at_the_last_word_or_not_at_all() {
     let mut met = 0;
     for source in examples::deepest() {
         let text = text(&source);
-        let parsed = parsed(text);
+        let parsed = parsed(UNIT, text);
         let last = text.rfind(' ').expect("words") + 1;
         let depths = parsed.diagnostics.iter().filter(|found| found.message == DEPTH);
         let starts: Vec<usize> = depths.map(|found| found.start as usize).collect();
@@ -32,7 +34,7 @@ fn chosen_sources_are_accepted_and_stand_once() {
     let before: BTreeSet<Vec<u8>> = examples::documented().chain(examples::neighbours()).collect();
     let mut seen = BTreeSet::new();
     for source in examples::chosen() {
-        assert!(matches!(reading(&source), Reading::Parsed(_)), "{}", source.escape_ascii());
+        assert!(matches!(reading(UNIT, &source), Reading::Parsed(_)), "{}", source.escape_ascii());
         assert!(!before.contains(&source), "{} is an example anyway", source.escape_ascii());
         assert!(seen.insert(source));
     }
@@ -43,7 +45,7 @@ fn chosen_sources_are_accepted_and_stand_once() {
 #[test]
 fn a_key_stands_on_the_line_of_its_name() {
     let source = b"adv_map X\n(a) = 1".to_vec();
-    assert_eq!(parsed(text(&source)).diagnostics.len(), 1);
+    assert_eq!(parsed(UNIT, text(&source)).diagnostics.len(), 1);
     assert!(examples::all().any(|other| other == source));
     assert!(samples::sources().any(|other| other == source));
 }
@@ -52,7 +54,7 @@ fn a_key_stands_on_the_line_of_its_name() {
 fn samples_show_every_message_and_every_kind() {
     let (mut shown, mut kinds) = (BTreeSet::new(), BTreeSet::new());
     for source in samples::sources() {
-        let parsed = parsed(text(&source));
+        let parsed = parsed(UNIT, text(&source));
         shown.extend(parsed.diagnostics.iter().map(|found| found.message));
         kinds.extend(parsed.tokens.iter().map(|token| token.kind));
     }
@@ -83,7 +85,7 @@ fn bounds_of_the_table_have_neighbours() {
 
 #[test]
 fn tree_is_full_too_long_and_without_room() {
-    let answers: Vec<Vec<u8>> = edges::tree_bounds().map(|source| tree(&source)).collect();
+    let answers: Vec<Vec<u8>> = edges::tree_bounds().map(|source| tree(UNIT, &source)).collect();
     let starts: [&[u8]; 3] = [b"ok 1 3 0\n", b"long\n", b"no 5 "];
     assert_eq!(answers.len(), starts.len());
     assert!(answers.iter().zip(starts).all(|(answer, start)| answer.starts_with(start)));

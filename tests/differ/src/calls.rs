@@ -37,10 +37,10 @@ pub fn run(made: Call, cases: impl Iterator<Item = Case>) -> Outcome {
 
 /// Nothing where status and all slices are the reference's and the red zones are untouched.
 fn compare(made: Call, case: Case) -> Option<Mismatch> {
-    let reading = reading(&case.source);
+    let reading = reading(case.limit, &case.source);
     let rooms = case.plan.rooms(Needs::of(&reading));
     let expected = reading.answer(rooms);
-    let (status, left) = call(made, &case.source, rooms);
+    let (status, left) = call(made, case.limit, &case.source, rooms);
     if status == expected.status && left.as_ref() == Some(&expected.slices) {
         return None;
     }

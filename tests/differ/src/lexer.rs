@@ -5,7 +5,7 @@ use corpus::{
     frame::{Asked, frame},
     rooms::Needs,
 };
-use reference::{Rooms, Slices, answer};
+use reference::{MAX_CONTROL_FLOW_NESTING, Rooms, Slices, answer};
 
 use crate::part::{Exchange, Limits, Part, push_line};
 
@@ -36,5 +36,6 @@ fn exchange(case: &Case, limits: Limits) -> Exchange {
     push_line(&mut expected, row);
     push_line(&mut expected, slices.token_kinds);
     push_line(&mut expected, slices.token_ends);
-    Exchange { frame: frame(Asked::Tokens, &case.source, rooms), expected }
+    let frame = frame(Asked::Tokens, MAX_CONTROL_FLOW_NESTING, &case.source, rooms);
+    Exchange { frame, expected }
 }

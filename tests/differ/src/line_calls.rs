@@ -6,7 +6,7 @@ use corpus::{
     pairs::Pair,
 };
 use exported::zones::{LinesCall, call_lines};
-use reference::{Lines, joined, lines::Left};
+use reference::{Lines, MAX_CONTROL_FLOW_NESTING, joined, lines::Left};
 
 use crate::{
     lines::{expected, text},
@@ -66,7 +66,7 @@ fn compare(made: LinesCall, case: &Case, question: Question) -> Option<Mismatch>
 pub fn check_joins(made: LinesCall, pairs: impl Iterator<Item = Pair>) -> bool {
     let (mut inside, mut failures) = (0, 0);
     for (first, second) in pairs {
-        if joined::obeyed(&first, &second) != Some(true) {
+        if joined::obeyed(MAX_CONTROL_FLOW_NESTING, &first, &second) != Some(true) {
             continue;
         }
         inside += 1;

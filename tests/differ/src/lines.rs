@@ -13,7 +13,7 @@ use reference::{
 use crate::part::{Exchange, Part, push_line};
 
 pub fn part() -> Part {
-    Part { name: "lines", families: Family::PROGRAM, exchange: Box::new(exchange) }
+    Part { name: "lines", families: Family::UNIT, exchange: Box::new(exchange) }
 }
 
 /// Answer: how many were written, then what is left in the slices of lines and columns. An example

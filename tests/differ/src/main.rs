@@ -2,6 +2,7 @@
 //! reference.
 
 mod calls;
+mod larger;
 mod lexer;
 mod line_calls;
 mod lines;
@@ -13,7 +14,7 @@ mod trees;
 
 use std::{env, path::Path, process::ExitCode, time::Duration};
 
-use corpus::{Family, Size, cases, pairs, pairs_of_lines};
+use corpus::{Family, Size, cases, pairs_at_limits, pairs_of_lines};
 use exported::accepted::accepted;
 use part::{Limits, Part};
 use readings::check_joins;
@@ -86,7 +87,7 @@ fn compare(name: &str, program: &str, options: &[&str]) -> Option<ExitCode> {
     let part = part(name, limits)?;
     let families = chosen(part.families, family);
     let joins = !families.contains(&Family::Pairs)
-        || check_joins("reference", pairs(size).step_by(every), joined::obeyed);
+        || check_joins("reference", pairs_at_limits(size).step_by(every), joined::obeyed);
     let cases = cases(&families, size).step_by(every);
     let outcome = run::run(&part, Path::new(program), patience, cases);
     outcome.print(part.name);
@@ -100,25 +101,31 @@ fn compare_calls(options: &[&str]) -> Option<ExitCode> {
         println!("{}", exported::MISSING);
         return Some(ExitCode::FAILURE);
     }
-    let read = |source: &[u8], rooms| accepted(exported::parse_text, source, rooms);
-    let obeyed = |first: &[u8], second: &[u8]| joined::obeyed_by(read, first, second);
+    let obeyed = |limit: u64, first: &[u8], second: &[u8]| {
+        let read = |source: &[u8], rooms| accepted(exported::parse_text, limit, source, rooms);
+        joined::obeyed_by(read, first, second)
+    };
     let families = chosen(&Family::ALL, family);
     let joins = !families.contains(&Family::Pairs)
-        || check_joins("call", pairs(size).step_by(every), obeyed);
+        || check_joins("call", pairs_at_limits(size).step_by(every), obeyed);
+    let at_limits = among(&families, &[Family::Limits, Family::Lower]);
+    let larger = at_limits.is_empty()
+        || larger::check(exported::parse_text, cases(&at_limits, size).step_by(every));
     let outcome = calls::run(exported::parse_text, cases(&families, size).step_by(every));
     outcome.print("calls");
-    Some(exit_code(joins && outcome.agrees()))
+    Some(exit_code(joins && larger && outcome.agrees()))
 }
 
-/// The same for lines and columns, but for the family of tails, whose millions of ends have none
-/// that other families have not. Nothing if the words are not understood.
+/// The same for lines and columns, but for the families that are read at several limits, and that of
+/// tails, whose millions of ends have none that other families have not. Nothing if the words are not
+/// understood.
 fn compare_line_calls(options: &[&str]) -> Option<ExitCode> {
     let Options { size, every, family, .. } = read_options(options)?;
     if !exported::LINKED {
         println!("{}", exported::MISSING);
         return Some(ExitCode::FAILURE);
     }
-    let families = chosen(Family::PROGRAM, family);
+    let families = chosen(Family::UNIT, family);
     let joins = !families.contains(&Family::Pairs)
         || line_calls::check_joins(exported::lines, pairs_of_lines(size).step_by(every));
     let outcome = line_calls::run(exported::lines, cases(&families, size).step_by(every));
@@ -128,8 +135,15 @@ fn compare_line_calls(options: &[&str]) -> Option<ExitCode> {
 
 /// The family asked for, or all.
 fn chosen(families: &[Family], family: Option<Family>) -> Vec<Family> {
-    let asked = |other: &&Family| family.is_none_or(|family| family == **other);
-    families.iter().filter(asked).copied().collect()
+    match family {
+        Some(family) => among(families, &[family]),
+        None => families.to_vec(),
+    }
+}
+
+/// Those of the families that are wanted.
+fn among(families: &[Family], wanted: &[Family]) -> Vec<Family> {
+    families.iter().filter(|family| wanted.contains(family)).copied().collect()
 }
 
 fn exit_code(agrees: bool) -> ExitCode {

@@ -20,12 +20,12 @@ pub fn part(limits: Limits) -> Part {
 
 /// Answer: the four numbers, then each slice.
 fn exchange(case: &Case, limits: Limits) -> Exchange {
-    let reading = reading(&case.source);
+    let reading = reading(case.limit, &case.source);
     let rooms = limits.cut(case.plan.rooms(Needs::of(&reading)));
     let answer = reading.answer(rooms);
     let mut expected = Vec::new();
     push_slices(&mut expected, [answer.status].iter().chain(&answer.counts), &answer.slices);
-    Exchange { frame: frame(Asked::Reading, &case.source, rooms), expected }
+    Exchange { frame: frame(Asked::Reading, case.limit, &case.source, rooms), expected }
 }
 
 /// A line with the numbers returned, then one for each slice but the counts.
@@ -43,20 +43,21 @@ pub fn push_slices<'a>(
     push_line(text, slices.ends.iter().copied());
 }
 
-/// Whether the joined pairs are read as demand 3 says; `obeyed` answers for the pairs inside its
-/// premise. Prints the counts.
+/// Whether the joined pairs are read as demand 3 says, each at one limit; `obeyed` answers for the pairs
+/// inside its premise. Prints the counts.
 pub fn check_joins(
     reader: &str,
-    pairs: impl Iterator<Item = Pair>,
-    obeyed: impl Fn(&[u8], &[u8]) -> Option<bool>,
+    pairs: impl Iterator<Item = (u64, Pair)>,
+    obeyed: impl Fn(u64, &[u8], &[u8]) -> Option<bool>,
 ) -> bool {
     let (mut inside, mut failures) = (0, 0);
-    for (first, second) in pairs {
-        let Some(obeyed) = obeyed(&first, &second) else { continue };
+    for (limit, (first, second)) in pairs {
+        let Some(obeyed) = obeyed(limit, &first, &second) else { continue };
         inside += 1;
         if !obeyed {
             failures += 1;
-            println!("joined otherwise: {} | {}", first.escape_ascii(), second.escape_ascii());
+            let [first, second] = [&first, &second].map(|file| file.escape_ascii());
+            println!("joined otherwise at limit {limit}: {first} | {second}");
         }
     }
     println!("demand 3 of the {reader}: {inside} pairs, {failures} failures");

@@ -199,8 +199,9 @@ fn compare(
 /// A case, and its two answers around the first place where they differ.
 pub fn show(case: &Case, expected: &[u8], answer: &[u8]) {
     let same = expected.iter().zip(answer).take_while(|(a, b)| a == b).count();
-    println!("mismatch in {} ({} bytes)", case.family.name(), case.source.len());
-    println!("  source   {}", shortened(&case.source, 0));
+    let Case { family, limit, source, .. } = case;
+    println!("mismatch in {} ({} bytes, limit {limit})", family.name(), source.len());
+    println!("  source   {}", shortened(source, 0));
     println!("  expected {}", shortened(expected, same));
     println!("  answer   {}", shortened(answer, same));
 }

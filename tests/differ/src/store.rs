@@ -3,7 +3,8 @@
 use std::{fs, io, path::Path};
 
 use corpus::{
-    Case, Family, edges, examples, lines, near, rooms::Plan, spread::spread_over, tails, utf8,
+    Case, Family, edges, examples, limits, lines, near, rooms::Plan, spread::spread_over, tails,
+    utf8,
 };
 
 use crate::part::{Exchange, Part};
@@ -31,10 +32,12 @@ pub fn store(chosen: &[(Part, usize)], folder: &Path) -> io::Result<()> {
     fs::write(folder.join("stdout"), stdout)
 }
 
-/// What is always stored and `count` cases, spread evenly over the families and over each family.
+/// What is always stored, `count` cases, spread evenly over the families at the unit's limit and over each family, and some at
+/// other limits.
 fn exchanges(part: &Part, count: usize) -> impl Iterator<Item = Exchange> {
-    let cases = always(part.name).chain(spread_over(part.families, count, short));
-    cases.map(|case| (part.exchange)(&case))
+    let at_unit = &part.families[..part.families.len().min(Family::UNIT.len())];
+    let cases = always(part.name).chain(spread_over(at_unit, count, short));
+    cases.chain(at_limits(part.name)).map(|case| (part.exchange)(&case))
 }
 
 /// What is stored of a part besides.
@@ -47,7 +50,7 @@ fn always(part: &'static str) -> Box<dyn Iterator<Item = Case>> {
 
 /// M-102's table and sources like it, line ends around the first 1,024 bytes, and short slices.
 fn of_lines() -> impl Iterator<Item = Case> {
-    let case = |family, plan| move |source| Case { family, source, plan };
+    let case = |family, plan| move |source| Case::at_unit(family, source, plan);
     let few = lines::few().map(case(Family::Examples, Plan::AMPLE));
     let at_bounds = lines::few_at_bounds().map(case(Family::Lines, Plan::AMPLE));
     let short = Plan::each().into_iter().filter(short_for_lines);
@@ -72,7 +75,24 @@ fn of_reader(part: &'static str) -> impl Iterator<Item = Case> {
     let longest = if part == "lexer" { LEXER_LONGEST } else { usize::MAX };
     let examples = examples::all().chain(near::few()).chain(tails::few());
     let sources = examples.filter(move |source| source.len() <= longest).chain(bounds);
-    sources.map(|source| Case { family: Family::Examples, source, plan: Plan::AMPLE })
+    sources.map(|source| Case::at_unit(Family::Examples, source, Plan::AMPLE))
+}
+
+/// M-104's examples, few sources around the limits, of which `tree` has fewer, and numbers that are none; the lexer and the
+/// lines know no limit.
+fn at_limits(part: &'static str) -> impl Iterator<Item = Case> {
+    let limits: &[u64] = match part {
+        "readings" => &limits::LOWER,
+        "trees" => &[1, 64],
+        _ => &[],
+    };
+    let stored = !limits.is_empty();
+    let around = limits.iter().flat_map(|limit| limits::few_around(*limit));
+    let beside = limits::examples().chain(limits::few_refusals()).filter(move |_| stored);
+    around.chain(beside).map(|(limit, source)| {
+        let case = Case::at_unit(Family::Limits, source, Plan::AMPLE);
+        Case { limit, ..case }
+    })
 }
 
 fn short(case: &Case) -> bool {

@@ -18,5 +18,6 @@ pub fn part() -> Part {
 /// Answer: what `tree` prints. The rooms are those of `tree`.
 fn exchange(case: &Case) -> Exchange {
     let source = &case.source[..case.source.len().min(LONGEST)];
-    Exchange { frame: frame(Asked::Tree, source, ROOMS), expected: tree(source) }
+    let frame = frame(Asked::Tree, case.limit, source, ROOMS);
+    Exchange { frame, expected: tree(case.limit, source) }
 }

@@ -52,6 +52,16 @@ fn wrong_refusals_are_caught() {
 }
 
 #[test]
+fn wrong_limits_are_caught() {
+    READER.caught("unit", "--family limits --every 9", "mismatch in limits");
+    READER.caught("more", "--family limits --every 9", "mismatch in limits");
+    READER.caught("more", "--family lower", "mismatch in lower");
+    READER.caught("bits", "--family limits", "mismatch in limits");
+    READER.caught("late", "--family limits", "mismatch in limits");
+    READER.caught("nine", "--family limits", "mismatch in limits");
+}
+
+#[test]
 fn wrong_ends_are_caught() {
     READER.caught("stop", "--family rooms", "the program stopped after");
     READER.caught("hang", "--family rooms --patience 5", "no answer for 5 s after");

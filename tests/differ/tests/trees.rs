@@ -17,6 +17,7 @@ fn wrong_texts_are_caught() {
     TREES.caught("error", "--family damaged --every 9", "mismatch in damaged");
     TREES.caught("column", "--family examples", "mismatch in examples");
     TREES.caught("leaf", "--family spaced --every 9", "mismatch in spaced");
+    TREES.caught("named", "--family limits", "limit 64)");
 }
 
 #[test]

@@ -1,7 +1,7 @@
 //! Prints crates/samples/specs/Samples.antt: sources with the reference's answers.
 
 use corpus::samples::sources;
-use reference::{Diagnostic, parsed};
+use reference::{Diagnostic, MAX_CONTROL_FLOW_NESTING, parsed};
 
 const HEADER: &str = "\
 -- The compiled reference's answers to NUMBER sources: the test corpus's examples, among them those chosen by mutants of the reference, and
@@ -32,7 +32,7 @@ fn main() {
 /// A source and its kinds, ends, events and diagnostics, in antt.
 fn entry(source: &[u8]) -> String {
     let text = str::from_utf8(source).expect("the source is accepted");
-    let found = parsed(text);
+    let found = parsed(MAX_CONTROL_FLOW_NESTING, text);
     let kinds = list(found.tokens.iter().map(|token| token.kind));
     let ends = list(found.tokens.iter().map(|token| token.end));
     let events = list(&found.events);

@@ -11,6 +11,7 @@ use corpus::{
     sequences,
     spellings::{KEYWORDS, SPELLINGS},
 };
+use reference::{MAX_CONTROL_FLOW_NESTING, parsed, parsed::unwanted};
 
 type Best = BTreeMap<u16, Vec<u8>>;
 
@@ -65,10 +66,11 @@ fn rank(source: &[u8]) -> (usize, Vec<usize>) {
 /// The messages that an accepted source shows.
 fn shown(source: &[u8]) -> Vec<u16> {
     let Ok(text) = str::from_utf8(source) else { return Vec::new() };
-    if reference::parsed::unwanted(text).is_some() {
+    if unwanted(text).is_some() {
         return Vec::new();
     }
-    reference::parsed(text).diagnostics.iter().map(|found| found.message).collect()
+    let found = parsed(MAX_CONTROL_FLOW_NESTING, text);
+    found.diagnostics.iter().map(|found| found.message).collect()
 }
 
 fn consider(best: &mut Best, source: Vec<u8>) {

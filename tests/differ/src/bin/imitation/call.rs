@@ -2,10 +2,11 @@
 
 use std::io::Read;
 
-use reference::{Diagnostic, MAX_SOURCE, Token, parsed, parsed::unwanted, tokens};
+use reference::{Diagnostic, MAX_SOURCE, Token, limits::ALLOWED, parsed, parsed::unwanted, tokens};
 
-/// A source and the slices lent for it.
+/// A source, the limit on nesting and the slices lent.
 pub struct Call {
+    pub limit: u64,
     pub source: Vec<u8>,
     pub kinds: Vec<u16>,
     pub ends: Vec<u32>,
@@ -21,7 +22,7 @@ pub const LINES: usize = 3;
 impl Call {
     /// The part and the call of the next frame; nothing at the end of the input.
     pub fn next(stdin: &mut impl Read) -> Option<(usize, Self)> {
-        let mut header = [0; 32];
+        let mut header = [0; 36];
         stdin.read_exact(&mut header).ok()?;
         let numbers: Vec<usize> = header
             .chunks(4)
@@ -30,13 +31,14 @@ impl Call {
         let narrow = |at: usize| vec![43690; numbers[at]];
         let wide = |at: usize| vec![2863311530; numbers[at]];
         let mut call = Self {
-            source: vec![0; numbers[1]],
-            kinds: narrow(2),
-            ends: wide(3),
-            events: narrow(4),
-            messages: narrow(5),
-            starts: wide(6),
-            stops: wide(7),
+            limit: numbers[1] as u64,
+            source: vec![0; numbers[2]],
+            kinds: narrow(3),
+            ends: wide(4),
+            events: narrow(5),
+            messages: narrow(6),
+            starts: wide(7),
+            stops: wide(8),
         };
         stdin.read_exact(&mut call.source).ok()?;
         if numbers[0] == LINES {
@@ -71,6 +73,9 @@ impl Call {
 
     /// The four numbers; the slices are written.
     pub fn answer(&mut self) -> [u64; 4] {
+        if !ALLOWED.contains(&self.limit) {
+            return [9, 0, 0, 0];
+        }
         if self.source.len() > MAX_SOURCE {
             return [1, 0, 0, 0];
         }
@@ -91,7 +96,7 @@ impl Call {
         if let Some(offset) = unwanted(text) {
             return [4, offset as u64, 0, 0];
         }
-        let parsed = parsed(text);
+        let parsed = parsed(self.limit, text);
         self.put_events(&parsed.events);
         self.put_diagnostics(&parsed.diagnostics);
         let fits = parsed.events.len() <= self.events.len()

@@ -1,11 +1,14 @@
 //! Mistakes of a program, each small.
 
-use reference::{MAX_SOURCE, parsed::unwanted, tokens};
+use reference::{
+    MAX_CONTROL_FLOW_NESTING, MAX_SOURCE,
+    limits::{ALLOWED, at_least},
+    messages::DEPTH,
+    parsed::unwanted,
+    tokens,
+};
 
 use crate::call::Call;
-
-/// The number of the depth message in docs/MESSAGES.md.
-const DEPTH: u16 = 49;
 
 /// The right answer, but for the faults that answer in another way.
 pub fn answer(call: &mut Call, fault: &str) -> [u64; 4] {
@@ -13,8 +16,30 @@ pub fn answer(call: &mut Call, fault: &str) -> [u64; 4] {
         "limit" if call.source.len() >= MAX_SOURCE => [1, 0, 0, 0],
         "flat" => flat(call),
         "early" => unwanted_first(call),
+        "unit" | "more" | "bits" => at_another_limit(call, fault),
+        "late" => limit_last(call),
         _ => call.answer(),
     }
+}
+
+/// Takes an allowed limit for the unit's or for a greater one, or any from 16 bits.
+fn at_another_limit(call: &mut Call, fault: &str) -> [u64; 4] {
+    let allowed = ALLOWED.contains(&call.limit);
+    let other = match fault {
+        "unit" if allowed => Some(MAX_CONTROL_FLOW_NESTING),
+        "more" if allowed => at_least(call.limit + 1),
+        "bits" => at_least(call.limit & 0xFFFF),
+        _ => None,
+    };
+    call.limit = other.unwrap_or(call.limit);
+    call.answer()
+}
+
+/// Looks at the source before the limit.
+fn limit_last(call: &mut Call) -> [u64; 4] {
+    let right = call.answer();
+    let too_long = call.source.len() > MAX_SOURCE;
+    if right[0] == 9 && too_long { [1, 0, 0, 0] } else { right }
 }
 
 /// Tokens alone, in one node: linear in the source.
@@ -52,6 +77,7 @@ pub fn spoil(fault: &str, call: &mut Call, numbers: &mut [u64; 4]) {
         "message" => replace(&mut call.messages, 9, 8),
         "offset" if status == 2 && numbers[1] > 30 => numbers[1] += 1,
         "second" if status == 2 && numbers[2] == 3 => numbers[2] = 2,
+        "nine" if status == 9 => call.kinds.iter_mut().take(1).for_each(|kind| *kind = 31),
         "tokens" if status == 3 => call.kinds.fill(43690),
         "first" if status == 4 && numbers[1] > 0 => numbers[1] -= 1,
         "touch" if status == 4 && !call.events.is_empty() => call.events[0] = 2,

@@ -13,7 +13,7 @@ pub fn put_answer(fault: &str, call: Call, out: &mut Vec<u8>) {
         out.extend(b"rooms\n");
         return;
     }
-    let text = String::from_utf8(tree(&call.source)).expect("text");
+    let text = String::from_utf8(tree(call.limit, &call.source)).expect("text");
     out.extend(spoilt(fault, text, call.source.len()).into_bytes());
 }
 
@@ -23,6 +23,7 @@ fn spoilt(fault: &str, text: String, length: usize) -> String {
         "long" if length == 2_048 => "long\n".to_string(),
         "error" => text.replace("\n= 1 ", "\n= 60 "),
         "column" => text.replace("\n! 1 1 ", "\n! 1 0 "),
+        "named" => text.replace(" depth of 64\n", " depth of 256\n"),
         "leaf" => text.replacen("\n= 27 ", "\n= 28 ", 1),
         _ => text,
     }
