@@ -10,9 +10,9 @@ use exported::{
     zones::{Call, LinesCall, call, call_lines},
 };
 use reference::{
-    Reading, Rooms, Slices,
+    MAX_CONTROL_FLOW_NESTING, Reading, Rooms, Slices,
     answer::FILL_U32,
-    joined,
+    joined, limits,
     lines::{Left, left},
     reading,
 };
@@ -23,13 +23,17 @@ use crate::{counters::Counters, difference::difference, rooms};
 const SHORT: usize = 3;
 const EXACT: usize = 4;
 
+/// One in so many that are not too deep is read at a larger limit too.
+const LARGER: usize = 3;
+
 /// Besides the starts of diagnostics the lines of so many offsets are asked.
 const ODD: usize = 4;
 
+/// The limit, and what is read at it.
 #[derive(Debug, Clone, PartialEq, Eq)]
 pub enum Input {
-    Source(Vec<u8>),
-    Pair(Vec<u8>, Vec<u8>),
+    Source(u64, Vec<u8>),
+    Pair(u64, Vec<u8>, Vec<u8>),
 }
 
 /// What is wrong, as text.
@@ -38,6 +42,7 @@ pub struct Mismatch(pub String);
 
 /// A call that was made, and what it left; no slices where a red zone is written.
 struct Made {
+    limit: u64,
     source: Vec<u8>,
     rooms: Rooms,
     status: u64,
@@ -67,27 +72,34 @@ impl Checker {
     /// Checks the input; `random` chooses the rooms.
     pub fn check(&mut self, input: &Input, random: &mut Random) -> Result<(), Mismatch> {
         let checked = match input {
-            Input::Source(source) => self.source(source, random),
-            Input::Pair(first, second) => self.pair(first, second),
+            Input::Source(limit, source) => self.source(*limit, source, random),
+            Input::Pair(limit, first, second) => self.pair(*limit, first, second),
         };
         self.counters.mismatches += u64::from(checked.is_err());
         checked
     }
 
-    /// One call with room enough, and now and then one more with short slices; then the lines of
-    /// what it gave.
-    fn source(&mut self, source: &[u8], random: &mut Random) -> Result<(), Mismatch> {
+    /// One call with room enough, now and then one more with short slices and one at a larger limit that must
+    /// give the same; then the lines of what it gave.
+    fn source(&mut self, limit: u64, source: &[u8], random: &mut Random) -> Result<(), Mismatch> {
         self.counters.sources += 1;
-        let reading = reading(source);
+        let reading = reading(limit, source);
         let needs = Needs::of(&reading);
         let plan = if random.one_in(EXACT) { Plan::EXACT } else { Plan::AMPLE };
-        let made = self.call(source, plan.rooms(needs));
+        let made = self.call(limit, source, plan.rooms(needs));
         compare(&made, &reading)?;
         if made.status == 0 {
             self.counters.accept(source);
         }
         if random.one_in(SHORT) {
-            let made = self.call(source, rooms::short(random, needs));
+            let made = self.call(limit, source, rooms::short(random, needs));
+            compare(&made, &reading)?;
+        }
+        let too_deep = matches!(&reading, Reading::Parsed(parsed) if parsed.is_too_deep());
+        if limits::ALLOWED.contains(&limit) && !too_deep && random.one_in(LARGER) {
+            self.counters.larger += 1;
+            let larger = random.between(limit as usize, MAX_CONTROL_FLOW_NESTING as usize);
+            let made = self.call(larger as u64, source, plan.rooms(needs));
             compare(&made, &reading)?;
         }
         self.lines(source, starts(&reading), random)
@@ -118,11 +130,11 @@ impl Checker {
     }
 
     /// Demand 3 over three calls, each of which is compared as well.
-    fn pair(&mut self, first: &[u8], second: &[u8]) -> Result<(), Mismatch> {
+    fn pair(&mut self, limit: u64, first: &[u8], second: &[u8]) -> Result<(), Mismatch> {
         self.counters.pairs += 1;
         let mut calls = Vec::new();
         let read = |source: &[u8], rooms| {
-            let made = self.call(source, rooms);
+            let made = self.call(limit, source, rooms);
             let parsed = made.left.as_ref().and_then(|slices| given(made.status, slices));
             calls.push(made);
             parsed
@@ -130,16 +142,17 @@ impl Checker {
         let obeyed = joined::obeyed_by(read, first, second);
         if obeyed == Some(false) {
             let parts = [first, second].map(|part| part.escape_ascii().to_string());
-            return Err(Mismatch(format!("joined otherwise:\n{}\n{}", parts[0], parts[1])));
+            let [first, second] = parts;
+            return Err(Mismatch(format!("joined otherwise at limit {limit}:\n{first}\n{second}")));
         }
         self.counters.inside += u64::from(obeyed.is_some());
-        calls.iter().try_for_each(|made| compare(made, &reading(&made.source)))
+        calls.iter().try_for_each(|made| compare(made, &reading(limit, &made.source)))
     }
 
-    fn call(&mut self, source: &[u8], rooms: Rooms) -> Made {
-        let (status, left) = call(self.made.parse, source, rooms);
+    fn call(&mut self, limit: u64, source: &[u8], rooms: Rooms) -> Made {
+        let (status, left) = call(self.made.parse, limit, source, rooms);
         self.counters.call(status);
-        Made { source: source.to_vec(), rooms, status, left }
+        Made { limit, source: source.to_vec(), rooms, status, left }
     }
 }
 
@@ -153,8 +166,9 @@ fn compare(made: &Made, reading: &Reading) -> Result<(), Mismatch> {
         None => "a red zone is written\n".to_string(),
         Some(slices) => difference(made.status, slices, &expected),
     };
-    let source = made.source.escape_ascii();
-    Err(Mismatch(format!("{difference}rooms: {:?}\nsource: {source}", made.rooms)))
+    let Made { limit, source, rooms, .. } = made;
+    let source = source.escape_ascii();
+    Err(Mismatch(format!("{difference}limit: {limit}\nrooms: {rooms:?}\nsource: {source}")))
 }
 
 /// Where the diagnostics start.

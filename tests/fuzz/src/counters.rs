@@ -8,6 +8,9 @@ use std::{
 /// Bits by which sources are told apart, as a power of two.
 const BITS: u32 = 30;
 
+/// Those that document 01 and M-104 name.
+const STATUSES: [u64; 8] = [0, 1, 2, 3, 4, 5, 6, 9];
+
 #[derive(Default)]
 pub struct Counters {
     /// Sources that are no part of a pair, and those of them that a call with room enough accepted.
@@ -19,8 +22,10 @@ pub struct Counters {
     /// Pairs, and those inside demand 3's premise.
     pub pairs: u64,
     pub inside: u64,
+    /// Calls at a limit that is as large or larger, which must give the same.
+    pub larger: u64,
     /// Calls by the status returned, those for pairs too.
-    pub statuses: [u64; 7],
+    pub statuses: [u64; STATUSES.len()],
     /// Calls for lines and columns.
     pub lines: u64,
     pub mismatches: u64,
@@ -28,10 +33,10 @@ pub struct Counters {
 }
 
 impl Counters {
-    /// One call. A status that document 01 does not name is a mismatch and not counted.
+    /// One call. Another status is a mismatch and not counted.
     pub fn call(&mut self, status: u64) {
-        if let Some(count) = self.statuses.get_mut(status as usize) {
-            *count += 1;
+        if let Some(place) = STATUSES.iter().position(|known| *known == status) {
+            self.statuses[place] += 1;
         }
     }
 
@@ -61,8 +66,9 @@ impl fmt::Display for Counters {
         line("longest", self.longest)?;
         line("pairs", self.pairs)?;
         line("inside", self.inside)?;
+        line("larger", self.larger)?;
         line("calls", self.statuses.iter().sum())?;
-        for (status, count) in self.statuses.iter().enumerate() {
+        for (status, count) in STATUSES.iter().zip(&self.statuses) {
             line(&format!("status-{status}"), *count)?;
         }
         line("lines", self.lines)?;

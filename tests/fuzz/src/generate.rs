@@ -11,9 +11,9 @@ use corpus::{
     shapes::SHAPES,
     utf8,
 };
-use reference::MAX_SOURCE;
+use reference::{MAX_CONTROL_FLOW_NESTING, MAX_SOURCE};
 
-use crate::{check::Input, pieces::spelled};
+use crate::{check::Input, limits, pieces::spelled};
 
 /// One in so many sources is long, and one in so many of these of any size.
 const LONG: usize = 2_000;
@@ -29,22 +29,23 @@ const LONGEST: usize = 65_536;
 pub fn case(seed: u64, number: u64) -> (Input, Random) {
     let start = Random::new(seed).number();
     let mut random = Random::new(start.wrapping_add(number));
+    let limit = limits::any(&mut random);
     let input = match random.below(10) {
         0 => {
             let (first, second) = pair(&mut random);
-            Input::Pair(first, second)
+            Input::Pair(limit, first, second)
         },
         1 | 2 => {
-            let first = ended(random.pick(&LAST), source(&mut random));
+            let first = ended(random.pick(&LAST), source(limit, &mut random));
             let start = random.pick(&STARTS);
-            Input::Pair(first, started(start, source(&mut random)))
+            Input::Pair(limit, first, started(start, source(limit, &mut random)))
         },
-        _ => Input::Source(source(&mut random)),
+        _ => Input::Source(limit, source(limit, &mut random)),
     };
     (input, random)
 }
 
-fn source(random: &mut Random) -> Vec<u8> {
+fn source(limit: u64, random: &mut Random) -> Vec<u8> {
     if random.one_in(LONG) {
         return long(random);
     }
@@ -59,7 +60,7 @@ fn source(random: &mut Random) -> Vec<u8> {
         75..90 => sequences::sample(random),
         90..92 => utf8::mix(random),
         92 => utf8::noise(random),
-        93..97 => deep(random),
+        93..97 => deep(limit, random),
         97..99 => {
             let (shape, times) = (random.pick(&SHAPES), random.below(20));
             shape.times(times)
@@ -84,9 +85,12 @@ fn script_of(random: &mut Random, most: usize) -> Vec<u8> {
     script(random, size).into_bytes()
 }
 
-/// Control forms one in the other, up to the limit of depth and beyond, some of them not closed.
-fn deep(random: &mut Random) -> Vec<u8> {
-    let depth = if random.one_in(10) { random.between(250, 260) } else { random.between(1, 12) };
+/// Control forms one in the other, up to the limit and beyond, some of them not closed.
+fn deep(limit: u64, random: &mut Random) -> Vec<u8> {
+    let limit = limit.min(MAX_CONTROL_FLOW_NESTING) as usize;
+    let (least, most) =
+        if random.one_in(10) { (limit.saturating_sub(6), limit + 4) } else { (1, 12) };
+    let depth = random.between(least, most);
     let mut text =
         random.pick(&["begin ", "proc a\n", "pub proc a(b: felt)\n"]).as_bytes().to_vec();
     let forms: Vec<_> = (0..depth).map(|_| random.pick(&FORMS)).collect();

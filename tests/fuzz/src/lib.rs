@@ -7,6 +7,7 @@ pub mod difference;
 pub mod generate;
 pub mod guided;
 pub mod input;
+pub mod limits;
 pub mod pieces;
 pub mod rooms;
 pub mod seeds;

@@ -2,7 +2,10 @@
 
 use std::{fs, io, path::Path};
 
-use corpus::{Size, examples, pairs, random::Random, shapes::SHAPES, spellings::SPELLINGS};
+use corpus::{
+    Size, examples, limits, pairs_at_limits, random::Random, shapes::SHAPES, spellings::SPELLINGS,
+};
+use reference::{LIMITS, MAX_CONTROL_FLOW_NESTING};
 
 use crate::{
     check::Input,
@@ -23,14 +26,17 @@ pub fn write(folder: &Path) -> io::Result<()> {
     fs::write(folder.with_extension("words"), words())
 }
 
-/// Examples, the messages' smallest inputs, shapes and pairs.
+/// Examples, the messages' smallest inputs, shapes, a few sources around the limits, and pairs.
 fn inputs() -> impl Iterator<Item = Input> {
     let sources = examples::all().chain(SHAPES.iter().map(|shape| shape.times(2)));
-    let pairs = pairs(Size::Ci).take(PAIRS).map(|(first, second)| Input::Pair(first, second));
-    sources.map(Input::Source).chain(pairs)
+    let sources = sources.map(|source| (MAX_CONTROL_FLOW_NESTING, source));
+    let around = LIMITS.into_iter().flat_map(limits::few_around).chain(limits::few_refusals());
+    let pairs = pairs_at_limits(Size::Ci).take(PAIRS);
+    let pairs = pairs.map(|(limit, (first, second))| Input::Pair(limit, first, second));
+    sources.chain(around).map(|(limit, source)| Input::Source(limit, source)).chain(pairs)
 }
 
-/// Any bytes, by turns a source and a pair of pieces.
+/// Any bytes, the limit among them, by turns a source and a pair of pieces.
 fn chosen(number: u64) -> Vec<u8> {
     let mut random = Random::new(number);
     let what = if number.is_multiple_of(2) { SPELLED } else { SPELLED | PAIR };

@@ -17,13 +17,15 @@ pub fn smallest(made: Calls, (input, random): (Input, Random), first: Mismatch) 
 /// Parts are left out, halves first, as long as `wrong` still holds.
 fn shrunk(input: Input, mut wrong: impl FnMut(&Input) -> bool) -> Input {
     match input {
-        Input::Source(source) => {
-            Input::Source(shrink(source, |part| wrong(&Input::Source(part.to_vec()))))
+        Input::Source(limit, source) => {
+            Input::Source(limit, shrink(source, |part| wrong(&Input::Source(limit, part.to_vec()))))
         },
-        Input::Pair(first, second) => {
-            let first = shrink(first, |part| wrong(&Input::Pair(part.to_vec(), second.clone())));
-            let second = shrink(second, |part| wrong(&Input::Pair(first.clone(), part.to_vec())));
-            Input::Pair(first, second)
+        Input::Pair(limit, first, second) => {
+            let pair =
+                |first: &[u8], second: &[u8]| Input::Pair(limit, first.to_vec(), second.to_vec());
+            let first = shrink(first, |part| wrong(&pair(part, &second)));
+            let second = shrink(second, |part| wrong(&pair(&first, part)));
+            pair(&first, &second)
         },
     }
 }
@@ -52,15 +54,15 @@ mod tests {
 
     #[test]
     fn what_is_wrong_stays() {
-        let input = Input::Source(b"begin if add end end\n".to_vec());
-        let holds = |input: &Input| matches!(input, Input::Source(text) if text.contains(&b'd'));
-        assert_eq!(shrunk(input, holds), Input::Source(b"d".to_vec()));
+        let input = Input::Source(2, b"begin if add end end\n".to_vec());
+        let holds = |input: &Input| matches!(input, Input::Source(2, text) if text.contains(&b'd'));
+        assert_eq!(shrunk(input, holds), Input::Source(2, b"d".to_vec()));
     }
 
     #[test]
     fn both_parts_shrink() {
-        let input = Input::Pair(b"abc".to_vec(), b"def".to_vec());
-        let holds = |input: &Input| matches!(input, Input::Pair(a, b) if !a.is_empty() && b.contains(&b'e'));
-        assert_eq!(shrunk(input, holds), Input::Pair(b"c".to_vec(), b"e".to_vec()));
+        let input = Input::Pair(3, b"abc".to_vec(), b"def".to_vec());
+        let holds = |input: &Input| matches!(input, Input::Pair(3, a, b) if !a.is_empty() && b.contains(&b'e'));
+        assert_eq!(shrunk(input, holds), Input::Pair(3, b"c".to_vec(), b"e".to_vec()));
     }
 }

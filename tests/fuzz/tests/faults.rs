@@ -10,12 +10,13 @@ use fuzz::{
     check::{Calls, Checker, Input, Mismatch},
     generate::case,
 };
+use reference::MAX_CONTROL_FLOW_NESTING;
 
 /// A fault is found within so many cases.
 const CASES: u64 = 2_000;
 
-fn right(source: &[u8], mut lent: Lent) -> u64 {
-    answer_into(source, &mut lent)
+fn right(limit: u64, source: &[u8], mut lent: Lent) -> u64 {
+    answer_into(limit, source, &mut lent)
 }
 
 /// The first mismatch among the cases of seed 1.
@@ -42,8 +43,8 @@ fn checker(parse: Call) -> Checker {
 }
 
 /// The right answer, then a change to what is lent.
-fn spoiled(source: &[u8], mut lent: Lent, change: fn(&mut Lent)) -> u64 {
-    let status = answer_into(source, &mut lent);
+fn spoiled(limit: u64, source: &[u8], mut lent: Lent, change: fn(&mut Lent)) -> u64 {
+    let status = answer_into(limit, source, &mut lent);
     change(&mut lent);
     status
 }
@@ -64,48 +65,48 @@ fn before<T: From<u8>>(numbers: &mut [T]) {
 }
 
 const CHANGED: [Call; 7] = [
-    |source, lent| spoiled(source, lent, |lent| last(lent.counts)),
-    |source, lent| spoiled(source, lent, |lent| last(lent.token_kinds)),
-    |source, lent| spoiled(source, lent, |lent| last(lent.token_ends)),
-    |source, lent| spoiled(source, lent, |lent| last(lent.events)),
-    |source, lent| spoiled(source, lent, |lent| last(lent.messages)),
-    |source, lent| spoiled(source, lent, |lent| last(lent.starts)),
-    |source, lent| spoiled(source, lent, |lent| last(lent.ends)),
+    |limit, source, lent| spoiled(limit, source, lent, |lent| last(lent.counts)),
+    |limit, source, lent| spoiled(limit, source, lent, |lent| last(lent.token_kinds)),
+    |limit, source, lent| spoiled(limit, source, lent, |lent| last(lent.token_ends)),
+    |limit, source, lent| spoiled(limit, source, lent, |lent| last(lent.events)),
+    |limit, source, lent| spoiled(limit, source, lent, |lent| last(lent.messages)),
+    |limit, source, lent| spoiled(limit, source, lent, |lent| last(lent.starts)),
+    |limit, source, lent| spoiled(limit, source, lent, |lent| last(lent.ends)),
 ];
 
 const OUTSIDE: [Call; 14] = [
-    |source, lent| spoiled(source, lent, |lent| behind(lent.counts)),
-    |source, lent| spoiled(source, lent, |lent| before(lent.counts)),
-    |source, lent| spoiled(source, lent, |lent| behind(lent.token_kinds)),
-    |source, lent| spoiled(source, lent, |lent| before(lent.token_kinds)),
-    |source, lent| spoiled(source, lent, |lent| behind(lent.token_ends)),
-    |source, lent| spoiled(source, lent, |lent| before(lent.token_ends)),
-    |source, lent| spoiled(source, lent, |lent| behind(lent.events)),
-    |source, lent| spoiled(source, lent, |lent| before(lent.events)),
-    |source, lent| spoiled(source, lent, |lent| behind(lent.messages)),
-    |source, lent| spoiled(source, lent, |lent| before(lent.messages)),
-    |source, lent| spoiled(source, lent, |lent| behind(lent.starts)),
-    |source, lent| spoiled(source, lent, |lent| before(lent.starts)),
-    |source, lent| spoiled(source, lent, |lent| behind(lent.ends)),
-    |source, lent| spoiled(source, lent, |lent| before(lent.ends)),
+    |limit, source, lent| spoiled(limit, source, lent, |lent| behind(lent.counts)),
+    |limit, source, lent| spoiled(limit, source, lent, |lent| before(lent.counts)),
+    |limit, source, lent| spoiled(limit, source, lent, |lent| behind(lent.token_kinds)),
+    |limit, source, lent| spoiled(limit, source, lent, |lent| before(lent.token_kinds)),
+    |limit, source, lent| spoiled(limit, source, lent, |lent| behind(lent.token_ends)),
+    |limit, source, lent| spoiled(limit, source, lent, |lent| before(lent.token_ends)),
+    |limit, source, lent| spoiled(limit, source, lent, |lent| behind(lent.events)),
+    |limit, source, lent| spoiled(limit, source, lent, |lent| before(lent.events)),
+    |limit, source, lent| spoiled(limit, source, lent, |lent| behind(lent.messages)),
+    |limit, source, lent| spoiled(limit, source, lent, |lent| before(lent.messages)),
+    |limit, source, lent| spoiled(limit, source, lent, |lent| behind(lent.starts)),
+    |limit, source, lent| spoiled(limit, source, lent, |lent| before(lent.starts)),
+    |limit, source, lent| spoiled(limit, source, lent, |lent| behind(lent.ends)),
+    |limit, source, lent| spoiled(limit, source, lent, |lent| before(lent.ends)),
 ];
 
 /// One diagnostic too many where there are two.
-fn wrong_count(source: &[u8], lent: Lent) -> u64 {
-    spoiled(source, lent, |lent| {
+fn wrong_count(limit: u64, source: &[u8], lent: Lent) -> u64 {
+    spoiled(limit, source, lent, |lent| {
         lent.counts.iter_mut().skip(2).filter(|count| **count == 2).for_each(|count| *count = 3);
     })
 }
 
 /// Says `accepted` of slices that are too short.
-fn wrong_status(source: &[u8], lent: Lent) -> u64 {
-    let status = right(source, lent);
+fn wrong_status(limit: u64, source: &[u8], lent: Lent) -> u64 {
+    let status = right(limit, source, lent);
     if status == 5 { 0 } else { status }
 }
 
 /// One event too few in longer sources, so that those of a join are not its parts'.
-fn wrong_join(source: &[u8], mut lent: Lent) -> u64 {
-    let status = answer_into(source, &mut lent);
+fn wrong_join(limit: u64, source: &[u8], mut lent: Lent) -> u64 {
+    let status = answer_into(limit, source, &mut lent);
     let long = source.len() > 20 && status == 0;
     lent.counts.iter_mut().skip(1).take(1).filter(|_| long).for_each(|count| *count -= 1);
     status
@@ -133,7 +134,7 @@ fn writes_outside_are_found() {
 #[test]
 fn a_wrong_count_is_found() {
     // Two diagnostics: the name and the `=` are missing.
-    let source = Input::Source(b"const".to_vec());
+    let source = Input::Source(256, b"const".to_vec());
     let found = checker(wrong_count).check(&source, &mut Random::new(1));
     assert!(found.unwrap_err().0.contains("counts[2] is 3, expected 2"));
 }
@@ -145,12 +146,33 @@ fn a_wrong_status_is_found() {
 
 #[test]
 fn a_join_that_is_not_joined_is_found() {
-    let pair = Input::Pair(b"proc a add end\n".to_vec(), b"begin end\n".to_vec());
+    let pair = Input::Pair(256, b"proc a add end\n".to_vec(), b"begin end\n".to_vec());
     let mut checker = checker(right);
     assert_eq!(checker.check(&pair, &mut Random::new(1)), Ok(()));
     assert_eq!((checker.counters.pairs, checker.counters.inside), (1, 1));
     let found = self::checker(wrong_join).check(&pair, &mut Random::new(1));
-    assert!(found.unwrap_err().0.starts_with("joined otherwise:\nproc a add end\\n\n"));
+    assert!(
+        found.unwrap_err().0.starts_with("joined otherwise at limit 256:\nproc a add end\\n\n")
+    );
+}
+
+/// The limit cut to 16 bits; a greater one taken for the unit's; a smaller one for the next; and another status at
+/// limits that the reference has not.
+const WRONG_LIMITS: [Call; 4] = [
+    |limit, source, lent| right(limit & 0xFFFF, source, lent),
+    |limit, source, lent| right(limit.min(MAX_CONTROL_FLOW_NESTING), source, lent),
+    |limit, source, lent| right(if limit < 256 { limit + 1 } else { limit }, source, lent),
+    |limit, source, lent| {
+        let status = right(limit, source, lent);
+        if (70..250).contains(&limit) { status + 1 } else { status }
+    },
+];
+
+#[test]
+fn wrong_limits_are_found() {
+    for fault in WRONG_LIMITS {
+        assert!(first_mismatch(fault).unwrap().contains("\nlimit: "));
+    }
 }
 
 /// Takes each lone CR for a letter.

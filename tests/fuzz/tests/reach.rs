@@ -11,8 +11,8 @@ const CASES: u64 = 100_000;
 fn every_kind_node_and_message_occurs() {
     let (mut kinds, mut opened, mut shown) = (BTreeSet::new(), BTreeSet::new(), BTreeSet::new());
     for number in 0..CASES {
-        let (Input::Source(source), _) = case(1, number) else { continue };
-        let Reading::Parsed(parsed) = reading(&source) else { continue };
+        let (Input::Source(limit, source), _) = case(1, number) else { continue };
+        let Reading::Parsed(parsed) = reading(limit, &source) else { continue };
         kinds.extend(parsed.tokens.iter().map(|token| token.kind));
         opened.extend(parsed.events.iter().filter(|event| **event < 27));
         shown.extend(parsed.diagnostics.iter().map(|found| found.message));

@@ -5,6 +5,7 @@
 mod beside;
 mod broken;
 mod callgrind;
+mod limits;
 mod lines;
 mod measure;
 mod names;

@@ -7,7 +7,7 @@ use corpus::{random::Random, script::script, shapes::SHAPES};
 use crate::{
     broken,
     callgrind::{Counted, Run},
-    names,
+    limits, names,
 };
 
 /// The most bytes of the script that is repeated; it is made a little shorter.
@@ -59,7 +59,7 @@ pub fn families() -> impl Iterator<Item = Family> {
         Family::read(shape.name, ACCEPTED, make)
     });
     let accepted = [scripts].into_iter().chain(shapes).chain(names::families());
-    accepted.chain(broken::families())
+    accepted.chain(limits::families()).chain(broken::families())
 }
 
 /// One script again and again, so that both sizes hold the same mixture.

@@ -20,6 +20,9 @@ const NAMES: &str = "names ";
 /// Offsets of lines that are asked in rising order.
 const RISING: &str = ", rising";
 
+/// Sources that are nested deeper than a limit.
+const LIMITED: &str = "`if`s beyond limit";
+
 /// Nothing can be counted without valgrind.
 fn can_count() -> bool {
     Command::new("valgrind").arg("--version").output().is_ok()
@@ -52,6 +55,9 @@ fn growth_is_told() {
     let (success, text) = growth(RISING, "linear", "paced");
     assert!(success && text.contains("| offsets |"), "{text}");
     assert!(text.contains("growth: 4 families, 0 above 2.1"), "{text}");
+
+    let (success, text) = growth(LIMITED, "linear", "paced");
+    assert!(success && text.contains("growth: 2 families, 0 above 2.1"), "{text}");
 
     let (success, text) = growth(NEWLINES, "linear", "unpaced");
     assert!(!success && text.contains("nothing was counted in unpaced"), "{text}");

@@ -1,7 +1,7 @@
 //! Makes an exported call once, on a source from standard input.
 //!
-//! Without words it is `masm_parse_text`, with rooms that are enough for any source of its length,
-//! and the status and the counts are printed. `lines ORDER STEP` is `masm_lines` with one offset
+//! Without words it is `masm_parse_text` at the unit's limit, with rooms that are enough for any source of its
+//! length, and the status and the counts are printed. `limit N` is the same at another limit. `lines ORDER STEP` is `masm_lines` with one offset
 //! for each STEP bytes, in the order `back` each behind the source's start again, `lines ends` with
 //! all token ends and `lines starts` with the starts of all diagnostics; 0 and how many were written
 //! are printed.
@@ -15,7 +15,7 @@ use corpus::{
     offsets::{Order, ordered},
     random::Random,
 };
-use reference::{Reading, Rooms, Slices, reading};
+use reference::{MAX_CONTROL_FLOW_NESTING, Reading, Rooms, Slices, reading};
 
 fn main() {
     let words: Vec<String> = env::args().skip(1).collect();
@@ -23,15 +23,16 @@ fn main() {
     let mut source = Vec::new();
     io::stdin().read_to_end(&mut source).expect("a source on standard input");
     match words[..] {
-        [] => read(&source),
+        [] => read(MAX_CONTROL_FLOW_NESTING, &source),
+        ["limit", limit] => read(limit.parse().expect("a number"), &source),
         ["lines", ref which @ ..] => lines(&source, &offsets(&source, which)),
         _ => panic!("no call is named {words:?}"),
     }
 }
 
-fn read(source: &[u8]) {
+fn read(limit: u64, source: &[u8]) {
     let mut slices = Slices::filled(Rooms::ample(source.len()));
-    let status = exported::parse_text(source, (&mut slices).into());
+    let status = exported::parse_text(limit, source, (&mut slices).into());
     let [tokens, events, diagnostics] = slices.counts[..] else { unreachable!("three counts") };
     println!("{status} {tokens} {events} {diagnostics}");
 }
@@ -45,8 +46,12 @@ fn lines(source: &[u8], offsets: &[u32]) {
 
 fn offsets(source: &[u8], which: &[&str]) -> Vec<u32> {
     match *which {
-        ["ends"] => reading(source).tokens().iter().map(|token| token.end).collect(),
-        ["starts"] => starts(&reading(source)),
+        ["ends"] => reading(MAX_CONTROL_FLOW_NESTING, source)
+            .tokens()
+            .iter()
+            .map(|token| token.end)
+            .collect(),
+        ["starts"] => starts(&reading(MAX_CONTROL_FLOW_NESTING, source)),
         [order, step] => {
             let rising = (0..=source.len() as u32).step_by(step.parse().expect("a number"));
             if order == "back" {
