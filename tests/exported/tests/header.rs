@@ -1,6 +1,6 @@
 //! The C header names the upstream kinds, each with its number.
 
-use reference::{MAX_SOURCE, syntax::MasmLanguage};
+use reference::{MAX_CONTROL_FLOW_NESTING, MAX_SOURCE, syntax::MasmLanguage};
 use rowan::Language;
 
 const HEADER: &str = include_str!("../../../include/masm_cst.h");
@@ -18,6 +18,12 @@ fn kinds_are_the_upstream_kinds() {
 #[test]
 fn the_limit_is_document_01s() {
     assert!(HEADER.contains(&format!("#define MASM_MAX_SOURCE {MAX_SOURCE}u\n")));
+}
+
+#[test]
+fn the_greatest_limit_on_nesting_is_the_references() {
+    let line = format!("#define MASM_MAX_CONTROL_FLOW_NESTING {MAX_CONTROL_FLOW_NESTING}u\n");
+    assert!(HEADER.contains(&line));
 }
 
 /// `ColonColon` as COLON_COLON, `RArrow` as R_ARROW.
