@@ -52,7 +52,17 @@ fn read_header(from: &mut impl Read) -> Option<Header> {
     let mut head = [0u8; 36];
     from.read_exact(&mut head).ok()?;
     let numbers: [usize; 9] = array::from_fn(|i| frame_number(&head, 4 * i));
-    let [part, limit, source, kinds, ends, events, messages, starts, stops] = numbers;
+    let [
+        part,
+        limit,
+        source,
+        kinds,
+        ends,
+        events,
+        messages,
+        starts,
+        stops,
+    ] = numbers;
     Some(Header {
         part: Part::try_from(part).ok()?,
         limit: limit as u64,

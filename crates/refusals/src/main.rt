@@ -8,12 +8,7 @@ use std::io;
 use std::io::Write;
 
 // One call: its status and counts, then the slices of tokens and events, each a line.
-fn put_call(
-    out: &mut impl Write,
-    limit: u64,
-    source: &[u8],
-    counts: &mut [u64],
-) -> io::Result<()> {
+fn put_call(out: &mut impl Write, limit: u64, source: &[u8], counts: &mut [u64]) -> io::Result<()> {
     let mut kinds = [7u16; 2];
     let mut ends = [7u32; 2];
     let mut events = [7u16; 4];
