@@ -12,8 +12,9 @@ use Rattle.answer.specs.Answer.{Slices}
 abbrev pub error_given : List ℕ → Utf8Error
 error_given counts = record { valid_up_to = get_or counts 0 0; error_len = get_or counts 1 0 }
 
--- The limit on nesting is allowed, counts have three words, and the source is within the limit. The offset is where its longest well-formed start ends. The second number is
--- M-105's: 0 exactly where more bytes would make the source well formed, else 1, 2 or 3. The third is 0, and all else is as it was.
+-- The limit on nesting is allowed, counts have three words, and the source is within its limit. The offset is where its longest well-formed
+-- start ends. The second number is M-105's: 0 exactly where more bytes would make the source well formed, else 1, 2 or 3. The third is 0, and
+-- all else is as it was.
 pub record BrokenText (limit : ℕ) (source : List ℕ) (s : Slices) (counts : List ℕ) (s' : Slices) (counts' : List ℕ) : Type 0 where
   pub allowed : limit_allowed limit ≡ true
   pub words : 3 ≤ length counts
