@@ -1,5 +1,4 @@
 /* The words of the command line. Options stand in any place; behind `--` there are none. */
-#include <ctype.h>
 #include <stdlib.h>
 #include <string.h>
 
@@ -37,13 +36,13 @@ const char HELP[] =
     "Exit status: 0 without diagnostics, 1 with some, 2 if the script is refused,\n"
     "3 if it could not be read or shown or the command line is wrong.\n";
 
-/* Whether a text is a number from `least` to `most`, which has less than five digits. */
+/* Whether a text is a number from `least` to `most`, with zeros before it or without. */
 static bool read_number(const char *text, size_t least, size_t most, size_t *number)
 {
-    *number = 0;
-    for (size_t i = 0; text != NULL && isdigit((unsigned char)text[i]) && i < 5; i++)
-        *number = 10 * *number + (size_t)(text[i] - '0');
     size_t digits = text == NULL ? 0 : strspn(text, "0123456789");
+    *number = 0;
+    for (size_t i = 0; i < digits && *number <= most; i++)
+        *number = 10 * *number + (size_t)(text[i] - '0');
     return digits > 0 && text[digits] == '\0' && *number >= least && *number <= most;
 }
 

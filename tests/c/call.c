@@ -153,6 +153,7 @@ void check_call(enum lending how, const struct question *question, struct rooms 
             fail(NAMES[i]);
     if (!counts_hold(&call, &row))
         fail(NAMES[COUNTS]);
+    /* Of the macro: the call's events are those of the list, as was just seen. */
     if (row.status == MASM_ACCEPTED && most_open(full->events) > MASM_MAX_OPEN(question->limit))
         fail("number of open nodes");
     check_guards(&call, question->source);

@@ -5,7 +5,7 @@
 
 #include "cases.h"
 #include "join.h"
-#include "limits.h"
+#include "nesting_limits.h"
 #include "long_cases.h"
 #include "masm_messages.h"
 #include "nests.h"

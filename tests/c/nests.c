@@ -3,7 +3,7 @@
 #include <stdio.h>
 #include <string.h>
 
-#include "limits.h"
+#include "nesting_limits.h"
 #include "masm_messages.h"
 #include "rooms.h"
 
@@ -192,6 +192,7 @@ static void check_nest(enum lending how, const struct nest *nest, uint64_t limit
              nest->form < FORM_COUNT ? FORMS[nest->form].name : "all", nest->depth, (unsigned)limit,
              nest->cut ? ", cut" : "");
     case_name = name;
+    /* Of the macro, as in check_call, which holds the call's events to these. */
     bool full_depth = nest->depth == limit && !nest->cut;
     if ((full_depth || nest->depth > limit) && most_open(full.events) != MASM_MAX_OPEN(limit))
         fail("greatest number of open nodes");

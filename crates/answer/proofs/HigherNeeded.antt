@@ -1,4 +1,5 @@
 -- Which premises of `higher_limit_calls` are needed: each of the four, for each a case in which the others hold and the conclusion does not.
+-- `higher_limit_gives` needs its room besides.
 -- Assumes nothing.
 use Rattle.std.specs.Prelude.{ℕ, ◌≤◌, ◌≡◌, refl, true, List}
 use Rattle.std.proofs.Common.{ap, arith}
@@ -7,10 +8,10 @@ use Rattle.grammar.specs.Compute.{bytes}
 use Rattle.grammar.specs.Theorems.HigherLimit.{without_depth}
 use Rattle.answer.specs.Call.{Reply}
 use Rattle.answer.specs.Given.{event_count, given}
-use Rattle.answer.specs.HigherLimit.{SameReply}
+use Rattle.answer.specs.HigherLimit.{RoomFor, GivesSame, SameReply}
 use Rattle.answer.specs.Cases.{Loan, loan_at, made, called}
 use Rattle.answer.specs.Cases
-use Rattle.answer.proofs.HigherLimit.{higher_limit_calls}
+use Rattle.answer.proofs.HigherLimit.{higher_limit_calls, higher_limit_gives}
 
 -- A source, what was lent to the call that read it and at which limit, and the other limit.
 pub record Raise : Type 0 where
@@ -82,3 +83,44 @@ past_256 = raise (loan_at 256 5 19 1) 257
 allowed_needed : Accepted past_256 × Calm past_256 × Above past_256 × (Same past_256 → ⊥)
 unfolding made
 allowed_needed = (refl, refl, omega arith, λ s. let z : ◌≡◌ {A = ℕ} 9 0 = s.status_is in omega arith)
+
+-- ---- Room for what was given: one token, event or diagnostic less, or a word, and the call at the higher limit is refused.
+module _ (raised : Loan) where
+  abbrev again : Reply
+  again = made (bytes "begin if if") raised
+
+  abbrev seen : Reply
+  seen = made (bytes "begin if if") (loan_at 2 5 19 1)
+
+  abbrev Room : Type 0
+  Room = RoomFor seen.counts (Cases.loan_slices raised) (Cases.zeros raised.words)
+
+  abbrev Given : Type 0
+  Given = GivesSame again.status again.slices again.counts seen.slices seen.counts
+
+  -- Where there is room, it is given.
+  given_again : Room → raised.limit ≡ 3 → Given
+  unfolding made
+  given_again room e =
+      higher_limit_gives 2 raised.limit (bytes "begin if if") (Cases.loan_slices (loan_at 2 5 19 1)) (Cases.zeros 3) (called _ (loan_at 2 5 19 1))
+      refl refl (omega (arith, e)) (omega (arith, e)) (Cases.loan_slices raised) (Cases.zeros raised.words) (called _ raised) room
+
+enough : Given (loan_at 3 5 19 1)
+unfolding made
+enough = given_again (loan_at 3 5 19 1) (record { tokens = omega arith; events = omega arith; diagnostics = omega arith; words = omega arith }) refl
+
+tokens_needed : Given (loan_at 3 4 19 1) → ⊥
+unfolding made
+tokens_needed g = let z : ◌≡◌ {A = ℕ} 3 0 = g.returned in omega arith
+
+events_needed : Given (loan_at 3 5 18 1) → ⊥
+unfolding made
+events_needed g = let z : ◌≡◌ {A = ℕ} 5 0 = g.returned in omega arith
+
+diagnostics_needed : Given (loan_at 3 5 19 0) → ⊥
+unfolding made
+diagnostics_needed g = let z : ◌≡◌ {A = ℕ} 5 0 = g.returned in omega arith
+
+words_needed : Given (record { limit = 3; tokens = 5; events = 19; diagnostics = 1; words = 2 }) → ⊥
+unfolding made
+words_needed g = let z : ◌≡◌ {A = ℕ} 6 0 = g.returned in omega arith

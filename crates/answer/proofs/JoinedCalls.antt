@@ -100,8 +100,9 @@ module _ (limit : ℕ) (a b : List ℕ) (j : CallsJoin a (reading_slices limit a
       stops_are = by_place (λ p. p.stop) (λ n. length a + n) (λ p. refl);
     }
 
--- Whatever the limit, and whatever the three calls were lent: where the calls on A and on B returned 0, A and B may be joined, and the join is within the limit and
--- fits what was lent for it, the call on the join returns 0 and gives A's tokens, items and diagnostics and then B's.
+-- Whatever the limit on nesting, and whatever the three calls were lent: where the calls on A and on B returned 0, A and B may be joined, and
+-- the join is not too long and fits what was lent for it, the call on the join returns 0 and gives A's tokens, items and diagnostics and then
+-- B's.
 module _
     (limit : ℕ) (a b : List ℕ) (sa sb sj : Slices) (ca cb cj : List ℕ) {ra rb rj : ℕ} {sa' sb' sj' : Slices} {ca' cb' cj' : List ℕ}
     (on_a : MasmParseText limit a sa ca ra sa' ca') (on_b : MasmParseText limit b sb cb rb sb' cb')

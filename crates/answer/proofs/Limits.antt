@@ -11,53 +11,53 @@ use Rattle.answer.specs.Cases.{loan_at, made}
 use Rattle.answer.proofs.Cases.{concluded}
 
 -- What is returned and counted, and the diagnostics.
-pub record Shown : Type 0 where
+pub record Summary : Type 0 where
   pub status : ℕ
   pub counts : List ℕ
   pub messages : List ℕ
   pub starts : List ℕ
   pub stops : List ℕ
 
-abbrev shown : ℕ → List ℕ → (messages starts stops : List ℕ) → Shown
-shown status counts messages starts stops = record { status = status; counts = counts; messages = messages; starts = starts; stops = stops }
+abbrev summary : ℕ → List ℕ → (messages starts stops : List ℕ) → Summary
+summary status counts messages starts stops = record { status = status; counts = counts; messages = messages; starts = starts; stops = stops }
 
-abbrev shown_of : Reply → Shown
-shown_of r = let g = given r.slices r.counts in shown r.status r.counts g.messages g.starts g.stops
+abbrev summary_of : Reply → Summary
+summary_of r = let g = given r.slices r.counts in summary r.status r.counts g.messages g.starts g.stops
 
 -- ---- At limit 1: a form in a form, one beside another, a `while` in the body of a `do`, which opens a loop or ends the body.
-one_in_another : shown_of (made (bytes "begin if if x end") (loan_at 1 9 21 1)) ≡ shown 0 (9 ∷ 21 ∷ 1 ∷ []) (49 ∷ []) (9 ∷ []) (11 ∷ [])
+one_in_another : summary_of (made (bytes "begin if if x end") (loan_at 1 9 21 1)) ≡ summary 0 (9 ∷ 21 ∷ 1 ∷ []) (49 ∷ []) (9 ∷ []) (11 ∷ [])
 unfolding made
 one_in_another = refl
 
-one_beside_another : shown_of (made (bytes "begin if end if end end") (loan_at 1 11 25 0)) ≡ shown 0 (11 ∷ 25 ∷ 0 ∷ []) [] [] []
+one_beside_another : summary_of (made (bytes "begin if end if end end") (loan_at 1 11 25 0)) ≡ summary 0 (11 ∷ 25 ∷ 0 ∷ []) [] [] []
 unfolding made
 one_beside_another = refl
 
-loop_in_body : shown_of (made (bytes "begin do while.x") (loan_at 1 7 19 1)) ≡ shown 0 (7 ∷ 19 ∷ 1 ∷ []) (49 ∷ []) (9 ∷ []) (14 ∷ [])
+loop_in_body : summary_of (made (bytes "begin do while.x") (loan_at 1 7 19 1)) ≡ summary 0 (7 ∷ 19 ∷ 1 ∷ []) (49 ∷ []) (9 ∷ []) (14 ∷ [])
 unfolding made
 loop_in_body = refl
 
-end_of_body : shown_of (made (bytes "begin do while x") (loan_at 1 7 21 1)) ≡ shown 0 (7 ∷ 21 ∷ 1 ∷ []) (6 ∷ []) (15 ∷ []) (15 ∷ [])
+end_of_body : summary_of (made (bytes "begin do while x") (loan_at 1 7 21 1)) ≡ summary 0 (7 ∷ 21 ∷ 1 ∷ []) (6 ∷ []) (15 ∷ []) (15 ∷ [])
 unfolding made
 end_of_body = refl
 
 -- ---- A limit is not cut: 256 and 2 ^ 16, 2 ^ 32 or 2 ^ 63 more are refused, as 0 and 257 are.
-refused_at : ℕ → Shown
-refused_at limit = shown_of (made (bytes "begin end") (loan_at limit 3 9 0))
+read_at : ℕ → Summary
+read_at limit = summary_of (made (bytes "begin end") (loan_at limit 3 9 0))
 
-abbrev out_of_range : Shown
-out_of_range = shown 9 (0 ∷ 0 ∷ 0 ∷ []) [] [] []
+abbrev out_of_range : Summary
+out_of_range = summary 9 (0 ∷ 0 ∷ 0 ∷ []) [] [] []
 
-limits_refused : (refused_at 0 ≡ out_of_range)
-    × (refused_at 257 ≡ out_of_range)
-    × (refused_at 65792 ≡ out_of_range)
-    × (refused_at 4294967552 ≡ out_of_range)
-    × (refused_at 9223372036854776064 ≡ out_of_range)
-unfolding made refused_at
+limits_refused : (read_at 0 ≡ out_of_range)
+    × (read_at 257 ≡ out_of_range)
+    × (read_at 65792 ≡ out_of_range)
+    × (read_at 4294967552 ≡ out_of_range)
+    × (read_at 9223372036854776064 ≡ out_of_range)
+unfolding made read_at
 limits_refused = (refl, refl, refl, refl, refl)
 
-limits_allowed : ((refused_at 1).status ≡ 0) × ((refused_at 256).status ≡ 0)
-unfolding made refused_at
+limits_allowed : ((read_at 1).status ≡ 0) × ((read_at 256).status ≡ 0)
+unfolding made read_at
 limits_allowed = (refl, refl)
 
 -- ---- 2 * limit + 4 nodes are open.

@@ -1,4 +1,4 @@
--- Which of demand 3's premises are needed: all but one, for each a case in which the others hold and the conclusion does not (for the limit
+-- Which of demand 3's premises are needed: all but one, for each a case in which the others hold and the conclusion does not (for the length
 -- in Spaces). That the token before the last is the word `end` follows from the others, and demand 3 holds without it.
 -- Assumes nothing.
 use Rattle.std.specs.Prelude.{ℕ, ◌≡◌, refl, true, List, [], length}

@@ -58,15 +58,15 @@ pub record Case : Type 0 where
   pub for_b : Loan
   pub for_join : Loan
 
--- The premises of `joined_calls`, in its order, and the rank of each.
+-- The premises of `joined_calls` and the rank of each: its own in its order, then that A and B are read at the join's limit.
 pub data Premise : Type 0 where
-  first_accepted second_accepted within_limit room_for_tokens room_for_events room_for_diagnostics three_words : Premise
+  first_accepted second_accepted within_length room_for_tokens room_for_events room_for_diagnostics three_words : Premise
   last_is_newline last_is_line_feed end_is_word end_closes no_parenthesis first_at_limit second_at_limit : Premise
 
 abbrev pub rank : Premise → ℕ
 rank first_accepted = 0
 rank second_accepted = 1
-rank within_limit = 2
+rank within_length = 2
 rank room_for_tokens = 3
 rank room_for_events = 4
 rank room_for_diagnostics = 5
@@ -99,7 +99,7 @@ module _ (c : Case) where
   abbrev pub Holds : Premise → Type 0
   Holds first_accepted = on_a.status ≡ 0
   Holds second_accepted = on_b.status ≡ 0
-  Holds within_limit = length (c.a ++ c.b) ≤ MAX_SOURCE
+  Holds within_length = length (c.a ++ c.b) ≤ MAX_SOURCE
   Holds room_for_tokens = token_count on_a.counts + token_count on_b.counts ≤ token_room (loan_slices c.for_join)
   Holds room_for_events = event_count on_a.counts + event_count on_b.counts ≤ length (loan_slices c.for_join).events + 2
   Holds room_for_diagnostics = diagnostic_count on_a.counts + diagnostic_count on_b.counts ≤ diagnostic_room (loan_slices c.for_join)
@@ -119,7 +119,7 @@ module _ (c : Case) where
   -- All premises but the one of rank n; of rank 14 there is none.
   abbrev pub AllBut : ℕ → Type 0
   AllBut n =
-      Unless n first_accepted × Unless n second_accepted × Unless n within_limit × Unless n room_for_tokens × Unless n room_for_events
+      Unless n first_accepted × Unless n second_accepted × Unless n within_length × Unless n room_for_tokens × Unless n room_for_events
       × Unless n room_for_diagnostics × Unless n three_words × Unless n last_is_newline × Unless n last_is_line_feed × Unless n end_is_word
       × Unless n end_closes × Unless n no_parenthesis × Unless n first_at_limit × Unless n second_at_limit
 

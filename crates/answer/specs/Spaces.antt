@@ -1,5 +1,5 @@
 -- A source of spaces is accepted up to the limit, with one token. So there is a join that is one byte too long and whose parts are accepted:
--- demand 3's premise on the limit is needed.
+-- demand 3's premise on the length is needed.
 -- Assumes nothing.
 use Rattle.std.specs.Prelude.{None, Ok, ℕ, zero, suc, ◌+◌, ◌≤◌, ◌≡◌, refl, false, List, [], ◌∷◌, ◌++◌, length, take, replicate}
 use Rattle.std.proofs.Common.{ap, ◌∙◌, arith}
@@ -12,13 +12,13 @@ use Rattle.lexer.specs.Tokens.{MAX_SOURCE, token_kinds}
 use Rattle.grammar.specs.Words.{is}
 use Rattle.grammar.specs.Look.{at, next_relevant_block_token}
 use Rattle.grammar.specs.Compute.{bytes}
-use Rattle.grammar.specs.Block.{MAX_CONTROL_FLOW_NESTING as limit}
+use Rattle.grammar.specs.Block.{MAX_CONTROL_FLOW_NESTING as unit}
 use Rattle.grammar.specs.Source.{source_events, source_places}
 use Rattle.marks.specs.Marks.{first_refused}
 use Rattle.answer.specs.Answer.{Slices}
 use Rattle.answer.specs.Given.{token_count, event_count, diagnostic_count}
 use Rattle.answer.specs.Accepts.{last_row_of_status, GivesReading, reading_of_call}
-use Rattle.answer.specs.Cases.{Loan, loan, zeros, loan_slices, made, called, within_limit, Needed}
+use Rattle.answer.specs.Cases.{Loan, loan, zeros, loan_slices, made, called, within_length, Needed}
 
 unfoldable pub spaces : ℕ → List ℕ
 spaces n = replicate n 32
@@ -51,11 +51,11 @@ one_token : (n : ℕ) → tokenize (spaces (suc n)) ≡ record { kind = Whitespa
 unfolding spaces made
 one_token n = rw (blanks n, all_taken n, all_passed n)
 
-their_events : (n : ℕ) → source_events limit (spaces (suc n)) ≡ 2 ∷ Whitespace ∷ 0 ∷ []
+their_events : (n : ℕ) → source_events unit (spaces (suc n)) ≡ 2 ∷ Whitespace ∷ 0 ∷ []
 unfolding made
 their_events n = rw (one_token n)
 
-no_places : (n : ℕ) → source_places limit (spaces (suc n)) ≡ []
+no_places : (n : ℕ) → source_places unit (spaces (suc n)) ≡ []
 unfolding made
 no_places n = rw (one_token n)
 
@@ -68,9 +68,9 @@ one_space = loan 1 3 0
 
 taken : (n : ℕ) → suc n ≤ MAX_SOURCE
     → ((made (spaces (suc n)) one_space).status ≡ 0)
-    × GivesReading limit (spaces (suc n)) (made (spaces (suc n)) one_space).slices (made (spaces (suc n)) one_space).counts
+    × GivesReading unit (spaces (suc n)) (made (spaces (suc n)) one_space).slices (made (spaces (suc n)) one_space).counts
 taken n h =
-    reading_of_call limit (spaces (suc n)) (loan_slices one_space) (zeros 3) (record {
+    reading_of_call unit (spaces (suc n)) (loan_slices one_space) (zeros 3) (record {
       allowed = refl;
       words = omega arith;
       small = omega (arith, many (suc n));
@@ -103,9 +103,9 @@ pub row_9_before_row_1 : ((made (spaces 1048577) (too_long_at 257 3)).status ≡
 unfolding made
 row_9_before_row_1 = rw (many 1048577) (refl, refl, refl, refl)
 
-pub limit_needed : Needed within_limit
+pub length_needed : Needed within_length
 unfolding made
-limit_needed =
+length_needed =
     let b : List ℕ = spaces 1048567 in
     let g = taken 1048566 (omega arith) in
     let t : token_count (made b one_space).counts ≡ 1 = g.1.t_is ∙ ap length (one_token 1048566) in
@@ -116,6 +116,6 @@ limit_needed =
       case = record { a = bytes "begin end\n"; b = b; for_a = loan 4 10 0; for_b = one_space; for_join = loan 5 11 0 };
       others = (refl, g.0, tt, omega arith, omega arith, omega arith, omega arith, refl, refl, refl, refl, p, refl, refl);
       otherwise = λ j.
-          let s = (last_row_of_status limit (bytes "begin end\n" ++ b) (loan_slices (loan 5 11 0)) (zeros 3) j.returned).small in
+          let s = (last_row_of_status unit (bytes "begin end\n" ++ b) (loan_slices (loan 5 11 0)) (zeros 3) j.returned).small in
           omega (arith, many 1048567);
     }

@@ -39,8 +39,8 @@ impl From<Status> for u64 {
     }
 }
 
-// The rows of document 01's table, and M-104's, with their values. No Result: where the room is short, the slices hold a part of the reading, and the
-// three counts say what it takes; `numbers` in specs/ gives each row its number and values.
+// The rows of document 01's table, and M-104's, with their values. No Result: where the room is short, the slices hold a part of the
+// reading, and the three counts say what it takes; `numbers` in specs/ gives each row its number and values.
 #[derive(Clone, Copy)]
 pub enum Answer {
     LimitOutOfRange,

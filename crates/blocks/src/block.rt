@@ -79,8 +79,8 @@ fn parse_control_flow(parser: &mut Parser, c0: Cursor, depth: Depth) -> Form
 }
 
 // A block inside a form. All calls of the forms go through here, so that a frame has room for the arguments of one. parse_block has
-// the same body: with a call of it in this one's place each level of the cycle takes 320 bytes against 208, where the rounds stop
-// with a flag and not with an enum.
+// the same body: with a call of it in this one's place each level of the cycle took 112 bytes more, where the rounds stopped with
+// a flag and not with an enum.
 #[cycle(forms)]
 fn inner_block(
     parser: &mut Parser,

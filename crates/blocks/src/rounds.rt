@@ -15,8 +15,8 @@ use parser::cursor::Cursor;
 use parser::look::Remembered;
 use parser::state::Parser;
 
-// Where the rounds stop: at a form, or behind the block's closing event. With this enum a level of the cycle takes 240 bytes; with a flag
-// beside the fields of both 208, but no fewer instructions.
+// Where the rounds stop: at a form, or behind the block's closing event. With a flag beside the fields of both
+// a level of the cycle took 32 bytes less (docs/DECISIONS.md, 19), but no fewer instructions.
 #[derive(Clone, Copy)]
 pub enum Stopped {
     Form(Cursor),
@@ -72,7 +72,7 @@ pub fn first_rounds(parser: &mut Parser, c0: Cursor, place: BlockPlace) -> Stopp
 }
 
 // The rounds behind a form: block_from calls `rounds` through this and first_rounds, since with a call of `rounds` in both places each
-// level of the cycle takes 288 bytes, and 240 so.
+// level of the cycle took 48 bytes more.
 pub fn next_rounds(parser: &mut Parser, c0: Cursor, place: BlockPlace, item0: bool) -> Stopped
     requires { ItemAt parser.old.kinds.now c0.pos item0 }
     ensures { BlockRounds place (entry parser c0) (exit parser (stop result)) result }

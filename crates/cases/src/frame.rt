@@ -1,5 +1,5 @@
-// The frames of the input: nine little-endian numbers (the part, the limit on nesting, bytes of the source, entries of the six slices), then the
-// source, and for lines and columns the offsets.
+// The frames of the input: nine little-endian numbers (the part, the limit on nesting, bytes of the source, entries of the six slices),
+// then the source, and for lines and columns the offsets.
 use crate::{lexing, positions, reading};
 use cst::Slices;
 use frames::header::frame_number;
@@ -76,8 +76,8 @@ fn read_header(from: &mut impl Read) -> Option<Header> {
     })
 }
 
-// Answers a source, or `None` where the input ends. The limit is the reading's and the text's. Offsets stand where a reading has the ends of tokens, their lines where it has starts,
-// their columns where stops.
+// Answers a source, or `None` where the input ends. The limit is the reading's and the text's. Offsets stand where a reading has the ends
+// of tokens, their lines where it has starts, their columns where stops.
 fn put_part(
     out: &mut impl Write,
     from: &mut impl Read,

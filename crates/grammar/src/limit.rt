@@ -13,11 +13,6 @@ pub struct NestingLimit {
 }
 
 impl NestingLimit {
-    // The unit's, of which the programs read too.
-    pub const MAX: NestingLimit = NestingLimit {
-        forms: MAX_CONTROL_FLOW_NESTING,
-    };
-
     // `None` for 0 and for all above 256, of 64 bits: a number is tested before it is cut.
     pub fn new(limit: u64) -> Option<NestingLimit>
         ensures allowed { is_some result ≡ limit_allowed limit }

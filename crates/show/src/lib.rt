@@ -78,7 +78,8 @@ pub fn write_tree(
     }
 }
 
-// The same to standard output, at the unit's limit. `Output` never fails, so there is no result to look at, and the caller needs no case of an error.
+// The same to standard output, at the unit's limit. `Output` never fails, so there is no result to look at, and the caller needs no case
+// of an error.
 pub fn put_tree<P: Print>(out: &mut Output<'_, '_, P>, source: &[u8], slices: &mut Slices<'_>) {
     let _ = write_tree(out, MAX_CONTROL_FLOW_NESTING.into(), source, slices);
 }

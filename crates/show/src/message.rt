@@ -62,8 +62,8 @@ static TEXTS: &[&str] = &[
     "unexpected closing delimiter `}`",
 ];
 
-// The text of message n, or nothing where there is no such message. Past the depth limit it goes on with the limit, for an unrecognized token
-// with the token, in backticks.
+// The text of message n, or nothing where there is no such message. Past the depth limit it goes on with the limit, for an unrecognized
+// token with the token, in backticks.
 pub fn put_message(out: &mut impl Write, limit: u64, n: u16, token: &[u8]) -> io::Result<()> {
     let text = TEXTS.get(usize::from(n)).copied().unwrap_or("");
     out.write_all(text.as_bytes())?;

@@ -91,9 +91,10 @@ fn every_answer() -> impl Iterator<Item = Vec<u8>> {
     short.map(<[u8]>::to_vec).into_iter().chain([vec![b' '; MAX_SOURCE + 1]])
 }
 
-/// The sources in which forms may be nested, each at one lower limit, by turns.
+/// The sources in which forms may be nested, each at every lower limit.
 pub fn lower(sources: impl Iterator<Item = Vec<u8>>) -> impl Iterator<Item = Limited> {
-    LOWER.into_iter().cycle().zip(sources.filter(|source| may_nest(source)))
+    let nesting = sources.filter(|source| may_nest(source));
+    nesting.flat_map(|source| LOWER.map(|limit| (limit, source.clone())))
 }
 
 /// Whether two words are there that open a form.

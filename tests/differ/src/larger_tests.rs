@@ -34,7 +34,7 @@ fn other_slices(limit: u64, source: &[u8], mut lent: Lent) -> u64 {
     status
 }
 
-/// Says 5 where a larger limit could have given more.
+/// Says 5 of an accepted source where the limit is above the number of events that have room.
 fn another_status(limit: u64, source: &[u8], lent: Lent) -> u64 {
     let (status, room) = (0, lent.events.len() as u64);
     let right = right(limit, source, lent);

@@ -1,10 +1,10 @@
 //! Makes an exported call once, on a source from standard input.
 //!
-//! Without words it is `masm_parse_text` at the unit's limit, with rooms that are enough for any source of its
-//! length, and the status and the counts are printed. `limit N` is the same at another limit. `lines ORDER STEP` is `masm_lines` with one offset
-//! for each STEP bytes, in the order `back` each behind the source's start again, `lines ends` with
-//! all token ends and `lines starts` with the starts of all diagnostics; 0 and how many were written
-//! are printed.
+//! Without words it is `masm_parse_text` at the unit's limit, with rooms that are enough for any
+//! source of its length, and the status and the counts are printed. `limit N` is the same at another
+//! limit. `lines ORDER STEP` is `masm_lines` with one offset for each STEP bytes, in the order `back`
+//! each behind the source's start again, `lines ends` with all token ends and `lines starts` with the
+//! starts of all diagnostics; 0 and how many were written are printed.
 
 use std::{
     env,

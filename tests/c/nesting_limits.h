@@ -1,5 +1,5 @@
-#ifndef LIMITS_H
-#define LIMITS_H
+#ifndef NESTING_LIMITS_H
+#define NESTING_LIMITS_H
 
 #include <stddef.h>
 #include <stdint.h>
