@@ -1,6 +1,6 @@
 -- What a call gave without the depth diagnostic, every call at a higher limit gives too.
 -- Assumes nothing.
-use Rattle.std.specs.Prelude.{Option, None, Some, Ok, Err, ℕ, ◌≤◌, ◌≡◌, refl, true, cond, List, map, leb, ltb, length}
+use Rattle.std.specs.Prelude.{Option, None, Some, Ok, Err, ℕ, ◌≡◌, refl, true, cond, List, map, leb, ltb, length}
 use Rattle.std.proofs.Common.{sym, ap, ◌∙◌, arith}
 use Rattle.std.proofs.lemmas.Bool.{and_parts, le-leb, leb-true}
 use Rattle.utf8.specs.Last.{last_char}
@@ -19,16 +19,14 @@ use Rattle.answer.specs.Answer.{from_row_5, from_row_4, from_row_3, from_row_2, 
 use Rattle.answer.specs.Call.{Reply, call, MasmParseText}
 use Rattle.answer.specs.Given.{given}
 use Rattle.answer.specs.Accepts.{LastRow, GivesReading, reading_of_call, last_row_of_call}
-use Rattle.answer.specs.HigherLimit.{RoomFor, GivesSame, SameReply}
+use Rattle.answer.specs.HigherLimit.{ReadWithoutDepth, RoomFor, GivesSame, SameReply}
 
 module _
     (limit higher : ℕ) (source : List ℕ) (s : Slices) (counts : List ℕ) {r : ℕ} {s' : Slices} {counts' : List ℕ}
-    (seen : MasmParseText limit source s counts r s' counts') (accepted : r ≡ 0)
-    (calm : without_depth (given s' counts').messages ≡ true)
-    (above : limit ≤ higher) (allowed : higher ≤ MAX_CONTROL_FLOW_NESTING)
+    (seen : MasmParseText limit source s counts r s' counts') (read : ReadWithoutDepth limit higher r (given s' counts'))
   where
     last : LastRow limit source s counts
-    last = last_row_of_call limit source s counts seen accepted
+    last = last_row_of_call limit source s counts seen read.accepted
 
     reading : GivesReading limit source s' counts'
     reading = (reading_of_call limit source s counts last seen).1
@@ -38,17 +36,17 @@ module _
 
     calm_file : without_depth (map (λ d. d.msg) said) ≡ true
     calm_file =
-        sym (ap without_depth (ap (λ (x : Slices). x.messages) reading.given_is ∙ messages_of_places (token_ends source) (last_char source) said)) ∙ calm
+        sym (ap without_depth (ap (λ (x : Slices). x.messages) reading.given_is ∙ messages_of_places (token_ends source) (last_char source) said)) ∙ read.calm
 
     same_output : (source_events higher source ≡ source_events limit source) × (source_places higher source ≡ source_places limit source)
     same_output =
-        let o = higher_limit limit higher (symbols source) above calm_file in
+        let o = higher_limit limit higher (symbols source) read.above calm_file in
         (o.0, ap (places (token_ends source) (last_char source)) o.1)
 
     higher_allowed : limit_allowed higher ≡ true
     higher_allowed =
         let from_1 = leb-true 1 limit (and_parts (leb 1 limit) _ last.allowed).0 in
-        rw (le-leb 1 higher (omega (arith, from_1)), le-leb higher MAX_CONTROL_FLOW_NESTING allowed) refl
+        rw (le-leb 1 higher (omega (arith, from_1, read.above)), le-leb higher MAX_CONTROL_FLOW_NESTING read.allowed) refl
 
     -- the table's rows, whatever is lent
     same_row_5 : (t : Slices) → from_row_5 higher source t ≡ from_row_5 limit source t

@@ -49,7 +49,7 @@ module _ (c : Raise) where
   same : Accepted → Calm → Above → Allowed → Same
   same accepted calm above allowed =
       higher_limit_calls c.seen.limit c.higher c.source (Cases.loan_slices c.seen) (Cases.zeros c.seen.words) (called c.source c.seen)
-      accepted calm above allowed (Cases.loan_slices (loan_at c.higher 5 19 1)) (Cases.zeros 3)
+      (record { accepted = accepted; calm = calm; above = above; allowed = allowed }) (Cases.loan_slices (loan_at c.higher 5 19 1)) (Cases.zeros 3)
       (called c.source (loan_at c.higher 5 19 1)) (called c.source (loan_at c.seen.limit 5 19 1))
 
 -- `begin if if`, too deep at limit 1. Without room for its diagnostic the first call returned 5.
@@ -103,7 +103,7 @@ module _ (raised : Loan) where
   unfolding made
   given_again room e =
       higher_limit_gives 2 raised.limit (bytes "begin if if") (Cases.loan_slices (loan_at 2 5 19 1)) (Cases.zeros 3) (called _ (loan_at 2 5 19 1))
-      refl refl (omega (arith, e)) (omega (arith, e)) (Cases.loan_slices raised) (Cases.zeros raised.words) (called _ raised) room
+      (record { accepted = refl; calm = refl; above = omega (arith, e); allowed = omega (arith, e) }) (Cases.loan_slices raised) (Cases.zeros raised.words) (called _ raised) room
 
 enough : Given (loan_at 3 5 19 1)
 unfolding made

@@ -1,8 +1,18 @@
 -- M-104: 'A file without the depth diagnostic at some limit has the same tree and diagnostics at any larger one.' In terms of calls.
 -- Assumes nothing: these are definitions.
-use Rattle.std.specs.Prelude.{ℕ, ◌≤◌, ◌≡◌, List, length}
+use Rattle.std.specs.Prelude.{ℕ, ◌≤◌, ◌≡◌, true, List, length}
+use Rattle.grammar.specs.Block.{MAX_CONTROL_FLOW_NESTING}
+use Rattle.grammar.specs.Theorems.HigherLimit.{without_depth}
 use Rattle.answer.specs.Answer.{Slices, token_room, diagnostic_room}
 use Rattle.answer.specs.Given.{token_count, event_count, diagnostic_count, given}
+
+-- What is known of a source at a limit, and of a higher one: a call at the limit returned r, which is 0, and gave g, without the depth
+-- diagnostic; the other limit is allowed.
+pub record ReadWithoutDepth (limit higher : ℕ) (r : ℕ) (g : Slices) : Type 0 where
+  pub accepted : r ≡ 0
+  pub calm : without_depth g.messages ≡ true
+  pub above : limit ≤ higher
+  pub allowed : higher ≤ MAX_CONTROL_FLOW_NESTING
 
 -- The slices s and counts have room for what other calls gave, by their counts.
 pub record RoomFor (given_counts : List ℕ) (s : Slices) (counts : List ℕ) : Type 0 where
