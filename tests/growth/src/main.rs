@@ -89,8 +89,8 @@ fn read(options: &mut Options, mut words: impl Iterator<Item = String>) -> Optio
     Some(())
 }
 
-/// Prints the tables; how many families grow too fast, and one more where names are not told by
-/// their lengths.
+/// Prints the tables; how many families grow too fast, one more where names are not told by their
+/// lengths, and one more where a limit is the same as another.
 fn run(options: Options) -> Result<usize, String> {
     if options.beside {
         let [reading, lines] = [exported_call(READING)?, exported_call(LINES)?];
@@ -106,8 +106,12 @@ fn run(options: Options) -> Result<usize, String> {
             "growth: names of no word's length take {counts:?} instructions, by their letters"
         );
     }
+    let ignored = limits::ignored(&rows);
+    if ignored {
+        println!("growth: a script takes as many instructions at limit 1 as at 64");
+    }
     println!("growth: {} families, {fast} above {GREATEST}", rows.len());
-    Ok(fast + usize::from(unlike.is_some()))
+    Ok(fast + usize::from(unlike.is_some()) + usize::from(ignored))
 }
 
 /// Prints the table of one call, if families of it are chosen; its rows.
