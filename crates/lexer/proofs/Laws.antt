@@ -6,7 +6,7 @@ use Prim.Native.Nat.{ℕ, zero, suc, ◌+◌, ◌≤◌, ◌<◌}
 use native.Mathlib.Nat.{add-zero, zero-add, add-suc, suc-add, add_assoc, le_of_suc-le-suc, not-suc-le-zero}
 use native.Mathlib.Numerals.{one-add}
 use native.Mathlib.Omega.{arith}
-use borrow.Author.Tests.{ltb-true, ltb-false}
+use borrow.Author.Tests.{ltb-true, ltb-false, eq-eqb, ne_eqb}
 use denote.Bor.{Bor}
 use Rattle.std.proofs.Common.{Option, Some, None}
 use Rattle.std.specs.Option.{is_some, unwrap_or, option_map}
@@ -94,6 +94,20 @@ module _ (s : List ℕ) (at : ℕ) where
 
   pub got_none : (r : Option (Bor ℕ)) → is_some r ≡ ltb at (length s) → r ≡ None → drop at s ≡ []
   got_none r p e = drop_of_length-le s (ltb-false at (length s) (sym p ∙ ap is_some e))
+
+-- whether x stands at an offset
+module _ (s : List ℕ) (at x : ℕ) where
+  pub stands : at < length s → get_or s at 0 ≡ x → starts_with x (drop at s) ≡ true
+  unfolding starts_with
+  stands h e = ap (starts_with x) (next_byte s at h) ∙ eq-eqb _ x e
+
+  pub stands_not : at < length s → (get_or s at 0 ≡ x → ⊥) → starts_with x (drop at s) ≡ false
+  unfolding starts_with
+  stands_not h n = ap (starts_with x) (next_byte s at h) ∙ ne_eqb _ x n
+
+  pub stands_none : length s ≤ at → starts_with x (drop at s) ≡ false
+  unfolding starts_with
+  stands_none h = ap (starts_with x) (drop_of_length-le s h)
 
 -- the byte x follows, or not
 module _ (x : ℕ) (f g : LexRule) where

@@ -49,6 +49,11 @@ module _ {x : ℕ} (f g : LexRule) {s m t : Lexer} {r : Bool} {k : SyntaxKind} (
         ∙ placed_no x f g s.offset _ (sym a.found_is ∙ e);
   }
 
+-- the same rule whether x was passed or not
+pub passed : {x : ℕ} (f : LexRule) {s t : Lexer} {r : Bool} {k : SyntaxKind} → AdvanceIf x s r t → Lexed f t k t → Lexed (follow x f f) s k t
+passed f {r = true} a l = followed f f a refl l
+passed f {r = false} a l = not_followed f f a refl l
+
 -- the end of a run, in a source that is the same
 pub same_end : (p : ℕ → Bool) (a : ℕ) {l m : List ℕ} → l ≡ m → a + advance_while p (drop a l) ≡ a + advance_while p (drop a m)
 same_end p a q = ap (λ (s : List ℕ). a + advance_while p (drop a s)) q

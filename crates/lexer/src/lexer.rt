@@ -126,7 +126,7 @@ impl Lexer<'_> {
     {
         match class_of(b) {
             Class::Blank => self.lex_while(Whitespace, is_blank),
-            Class::Cr => self.pair(b'\n', Newline, Newline),
+            Class::Cr => self.newline(),
             Class::Comment => self.comment(),
             Class::Letter => self.lex_while(Ident, is_word),
             Class::Special => self.special(),

@@ -10,6 +10,7 @@ mod slices;
 mod state;
 pub mod syntax;
 
+pub use class::{Class, class_of};
 pub use lexer::{MAX_SOURCE, Token, tokenize};
-pub use slices::TokenSlices;
+pub use slices::{TokenSlices, put_token};
 pub use state::Lexer;

@@ -1,10 +1,11 @@
 // Runs of bytes, and what stands at the offset.
-ghost use Rattle.std.specs.Prelude.{◌≡◌, ◌+◌, ◌≤◌, Bool, ℕ, true, length, drop};
-ghost use Rattle.lexer.specs.Lexer.{advance_while, in_line};
-ghost use Rattle.lexer.specs.Code.{Advanced, AdvanceIf, other_than, AllHold, AnswersAs};
+ghost use Rattle.std.specs.Prelude.{◌≡◌, ◌+◌, ◌≤◌, cond, Bool, ℕ, true, length, drop};
+ghost use Rattle.lexer.specs.Lexer.{advance_while, in_line, cr as newline_of};
+ghost use Rattle.lexer.specs.Code.{Lexed, starts_with, Advanced, AdvanceIf, other_than, AllHold, AnswersAs};
 
 use crate::chars::is_in_line;
 use crate::state::Lexer;
+use crate::syntax::SyntaxKind;
 
 impl Lexer<'_> {
     // Over the run at the offset, a byte at a time.
@@ -51,6 +52,14 @@ impl Lexer<'_> {
         self.advance_while(is_in_line);
     }
 
+    // lex_trivia, at a CR, from behind it: CR LF is one.
+    pub(crate) fn newline(&mut self) -> SyntaxKind
+        ensures { Lexed newline_of self.old result self.new }
+    {
+        self.offset = past_byte(self.source, self.offset, b'\n');
+        SyntaxKind::Newline
+    }
+
     // if self.current_char() == Some(x) { self.advance_char(); }
     pub(crate) fn advance_if(&mut self, x: u8) -> bool
         ensures { AdvanceIf x self.old result self.new }
@@ -61,6 +70,19 @@ impl Lexer<'_> {
         }
         found
     }
+}
+
+// Past x where it stands. No slice is so long that `min` matters: of the step by it the compiler makes a jump. Of one more alone, as
+// advance_if has it, it makes a conditional move, and each token of a file of CR LF waits for the byte before it: half as long again.
+fn past_byte(source: &[u8], from: usize, x: u8) -> usize
+    requires { from ≤ length source.now }
+    ensures moved { result ≡ from + cond (starts_with x (drop from source.now)) 1 0 }
+    ensures within { result ≤ length source.now }
+{
+    if from < source.len() && source[from] == x {
+        return (from + 1).min(usize::MAX / 2);
+    }
+    from
 }
 
 // Whether x is none of these bytes. All are looked at, so that the compiler makes one wide comparison of it.

@@ -1,6 +1,8 @@
 // The slices that tokens are written to.
-ghost use Rattle.std.specs.Prelude.{◌+◌, ◌<◌, ◌^◌};
+ghost use Rattle.std.specs.Prelude.{◌≡◌, ◌+◌, ◌<◌, ◌^◌, length, set};
 ghost use Rattle.lexer.specs.Slices.{Push};
+
+use room::set_in_room;
 
 // The kinds and the ends of tokens, as far as both slices have room, and how many tokens there were.
 #[derive(Drop)]
@@ -23,4 +25,14 @@ impl TokenSlices<'_> {
             self.ends[n] = end;
         }
     }
+}
+
+// The token with this index, written where both slices have it; behind their end nothing is. Any index will do.
+pub fn put_token(kinds: &mut [u16], ends: &mut [u32], n: usize, kind: u16, end: u32)
+    requires { length kinds.old ≡ length ends.old }
+    ensures kinds_are { kinds.new ≡ set kinds.old n kind }
+    ensures ends_are { ends.new ≡ set ends.old n end }
+{
+    set_in_room(kinds, n, kind);
+    set_in_room(ends, n, end);
 }

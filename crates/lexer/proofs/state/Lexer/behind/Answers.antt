@@ -45,7 +45,7 @@ returns-in-Blank c = chosen c.args.b c.class_of.ensures.number c.in-Blank.is (c.
 
 pub returns-in-Cr : goal.returns-in-Cr
 unfolding arm
-returns-in-Cr c = chosen c.args.b c.class_of.ensures.number c.in-Cr.is c.pair.ensures
+returns-in-Cr c = chosen c.args.b c.class_of.ensures.number c.in-Cr.is c.newline.ensures
 
 pub returns-in-Comment : goal.returns-in-Comment
 unfolding arm
@@ -69,7 +69,7 @@ returns-in-Quote c = chosen c.args.b c.class_of.ensures.number c.in-Quote.is c.l
 
 pub returns-in-Colon : goal.returns-in-Colon
 unfolding arm
-returns-in-Colon c = chosen c.args.b c.class_of.ensures.number c.in-Colon.is c.pair-in-Colon.ensures
+returns-in-Colon c = chosen c.args.b c.class_of.ensures.number c.in-Colon.is c.pair.ensures
 
 pub returns-in-Dot : goal.returns-in-Dot
 unfolding arm
