@@ -1,7 +1,7 @@
 -- Delimiter counts: they step by value, and a closer without its opener leaves them as they are.
 -- Defines: Nesting::default, Nesting::is_root, Nesting::bump, closing_delimiter_text (by its message), bump_nesting.
 -- Assumes nothing: these are definitions.
-use Rattle.std.specs.Prelude.{ℕ, suc, pred, ◌<◌, Bool, cond, ◌&&◌, eqb, Result, Ok, Err}
+use Rattle.std.specs.Prelude.{◌≡◌, ℕ, suc, pred, ◌<◌, Bool, cond, ◌&&◌, eqb, Result, Ok, Err}
 use Rattle.lexer.specs.Syntax.{LBrace, LBracket, LParen, RBrace, RBracket, RParen}
 use Rattle.grammar.specs.Words.{Sym, is}
 use Rattle.grammar.specs.Run.{Round, go, warn}
@@ -57,3 +57,9 @@ pub record NestingBelow (n : ℕ) (c : Nesting) : Type 0 where
   pub parens : c.parens < n
   pub brackets : c.brackets < n
   pub braces : c.braces < n
+
+-- The count that a token of this kind adds one to is below n. A closer, and any other token, adds to none.
+pub record OpensBelow (n : ℕ) (kind : Sym) (c : Nesting) : Type 0 where
+  pub parens : kind ≡ LParen → c.parens < n
+  pub brackets : kind ≡ LBracket → c.brackets < n
+  pub braces : kind ≡ LBrace → c.braces < n

@@ -1,6 +1,6 @@
 // Delimiter counts: parser.rs's Nesting, and what its bump hands back.
 ghost use Rattle.std.specs.Prelude.{◌≡◌, ◌<◌, ◌^◌};
-ghost use Rattle.grammar.specs.Nesting.{is_root, bump_by, NestingBelow};
+ghost use Rattle.grammar.specs.Nesting.{is_root, bump_by, OpensBelow};
 
 use lexer::syntax::{L_BRACE, L_BRACKET, L_PAREN, R_BRACE, R_BRACKET, R_PAREN};
 
@@ -34,7 +34,7 @@ impl Nesting {
     // What a token of this kind does to the counts.
     #[tactic(auto, unfolding(crate::specs::Nesting::bump_by))]
     pub fn bump(self, kind: u16) -> Result<Nesting, Closer>
-        requires { NestingBelow (2 ^ 63) self }
+        requires { OpensBelow (2 ^ 63) kind self }
         ensures { result ≡ bump_by self kind }
     {
         // By tests: with checked_sub a closer takes two instructions more.
