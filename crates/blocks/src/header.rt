@@ -1,8 +1,8 @@
 // What stands before a block: a keyword, for some forms its suffixes, and the rest of the line.
-ghost use Rattle.std.specs.Prelude.{◌≡◌, true, drop};
+ghost use Rattle.std.specs.Prelude.{◌≡◌, true, false, drop};
 ghost use Rattle.lexer.specs.Syntax.{kind_number, DoWhileOp};
 ghost use Rattle.grammar.specs.Words.{is, key, word_number, DO as do_word};
-ghost use Rattle.grammar.specs.Look.{at};
+ghost use Rattle.grammar.specs.Look.{at, regular_trivia};
 ghost use Rattle.parser.specs.Rep.{entry, exit};
 ghost use Rattle.blocks.specs.Shapes.{header as header_of, keyword_line, FormHeader, KeywordLine};
 
@@ -35,6 +35,17 @@ pub fn keyword_line(parser: &mut Parser, c0: Cursor, keyword: Word) -> Cursor
     ensures { KeywordLine (key (word_number keyword)) (entry parser c0) (exit parser result) }
 {
     let b = parser.expect_keyword(c0, keyword, Message::Unreached);
+    parse_line_tail(parser, b.c)
+}
+
+// keyword_line at any token that is not trivia, by its number. keyword_line does not call it: that is inlined into the cycle, and the
+// arguments of this call would stand in its frame.
+pub fn symbol_line(parser: &mut Parser, c0: Cursor, k: u16) -> Cursor
+    requires here { at (is k) (drop c0.pos parser.old.kinds.now) ≡ true }
+    requires no_trivia { regular_trivia k ≡ false }
+    ensures { KeywordLine k (entry parser c0) (exit parser result) }
+{
+    let b = parser.expect_symbol(c0, k, Message::Unreached);
     parse_line_tail(parser, b.c)
 }
 

@@ -33,6 +33,14 @@ pub fn keyword_and_name(
     name_behind(parser, a.c, name)
 }
 
+// keyword_and_name at any token, by its number. The one above does not call it: expect_keyword asks less, 3 percent of a file of constants.
+pub fn symbol_and_name(parser: &mut Parser, c0: Cursor, k: u16, m: Message, name: Message) -> Cursor
+    ensures { Ran (keyword_and_name k m name) (entry parser c0) (exit parser result) }
+{
+    let a = parser.expect_symbol(c0, k, m);
+    name_behind(parser, a.c, name)
+}
+
 // A group in parentheses, where one starts here.
 pub fn optional_parens(parser: &mut Parser, c0: Cursor, missing: Message) -> Cursor
     ensures { Ran (optional_parens missing) (entry parser c0) (exit parser result) }

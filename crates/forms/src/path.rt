@@ -72,29 +72,23 @@ pub fn parse_path_with_message(parser: &mut Parser, c0: Cursor, m: Message) -> C
 
 // How many delimiters of this kind are open behind the token k. The opener and the closer go one by one, as the Rust's parameters do.
 #[tactic(auto, unfolding(crate::specs::Path::group_step))]
-fn group_depth(opener: SyntaxKind, closer: SyntaxKind, depth: usize, k: u16) -> usize
+fn group_depth(opener: u16, closer: u16, depth: usize, k: u16) -> usize
     requires open { 0 < depth }
     requires short { depth < 2 ^ 63 }
-    ensures { result ≡ group_step (kind_number opener) (kind_number closer) depth k }
+    ensures { result ≡ group_step opener closer depth k }
 {
-    if u16::from(opener) == k {
+    if opener == k {
         return depth + 1;
     }
-    if u16::from(closer) == k {
+    if closer == k {
         return depth - 1;
     }
     depth
 }
 
 // The group behind its first opener.
-fn group_rest(
-    parser: &mut Parser,
-    c0: Cursor,
-    opener: SyntaxKind,
-    closer: SyntaxKind,
-    missing: Message,
-) -> Cursor
-    ensures { Ran (group_rest (kind_number opener) (kind_number closer) missing) (entry parser c0) (exit parser result) }
+fn group_rest(parser: &mut Parser, c0: Cursor, opener: u16, closer: u16, missing: Message) -> Cursor
+    ensures { Ran (group_rest opener closer missing) (entry parser c0) (exit parser result) }
 {
     let mut c = c0;
     let mut depth: usize = 1;
@@ -108,6 +102,25 @@ fn group_rest(
     parser.error_here(c, missing)
 }
 
+// parse_balanced_group, of any two tokens by their numbers.
+#[inline(always)]
+pub fn parse_group_between(
+    parser: &mut Parser,
+    c0: Cursor,
+    opener: u16,
+    closer: u16,
+    missing: Message,
+) -> Cursor
+    ensures { Ran (parse_balanced_group opener closer missing) (entry parser c0) (exit parser result) }
+{
+    let a = parser.bump_regular_trivia(c0);
+    let b = parser.expect_symbol(a, opener, missing);
+    if !b.ok {
+        return b.c;
+    }
+    group_rest(parser, b.c, opener, closer, missing)
+}
+
 pub fn parse_balanced_group(
     parser: &mut Parser,
     c0: Cursor,
@@ -117,10 +130,5 @@ pub fn parse_balanced_group(
 ) -> Cursor
     ensures { Ran (parse_balanced_group (kind_number opener) (kind_number closer) missing) (entry parser c0) (exit parser result) }
 {
-    let a = parser.bump_regular_trivia(c0);
-    let b = parser.expect_kind(a, opener, missing);
-    if !b.ok {
-        return b.c;
-    }
-    group_rest(parser, b.c, opener, closer, missing)
+    parse_group_between(parser, c0, u16::from(opener), u16::from(closer), missing)
 }

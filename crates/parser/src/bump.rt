@@ -53,15 +53,15 @@ impl Parser<'_> {
         self.bump_while(c0, SPACE)
     }
 
-    // Whether a token of this kind is here, and the kind is not trivia.
-    fn stands_here(&self, p: usize, kind: SyntaxKind) -> bool
-        ensures here { result ≡ true → at (is (kind_number kind)) (drop p self.now.kinds.now) ≡ true }
-        ensures no_trivia { result ≡ true → regular_trivia (kind_number kind) ≡ false }
+    // Whether the token of number k is here, and is not trivia.
+    fn stands_here(&self, p: usize, k: u16) -> bool
+        ensures here { result ≡ true → at (is k) (drop p self.now.kinds.now) ≡ true }
+        ensures no_trivia { result ≡ true → regular_trivia k ≡ false }
     {
-        self.at_kind(p, kind) && !is_regular_trivia(u16::from(kind))
+        self.at_symbol(p, k) && !is_regular_trivia(k)
     }
 
-    // expect_kind and expect_keyword, where trivia may stand before the token of number k.
+    // expect_symbol, where trivia may stand before the token.
     fn expect_behind(&mut self, c0: Cursor, k: u16, m: Message) -> Flow
         ensures { RanTo (expect_kind k m) (entry self c0) (exit self result.c) result.ok }
     {
@@ -78,17 +78,25 @@ impl Parser<'_> {
         }
     }
 
-    // Mostly the token is here.
-    pub fn expect_kind(&mut self, c0: Cursor, kind: SyntaxKind, m: Message) -> Flow
-        ensures { RanTo (expect_kind (kind_number kind) m) (entry self c0) (exit self result.c) result.ok }
+    // expect_kind and expect_keyword, of a token by its number. Mostly it is here. Inlined: by a call from expect_kind a file of attributes
+    // takes an eighth more instructions.
+    #[inline(always)]
+    pub fn expect_symbol(&mut self, c0: Cursor, k: u16, m: Message) -> Flow
+        ensures { RanTo (expect_kind k m) (entry self c0) (exit self result.c) result.ok }
     {
-        if self.stands_here(c0.pos, kind) {
+        if self.stands_here(c0.pos, k) {
             return Flow {
                 c: self.bump(c0),
                 ok: true,
             };
         }
-        self.expect_behind(c0, u16::from(kind), m)
+        self.expect_behind(c0, k, m)
+    }
+
+    pub fn expect_kind(&mut self, c0: Cursor, kind: SyntaxKind, m: Message) -> Flow
+        ensures { RanTo (expect_kind (kind_number kind) m) (entry self c0) (exit self result.c) result.ok }
+    {
+        self.expect_symbol(c0, u16::from(kind), m)
     }
 
     // Inlined: mostly the word is here, and the frame of the cycle of blocks then has no room for a call's arguments.
@@ -125,13 +133,20 @@ impl Parser<'_> {
         self.finish_node(d)
     }
 
-    // if at_kind(kind) { bump }. The other such tests have their step between the braces too: a call with a closure is no shorter.
-    pub fn bump_at(&mut self, c0: Cursor, kind: SyntaxKind) -> Cursor
-        ensures { Ran (when at (is (kind_number kind)) then take_token else nop) (entry self c0) (exit self result) }
+    // if at_kind(k) { bump }, of a token by its number. The other such tests have their step between the braces too: a call with a
+    // closure is no shorter.
+    pub fn bump_at_symbol(&mut self, c0: Cursor, k: u16) -> Cursor
+        ensures { Ran (when at (is k) then take_token else nop) (entry self c0) (exit self result) }
     {
-        if self.at_kind(c0.pos, kind) {
+        if self.at_symbol(c0.pos, k) {
             return self.bump(c0);
         }
         c0
+    }
+
+    pub fn bump_at(&mut self, c0: Cursor, kind: SyntaxKind) -> Cursor
+        ensures { Ran (when at (is (kind_number kind)) then take_token else nop) (entry self c0) (exit self result) }
+    {
+        self.bump_at_symbol(c0, u16::from(kind))
     }
 }

@@ -12,13 +12,13 @@ use grammar::words::MARK;
 use lexer::syntax::{IDENT, SyntaxKind, WHITESPACE};
 
 // The last kind of each set of trivia; the first is Whitespace.
-pub(crate) const REGULAR_TRIVIA: SyntaxKind = SyntaxKind::Comment;
+pub const REGULAR_TRIVIA: SyntaxKind = SyntaxKind::Comment;
 
-pub(crate) const TRIVIA: SyntaxKind = SyntaxKind::DocComment;
+pub const TRIVIA: SyntaxKind = SyntaxKind::DocComment;
 
-pub(crate) const NON_COMMENT_TRIVIA: SyntaxKind = SyntaxKind::Newline;
+pub const NON_COMMENT_TRIVIA: SyntaxKind = SyntaxKind::Newline;
 
-pub(crate) const SPACE: SyntaxKind = SyntaxKind::Whitespace;
+pub const SPACE: SyntaxKind = SyntaxKind::Whitespace;
 
 // Whether the bit is set.
 #[tactic(auto, unfolding(crate::specs::Sets::bit))]
@@ -31,12 +31,18 @@ pub fn in_set(mask: u64, k: u16) -> bool
     (mask >> k) % 2 == 1
 }
 
-// Whether k is trivia, up to the kind `last`.
+// Whether k is trivia, up to the kind of number `last`.
 #[tactic(auto, unfolding(crate::specs::Sets::trivia_to))]
+pub fn is_trivia_up_to(last: u16, k: u16) -> bool
+    ensures { result ≡ trivia_to last k }
+{
+    WHITESPACE <= k && k <= last
+}
+
 pub fn is_trivia_to(last: SyntaxKind, k: u16) -> bool
     ensures { result ≡ trivia_to (kind_number last) k }
 {
-    WHITESPACE <= k && k <= u16::from(last)
+    is_trivia_up_to(u16::from(last), k)
 }
 
 // Whitespace, Newline, Comment

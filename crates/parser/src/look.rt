@@ -12,7 +12,7 @@ ghost use Rattle.parser.specs.Sets.{trivia_to};
 ghost use Rattle.parser.specs.Ahead.{Found, declared as declared_of, BreakKnown, DocKnown};
 
 use crate::kinds::{
-    NON_COMMENT_TRIVIA, REGULAR_TRIVIA, SPACE, TRIVIA, in_words, is_trivia_to, starts_item,
+    NON_COMMENT_TRIVIA, REGULAR_TRIVIA, SPACE, TRIVIA, in_words, is_trivia_up_to, starts_item,
 };
 use crate::sets::DECLARED;
 use crate::state::Parser;
@@ -52,7 +52,7 @@ impl Parser<'_> {
 
     // A plain kind, or an Ident that is a word, by its number.
     #[tactic(auto, using(crate::proofs::Laws::at_in, crate::proofs::Laws::at_out))]
-    pub(crate) fn at_symbol(&self, p: usize, k: u16) -> bool
+    pub fn at_symbol(&self, p: usize, k: u16) -> bool
         ensures { result ≡ at (is k) (drop p self.now.kinds.now) }
     {
         p < self.kinds.len() && k == self.kinds[p]
@@ -70,20 +70,26 @@ impl Parser<'_> {
         self.at_symbol(p, keyword.symbol())
     }
 
-    // The first token from p on that is not trivia up to `last`.
+    // The first token from p on that is not trivia up to the kind of number `last`.
     #[tactic(auto, using(crate::proofs::Laws::skips))]
-    pub fn skip(&self, last: SyntaxKind, p: usize) -> usize
-        ensures { Found self.now.kinds.now p result (skip_of (trivia_to (kind_number last)) (drop p self.now.kinds.now)) }
+    pub fn skip_up_to(&self, last: u16, p: usize) -> usize
+        ensures { Found self.now.kinds.now p result (skip_of (trivia_to last) (drop p self.now.kinds.now)) }
     {
         // A while: a `for`, with the greater of p and the length behind it, takes a twentieth more where trivia is looked through.
         let mut i = p;
         while i < self.kinds.len() {
-            if !is_trivia_to(last, self.kinds[i]) {
+            if !is_trivia_up_to(last, self.kinds[i]) {
                 return i;
             }
             i += 1;
         }
         i
+    }
+
+    pub fn skip(&self, last: SyntaxKind, p: usize) -> usize
+        ensures { Found self.now.kinds.now p result (skip_of (trivia_to (kind_number last)) (drop p self.now.kinds.now)) }
+    {
+        self.skip_up_to(u16::from(last), p)
     }
 
     #[tactic(auto, using(crate::proofs::Bits::all_trivia))]

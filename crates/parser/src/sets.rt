@@ -17,11 +17,11 @@ pub const PLAIN_PUNCTUATION: u64 = kinds!(
     SlashSlash
 );
 
-pub(crate) const OPERAND: u64 = PLAIN_PUNCTUATION | kinds!(LBracket, LParen, LBrace);
+pub const OPERAND: u64 = PLAIN_PUNCTUATION | kinds!(LBracket, LParen, LBrace);
 
-pub(crate) const PUNCTUATION: u64 = PLAIN_PUNCTUATION | kinds!(RBracket, RParen, RBrace);
+pub const PUNCTUATION: u64 = PLAIN_PUNCTUATION | kinds!(RBracket, RParen, RBrace);
 
-pub(crate) const NAME: u64 = kinds!(Ident, SpecialIdent, QuotedIdent);
+pub const NAME: u64 = kinds!(Ident, SpecialIdent, QuotedIdent);
 
 pub const LITERALS: u64 = kinds!(Number, QuotedString);
 
@@ -40,11 +40,11 @@ pub const PLAIN: u64 = PLAIN_PUNCTUATION
 pub const GOES_ON: u64 = PUNCTUATION | kinds!(Whitespace);
 
 // The kinds and the words that start an item, and the words that do behind `pub`.
-pub(crate) const STARTER_KINDS: u64 = kinds!(DocComment, At);
+pub const STARTER_KINDS: u64 = kinds!(DocComment, At);
 
-pub(crate) const STARTERS: u64 = DECLARED | words!(AdvMap, Begin, Namespace);
+pub const STARTERS: u64 = DECLARED | words!(AdvMap, Begin, Namespace);
 
-pub(crate) const DECLARED: u64 = TYPE_WORDS | words!(Const, Mod, Proc);
+pub const DECLARED: u64 = TYPE_WORDS | words!(Const, Mod, Proc);
 
 pub const TYPE_WORDS: u64 = words!(Type, Enum);
 
@@ -52,4 +52,4 @@ pub const TYPE_WORDS: u64 = words!(Type, Enum);
 pub const CONTROL_FLOW: u64 = words!(If, Do, While, Repeat);
 
 // All words but `package`
-pub(crate) const RESERVED: u64 = STARTERS | CONTROL_FLOW | words!(Else, End, Pub);
+pub const RESERVED: u64 = STARTERS | CONTROL_FLOW | words!(Else, End, Pub);

@@ -6,7 +6,6 @@ use Prim.Native.Nat.{ℕ, suc, pred, ◌+◌, ◌≤◌}
 use native.Mathlib.Nat.{pred-le}
 use native.Mathlib.Omega.{arith}
 use borrow.Author.Tests.{eq-eqb, ne_eqb}
-use Rattle.lexer.specs.Syntax.{kind_number}
 use Rattle.forms.specs.Path.{group_step, group_rest}
 use Rattle.grammar.specs.Bump.{error_here}
 use Rattle.grammar.specs.Look.{eof, current}
@@ -60,8 +59,8 @@ loop-depth-smaller c =
 
 pub loop-depth-preserved : goal.loop-depth-preserved
 loop-depth-preserved c =
-    let opener = kind_number c.args.opener in
-    let closer = kind_number c.args.closer in
+    let opener = c.args.opener in
+    let closer = c.args.closer in
     let z = sym c.eof.ensures ∙ c.if-not-eof.true in
     let m = c.bump-c.ensures.moved (eof_within c.loop-depth.parser.kinds.now _ c.eof.ensures c.if-not-eof.true) in
     let e = round_goes opener closer _ _ _ _ z c.loop-depth-test.true c.current.ensures c.group_depth-depth.ensures in
@@ -70,11 +69,11 @@ loop-depth-preserved c =
 
 pub returns-then-depth-eq0 : goal.returns-then-depth-eq0
 returns-then-depth-eq0 c =
-    closes (kind_number c.args.opener) (kind_number c.args.closer) c.args.missing (loop_stops _ c.loop-depth.invariant.0 (round_ends _ _ _ _ c.if-depth-eq0.true)) c.if-depth-eq0.true
+    closes c.args.opener c.args.closer c.args.missing (loop_stops _ c.loop-depth.invariant.0 (round_ends _ _ _ _ c.if-depth-eq0.true)) c.if-depth-eq0.true
 
 pub returns : goal.returns
 returns c = elim c.loop-depth-test.branch [
   | then-loop-depth-test+else-not-eof w ↦
-      lacks (kind_number c.args.opener) (kind_number c.args.closer) c.args.missing (loop_ends _ c.loop-depth.invariant.0 w.eof.ensures w.if-not-eof.false) c.if-depth-eq0.false c.error_here.ensures.ran
+      lacks c.args.opener c.args.closer c.args.missing (loop_ends _ c.loop-depth.invariant.0 w.eof.ensures w.if-not-eof.false) c.if-depth-eq0.false c.error_here.ensures.ran
   | else-loop-depth-test w ↦ absurd (c.if-depth-eq0.false w.loop-depth-test.false)
 ]

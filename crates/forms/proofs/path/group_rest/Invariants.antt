@@ -1,7 +1,6 @@
 -- `forms::path::group_rest`: `scan` with a local, the number of open delimiters, which is no more than the tokens taken and 1. Assumes nothing.
 use Prim.Native.Nat.{◌+◌, ◌-◌, ◌≤◌}
 use lib.ListN.{length}
-use Rattle.lexer.specs.Syntax.{kind_number}
 use Rattle.grammar.specs.Path.{group_round}
 use Rattle.grammar.specs.Run.{scan}
 use Rattle.parser.specs.Rep.{world}
@@ -10,7 +9,7 @@ use Rattle.forms.proofs.path.group_rest.Given as goal
 
 abbrev pub invariant-loop-depth : goal.invariant-loop-depth
 invariant-loop-depth l =
-    Leads (scan (group_round (kind_number l.opener) (kind_number l.closer)) 1) (world l.initial.parser l.initial.c) (scan (group_round (kind_number l.opener) (kind_number l.closer)) l.depth) (world l.parser l.c)
+    Leads (scan (group_round l.opener l.closer) 1) (world l.initial.parser l.initial.c) (scan (group_round l.opener l.closer) l.depth) (world l.parser l.c)
     × (l.depth ≤ l.c.pos + 1)
 
 abbrev pub decreases-loop-depth : goal.decreases-loop-depth
