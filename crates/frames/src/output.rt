@@ -94,6 +94,30 @@ impl<P: Print> Write for Output<'_, '_, P> {
     }
 }
 
+// What can't fail here, whatever a writer's `write_number` and `write_line` may answer.
+impl<P: Print> Output<'_, '_, P> {
+    pub fn put_number(&mut self, number: u64)
+        ensures { self.new ≡ gather self.old (decimal number) }
+    {
+        let mut text = [0; 20];
+        let digits = itoa::write_digits(number, &mut text, 20);
+        let _ = self.write_all(&text[digits..]);
+    }
+
+    // A slice as one line.
+    pub fn put_line<T: Copy + Into<u64>>(&mut self, numbers: &[T])
+        ensures { self.new.capacity ≡ self.old.capacity }
+    {
+        for (i, &number) in numbers.iter().enumerate() {
+            if i != 0 {
+                let _ = self.write_all(b" ");
+            }
+            self.put_number(number.into());
+        }
+        let _ = self.write_all(b"\n");
+    }
+}
+
 // A number in decimal. None has more than twenty digits.
 pub fn write_number<W: Write>(out: &mut W, number: u64) -> io::Result<()>
     ensures { OnOk result (Appends (W.contents out.old) (W.contents out.new) (decimal number)) }
