@@ -32,12 +32,12 @@ use Rattle.blocks.specs.declared.arm.Taken.{Taken}
 use Rattle.blocks.specs.declared.arm.Closing.{Closing}
 use Rattle.blocks.specs.declared.arm.BlockArm.{BlockArm}
 use Rattle.blocks.specs.declared.close.Form.{Form}
-use Rattle.blocks.specs.declared.place.BlockPlace.{BlockPlace}
-use Rattle.blocks.specs.declared.place.Depth.{Depth}
+use Rattle.blocks.specs.declared.any_depth.AnyDepth.{AnyDepth}
+use Rattle.blocks.specs.declared.any_depth.AnyPlace.{AnyPlace}
 use Rattle.blocks.specs.declared.rounds.Stopped.{Stopped}
 use Rattle.grammar.specs.declared.limit.NestingLimit.{NestingLimit}
 use Rattle.blocks.specs.Arms.{block_arm, inner_arm, by_block_arm, block_by, silent, taking}
-use Rattle.blocks.specs.Shapes.{else_line, else_part, KeywordLine, FormHeader, ItemAt, Finish, rest_at, stop, BlockRounds, ParseForm}
+use Rattle.blocks.specs.Shapes.{else_line, else_part, KeywordLine, FormHeader, ItemAt, Finish, rest_at_any, stop, AnyBlockRounds, ParseForm}
 
 -- ---- tests of the token here
 -- at an Ident that is no word
@@ -206,7 +206,7 @@ module _ {w w' : World} where
   took e h = subst (λ k. Ran (taking k) w w') (sym e) h
 
   -- a form of a block below the limit
-  pub deeper : {r : Bool} (d e : Depth) → (e.forms ≡ d.forms + 1) × (e.limit ≡ d.limit)
+  pub deeper : {r : Bool} (d e : AnyDepth) → (e.forms ≡ d.forms + 1) × (e.limit ≡ d.limit)
       → RanTo (parse_control_flow (parse_block e.limit.forms) e.forms) w w' r
       → RanTo (parse_control_flow (λ o t e. in_node Block (block_in d.limit.forms o t e)) (suc d.forms)) w w' r
   unfolding parse_block
@@ -217,8 +217,8 @@ module _ {w w' : World} where
       (subst (λ (l : ℕ). RanTo (parse_control_flow (parse_block l) e.forms) w w' r) m h)
 
   -- a round of parse_block's loop, by its arm
-  pub round : (p : BlockPlace) {o : BlockParseOutcome} {a : BlockArm} (b : BlockArm) → a ≡ block_arm p.terminators (remaining w) → a ≡ b
-      → RanTo (by_block_arm b (block_in p.depth.limit.forms) p.depth.limit.forms p.owner p.terminators p.depth.forms) w w' o → RanTo (rest_at p) w w' o
+  pub round : (p : AnyPlace) {o : BlockParseOutcome} {a : BlockArm} (b : BlockArm) → a ≡ block_arm p.terminators (remaining w) → a ≡ b
+      → RanTo (by_block_arm b (block_in p.depth.limit.forms) p.depth.limit.forms p.owner p.terminators p.depth.forms) w w' o → RanTo (rest_at_any p) w w' o
   round p b e f h =
       let l = p.depth.limit.forms in
       like_to (by_block_arm b (block_in l) l p.owner p.terminators p.depth.forms) (block_by l p.owner p.terminators p.depth.forms _ b (sym f ∙ e)) h
@@ -313,16 +313,16 @@ repeat_here r a b c d = repeat_left r (rw (a, b, c, d))
 
 -- ---- the rounds of a block
 -- where they stop is at a form, or behind the block
-module _ {p : BlockPlace} {m : World} (P : Parser) {s : Stopped} where
-  pub at_form : {c : Cursor} → s ≡ Stopped.Form c → BlockRounds p m (world P (stop s)) s → BlockRounds p m (world P c) (Stopped.Form c)
-  at_form e r = subst (λ s. BlockRounds p m (world P (stop s)) s) e r
+module _ {p : AnyPlace} {m : World} (P : Parser) {s : Stopped} where
+  pub at_form : {c : Cursor} → s ≡ Stopped.Form c → AnyBlockRounds p m (world P (stop s)) s → AnyBlockRounds p m (world P c) (Stopped.Form c)
+  at_form e r = subst (λ s. AnyBlockRounds p m (world P (stop s)) s) e r
 
-  pub at_end : {b : BlockEnd} → s ≡ Stopped.Closed b → BlockRounds p m (world P (stop s)) s → BlockRounds p m (world P b.c) (Stopped.Closed b)
-  at_end e r = subst (λ s. BlockRounds p m (world P (stop s)) s) e r
+  pub at_end : {b : BlockEnd} → s ≡ Stopped.Closed b → AnyBlockRounds p m (world P (stop s)) s → AnyBlockRounds p m (world P b.c) (Stopped.Closed b)
+  at_end e r = subst (λ s. AnyBlockRounds p m (world P (stop s)) s) e r
 
 -- the rounds behind what leads to them
-module _ {p : BlockPlace} {m w w' : World} where
-  pub from_here : (s : Stopped) → Leads (rest_at p) m (rest_at p) w → Onward m w → BlockRounds p w w' s → BlockRounds p m w' s
+module _ {p : AnyPlace} {m w w' : World} where
+  pub from_here : (s : Stopped) → Leads (rest_at_any p) m (rest_at_any p) w → Onward m w → AnyBlockRounds p w w' s → AnyBlockRounds p m w' s
   from_here (Stopped.Form c) l o r = record {
     onward = o farther r.onward;
     there = record { on = λ u x h. l.on u x (r.there.on u x h); arm = r.there.arm; below = r.there.below };
@@ -333,10 +333,10 @@ module _ {p : BlockPlace} {m w w' : World} where
   }
 
   -- the same behind a form, which goes from v to w
-  pub from_form : {v : World} {c : Cursor} (s : Stopped) → BlockRounds p m v (Stopped.Form c) → ((u : World) (r : BlockParseOutcome) → RanTo (rest_at p) w u r → RanTo (rest_at p) v u r)
-      → Onward v w → BlockRounds p w w' s → BlockRounds p m w' s
+  pub from_form : {v : World} {c : Cursor} (s : Stopped) → AnyBlockRounds p m v (Stopped.Form c) → ((u : World) (r : BlockParseOutcome) → RanTo (rest_at_any p) w u r → RanTo (rest_at_any p) v u r)
+      → Onward v w → AnyBlockRounds p w w' s → AnyBlockRounds p m w' s
   from_form s r₀ f o r = from_here s (record { on = λ u x h. r₀.there.on u x (f u x h) }) (r₀.onward farther o) r
 
 -- what block_from's loop holds: rounds up to where it began are rounds up to where it is
-pub record Going (p : BlockPlace) (w₀ : World) (s₀ : Stopped) (w : World) (s : Stopped) : Type 0 where
-  pub on : (m : World) → BlockRounds p m w₀ s₀ → BlockRounds p m w s
+pub record Going (p : AnyPlace) (w₀ : World) (s₀ : Stopped) (w : World) (s : Stopped) : Type 0 where
+  pub on : (m : World) → AnyBlockRounds p m w₀ s₀ → AnyBlockRounds p m w s

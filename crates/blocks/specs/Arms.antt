@@ -66,7 +66,7 @@ silent_is : {A B : Type 0} (f : P A) (g : P B) (r : List Sym) → (f >> g) r ≡
 unfolding ◌>>=◌ silent
 silent_is f g r = refl
 
-round_is : (again : Blocks) (limit : ℕ) (owner : BlockOwner) (terminators : Terminators) (depth : ℕ) (r : List Sym)
+pub round_is : (again : Blocks) (limit : ℕ) (owner : BlockOwner) (terminators : Terminators) (depth : ℕ) (r : List Sym)
     → block_round again limit owner terminators depth r ≡ by_block_arm (block_arm terminators r) again limit owner terminators depth r
 unfolding block_round block_arm inner_arm by_block_arm taking block_ending
 round_is again limit owner terminators depth r =

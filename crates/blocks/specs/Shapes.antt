@@ -16,6 +16,8 @@ use Rattle.blocks.specs.declared.arm.Closing.{Closing}
 use Rattle.blocks.specs.declared.arm.BlockArm.{BlockArm}
 use Rattle.blocks.specs.declared.close.BlockEnd.{BlockEnd}
 use Rattle.blocks.specs.declared.close.Form.{Form}
+use Rattle.blocks.specs.declared.any_depth.AnyDepth.{AnyDepth}
+use Rattle.blocks.specs.declared.any_depth.AnyPlace.{AnyPlace}
 use Rattle.blocks.specs.declared.place.BlockPlace.{BlockPlace}
 use Rattle.blocks.specs.declared.place.Depth.{Depth}
 use Rattle.blocks.specs.declared.rounds.Stopped.{Stopped}
@@ -85,27 +87,27 @@ pub record Finish (owner : BlockOwner) (outcome : BlockParseOutcome) (w w' : Wor
   pub onward : Onward w w'
   pub here : ItemAt (file w') w'.c.pos f.item
 
--- ---- the rounds of a block
-abbrev pub block_place : BlockOwner → Terminators → Depth → BlockPlace
-block_place owner terminators depth = record { depth = depth; owner = owner; terminators = terminators }
+-- ---- the rounds of a block, with any number of forms around it
+abbrev pub any_block_place : BlockOwner → Terminators → AnyDepth → AnyPlace
+any_block_place owner terminators depth = record { depth = depth; owner = owner; terminators = terminators }
 
 -- what is left of a block at this place, and the whole of it
-abbrev pub rest_at : BlockPlace → P BlockParseOutcome
-rest_at p = block_in p.depth.limit.forms p.owner p.terminators p.depth.forms
+abbrev pub rest_at_any : AnyPlace → P BlockParseOutcome
+rest_at_any p = block_in p.depth.limit.forms p.owner p.terminators p.depth.forms
 
-abbrev pub block_at : BlockPlace → P BlockParseOutcome
-block_at p = parse_block p.depth.limit.forms p.owner p.terminators p.depth.forms
+abbrev pub block_at_any : AnyPlace → P BlockParseOutcome
+block_at_any p = parse_block p.depth.limit.forms p.owner p.terminators p.depth.forms
 
 -- They come to a form below the limit: what is left of the block from there is what was left of it before.
-pub record AtForm (p : BlockPlace) (w w' : World) : Type 0 where
-  pub on : (v : World) (r : BlockParseOutcome) → RanTo (rest_at p) w' v r → RanTo (rest_at p) w v r
+pub record AnyAtForm (p : AnyPlace) (w w' : World) : Type 0 where
+  pub on : (v : World) (r : BlockParseOutcome) → RanTo (rest_at_any p) w' v r → RanTo (rest_at_any p) w v r
   pub arm : block_arm p.terminators (remaining w') ≡ BlockArm.Control
   pub below : p.depth.forms < p.depth.limit.forms
 
 -- Or they end the block, and its closing event is written.
-pub record Over (p : BlockPlace) (w w' : World) (e : BlockEnd) : Type 0 where
+pub record AnyOver (p : AnyPlace) (w w' : World) (e : BlockEnd) : Type 0 where
   pub mid : World
-  pub ran : RanTo (rest_at p) w mid e.outcome
+  pub ran : RanTo (rest_at_any p) w mid e.outcome
   pub wrote : Wrote 0 mid w'
   pub here : ItemAt (file w') w'.c.pos e.item
 
@@ -114,27 +116,61 @@ abbrev pub stop : Stopped → Cursor
 stop (Stopped.Form c) = c
 stop (Stopped.Closed e) = e.c
 
-abbrev pub FormOrEnd : BlockPlace → World → World → Stopped → Type 0
-FormOrEnd p w w' (Stopped.Form c) = AtForm p w w'
-FormOrEnd p w w' (Stopped.Closed e) = Over p w w' e
+abbrev pub AnyFormOrEnd : AnyPlace → World → World → Stopped → Type 0
+AnyFormOrEnd p w w' (Stopped.Form c) = AnyAtForm p w w'
+AnyFormOrEnd p w w' (Stopped.Closed e) = AnyOver p w w' e
 
-pub record BlockRounds (p : BlockPlace) (w w' : World) (s : Stopped) : Type 0 where
+pub record AnyBlockRounds (p : AnyPlace) (w w' : World) (s : Stopped) : Type 0 where
   pub onward : Onward w w'
-  pub there : FormOrEnd p w w' s
+  pub there : AnyFormOrEnd p w w' s
 
 -- the same behind the block's opening event
-pub record FirstRounds (p : BlockPlace) (w w' : World) (s : Stopped) : Type 0 where
+pub record AnyFirstRounds (p : AnyPlace) (w w' : World) (s : Stopped) : Type 0 where
   pub mid : World
   pub wrote : Wrote (num Kind.Block) w mid
   pub onward : Onward w w'
-  pub rounds : BlockRounds p mid w' s
+  pub rounds : AnyBlockRounds p mid w' s
 
 -- ---- a block, and a form
-pub record ParseBlock (p : BlockPlace) (w w' : World) (e : BlockEnd) : Type 0 where
-  pub ran : RanTo (block_at p) w w' e.outcome
+pub record AnyParseBlock (p : AnyPlace) (w w' : World) (e : BlockEnd) : Type 0 where
+  pub ran : RanTo (block_at_any p) w w' e.outcome
   pub here : ItemAt (file w') w'.c.pos e.item
 
 pub record ParseForm (form : P Bool) (w w' : World) (f : Form) : Type 0 where
   pub ran : RanTo form w w' f.eof
   pub past : Past w w'
   pub here : ItemAt (file w') w'.c.pos f.item
+
+-- ---- the same where no more forms stand around the block than may
+abbrev pub any_depth : Depth → AnyDepth
+any_depth d = record { forms = d.forms; limit = d.limit }
+
+abbrev pub any_place : BlockPlace → AnyPlace
+any_place p = any_block_place p.owner p.terminators (any_depth p.depth)
+
+abbrev pub block_place : BlockOwner → Terminators → Depth → BlockPlace
+block_place owner terminators depth = record { depth = depth; owner = owner; terminators = terminators }
+
+abbrev pub rest_at : BlockPlace → P BlockParseOutcome
+rest_at p = rest_at_any (any_place p)
+
+abbrev pub block_at : BlockPlace → P BlockParseOutcome
+block_at p = block_at_any (any_place p)
+
+abbrev pub AtForm : BlockPlace → World → World → Type 0
+AtForm p = AnyAtForm (any_place p)
+
+abbrev pub Over : BlockPlace → World → World → BlockEnd → Type 0
+Over p = AnyOver (any_place p)
+
+abbrev pub FormOrEnd : BlockPlace → World → World → Stopped → Type 0
+FormOrEnd p = AnyFormOrEnd (any_place p)
+
+abbrev pub BlockRounds : BlockPlace → World → World → Stopped → Type 0
+BlockRounds p = AnyBlockRounds (any_place p)
+
+abbrev pub FirstRounds : BlockPlace → World → World → Stopped → Type 0
+FirstRounds p = AnyFirstRounds (any_place p)
+
+abbrev pub ParseBlock : BlockPlace → World → World → BlockEnd → Type 0
+ParseBlock p = AnyParseBlock (any_place p)

@@ -1,6 +1,9 @@
 // Blocks and the four control forms.
 #![tactic(auto)]
 
+pub mod any_depth;
+#[cfg(test)]
+mod any_depth_tests;
 pub mod arm;
 pub mod block;
 pub mod close;

@@ -1,14 +1,15 @@
 // Where a block stands, and which it is.
-ghost use Rattle.std.specs.Prelude.{◌≡◌, ◌+◌, ◌<◌};
+ghost use Rattle.std.specs.Prelude.{◌≡◌, ◌+◌, ◌≤◌, ◌<◌};
 
 use grammar::block::{BlockOwner, Terminators};
 use grammar::limit::NestingLimit;
 
-// How many control forms stand around something, and how many may. Where more stand around it already, the next is rejected too.
+// How many control forms stand around something, and how many may.
 #[derive(Clone, Copy)]
 pub struct Depth {
     pub forms: u16,
     pub limit: NestingLimit,
+    ghost within: { forms ≤ limit.forms },
 }
 
 impl Depth {

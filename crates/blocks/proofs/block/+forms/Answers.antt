@@ -9,7 +9,7 @@ use Rattle.parser.proofs.Kit.{on_to, off_to, node_to, bind_to, yes_to, no_to}
 use Rattle.grammar.specs.Block.{parse_block, parse_control_flow, do_condition, parse_do_while, parse_if, ended, parse_repeat, parse_while}
 use Rattle.grammar.specs.Words.{is, DO, IF, WHILE}
 use Rattle.parser.proofs.Ahead.{at_here, at_not, at_other}
-use Rattle.blocks.specs.Shapes.{else_part}
+use Rattle.blocks.specs.Shapes.{any_depth, any_place, else_part}
 use Rattle.grammar.specs.declared.block.BlockOwner.{BlockOwner}
 use borrow.Author.Rules.{rules}
 use Rattle.blocks.proofs.block.+forms.Goals.{parse_do_while-then-found_terminator, parse_do_while-else-found_terminator, parse_if-then-goes_to_else, parse_if-else-goes_to_else}
@@ -27,21 +27,21 @@ unfolding parse_block by_block_arm
 block_from-returns-then-f t c =
     let begun = c.first_rounds-s.ensures in
     let here = (at_form c.loop-s.parser c.in-Form.is (c.loop-s.invariant.on _ begun.rounds)).there in
-    let form = deeper c.args.start.place.depth c.deeper.result c.deeper.ensures c.parse_control_flow-f.ensures.ran in
+    let form = deeper (any_depth c.args.start.place.depth) (any_depth c.deeper.result) c.deeper.ensures c.parse_control_flow-f.ensures.ran in
     let rest = bind_to _ form (on_to _ c.if-f.true (gives c.ended_file.ensures.outcome)) in
-    let inside = here.on _ _ (round c.args.start.place BlockArm.Control (sym here.arm) refl (off_to _ (lt-leb _ _ here.below) rest)) in
+    let inside = here.on _ _ (round (any_place c.args.start.place) BlockArm.Control (sym here.arm) refl (off_to _ (lt-leb _ _ here.below) rest)) in
     record { ran = node_to _ begun.wrote inside c.ended_file.ensures.wrote; here = said_no_item c.ended_file.ensures.item }
 
 pub block_from-loop-s-preserved : goal.block_from-loop-s-preserved
 unfolding by_block_arm
 block_from-loop-s-preserved t c =
-    let form = deeper c.args.start.place.depth c.deeper.result c.deeper.ensures c.parse_control_flow-f.ensures.ran in
+    let form = deeper (any_depth c.args.start.place.depth) (any_depth c.deeper.result) c.deeper.ensures c.parse_control_flow-f.ensures.ran in
     let i = c.loop-s.invariant in
     record {
       on = λ w r.
           let rounds = at_form c.loop-s.parser c.in-Form.is (i.on w r) in
           let here = rounds.there in
-          from_form _ rounds (λ u x h. round c.args.start.place BlockArm.Control (sym here.arm) refl (off_to _ (lt-leb _ _ here.below) (bind_to _ form (off_to _ c.if-f.false h))))
+          from_form _ rounds (λ u x h. round (any_place c.args.start.place) BlockArm.Control (sym here.arm) refl (off_to _ (lt-leb _ _ here.below) (bind_to _ form (off_to _ c.if-f.false h))))
           c.parse_control_flow-f.ensures.ran.ran.onward c.next_rounds-s.ensures;
     }
 

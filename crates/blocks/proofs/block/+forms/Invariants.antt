@@ -2,7 +2,7 @@
 use Prim.Native.Nat.{◌+◌, ◌-◌, ◌*◌}
 use lib.ListN.{length}
 use Rattle.parser.specs.Rep.{world}
-use Rattle.blocks.specs.Shapes.{stop}
+use Rattle.blocks.specs.Shapes.{any_place, stop}
 use Rattle.blocks.proofs.Laws.{Going}
 use Rattle.blocks.proofs.block.+forms.Given as goal
 
@@ -29,7 +29,7 @@ decreases-parse_while l = 4 * (length l.parser.now.kinds.now - l.c0.pos)
 
 abbrev pub invariant-block_from-loop-s : goal.invariant-block_from-loop-s
 invariant-block_from-loop-s l =
-    Going l.place (world l.initial.parser (stop l.initial.s)) l.initial.s (world l.parser (stop l.s)) l.s
+    Going (any_place l.place) (world l.initial.parser (stop l.initial.s)) l.initial.s (world l.parser (stop l.s)) l.s
 
 abbrev pub decreases-block_from-loop-s : goal.decreases-block_from-loop-s
 decreases-block_from-loop-s l = length l.parser.kinds.now - (stop l.s).pos

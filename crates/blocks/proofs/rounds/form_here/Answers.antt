@@ -4,6 +4,7 @@ use native.Mathlib.Omega.{arith}
 use borrow.Author.Tests.{le-leb}
 use Rattle.blocks.specs.declared.arm.BlockArm.{BlockArm}
 use Rattle.blocks.specs.Arms.{by_block_arm}
+use Rattle.blocks.specs.Shapes.{any_place}
 use Rattle.blocks.proofs.Laws.{round, said_no_item, gives}
 use Rattle.parser.proofs.Kit.{stays, ◌farther◌, on_to, ◌then_to◌}
 use Rattle.blocks.proofs.rounds.form_here.Goals as goal
@@ -11,7 +12,7 @@ use Rattle.blocks.proofs.rounds.form_here.Goals as goal
 pub returns-then-place : goal.returns-then-place
 unfolding by_block_arm
 returns-then-place c =
-    let p = c.args.place in
+    let p = any_place c.args.place in
     let rejected = c.reject_excessive_control_flow_nesting-d.ensures in
     record {
       onward = rejected.onward farther c.ended_file.ensures.wrote.onward;

@@ -5,6 +5,7 @@ use Rattle.grammar.specs.Look.{at_top_level_form_starter_in_block}
 use Rattle.blocks.specs.declared.arm.BlockArm.{BlockArm}
 use Rattle.blocks.specs.declared.arm.Closing.{Closing}
 use Rattle.blocks.specs.Arms.{by_block_arm}
+use Rattle.blocks.specs.Shapes.{any_place}
 use Rattle.blocks.proofs.Laws.{meant, takes, round, absorbs, no_item, from_here}
 use Rattle.parser.proofs.Ahead.{remembers_later}
 use Rattle.parser.proofs.Kit.{same_file, same_remaining, ◌farther◌, ◌then_to◌, goes_on}
@@ -22,7 +23,7 @@ loop-t-preserved c =
     let i = c.loop-t.invariant.0 in
     let t = c.take-d in
     let v = c.bump_regular_trivia-c in
-    let p = c.args.place in (
+    let p = any_place c.args.place in (
       goes_on i (λ w' r k.
           round p (BlockArm.Takes _) c.block_arm_here.ensures.arm c.in-Takes.is
           (t.ensures then_to absorbs p.depth.limit.forms p.owner p.terminators p.depth.forms v.ensures k)),
@@ -39,7 +40,7 @@ returns-in-Closes c =
       onward = c.loop-t.invariant.1 farther c.close.ensures.onward;
       there = record {
         mid = _;
-        ran = c.loop-t.invariant.0.on _ _ (round c.args.place (BlockArm.Closes _) c.block_arm_here.ensures.arm told c.close.ensures.ran);
+        ran = c.loop-t.invariant.0.on _ _ (round (any_place c.args.place) (BlockArm.Closes _) c.block_arm_here.ensures.arm told c.close.ensures.ran);
         wrote = c.close.ensures.wrote;
         here = record {
           starts = λ i. ap at_top_level_form_starter_in_block (same_remaining c.close.ensures.onward c.close.ensures.pos)
