@@ -19,7 +19,7 @@ const ERROR: u16 = SyntaxKind::Error as u16;
 
 const IF_OP: u16 = SyntaxKind::IfOp as u16;
 
-const ABOVE: [u16; 3] = [2, 3, u16::MAX];
+const FROM_LIMIT: [u16; 3] = [2, 3, u16::MAX];
 
 const KINDS: [u16; 2] = [
     IDENT + MARK * Word::If as u16,
@@ -76,7 +76,7 @@ fn next(forms: u16, events: &mut [u16]) -> Stopped {
 
 #[test]
 fn blocks_at_any_depth(rt: HostRuntime) {
-    for forms in ABOVE {
+    for forms in FROM_LIMIT {
         let mut events = [7; 9];
         let mut messages = [7; 3];
         let mut starts = [7; 3];
@@ -146,7 +146,7 @@ fn a_do_body_at_any_depth(rt: HostRuntime) {
 
 #[test]
 fn rounds_at_any_depth(rt: HostRuntime) {
-    for forms in ABOVE {
+    for forms in FROM_LIMIT {
         let mut events = [7; 9];
         assert!(rt;
             matches!(first(forms, &mut events), Stopped::Closed(_)),
