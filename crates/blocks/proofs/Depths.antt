@@ -1,20 +1,17 @@
 -- Where no form may stand any more, it does not matter how many stand around: a block is read as at the limit. Assumes nothing.
 use mathlib.Core.Bool.{Bool, true, false}
-use mathlib.Core.List.{List}
 use mathlib.Core.Path.{◌≡◌, refl, sym, ap, subst, ◌∙◌, fun_ext}
-use Prim.Native.Nat.{ℕ, zero, suc, ◌≤◌, ◌<◌}
+use Prim.Native.Nat.{ℕ, zero, suc}
 use native.Mathlib.Omega.{arith}
 use borrow.Author.Tests.{le-leb, leb-true, leb-false}
 use lib.ListN.{length}
 use Rattle.std.specs.Prelude.{leb, min}
 use Rattle.std.proofs.Math.Nat.{min-eq_left, min-eq_right}
-use Rattle.grammar.specs.Words.{Sym}
 use Rattle.grammar.specs.Run.{P, Block, in_node, pick, ◌>>◌}
 use Rattle.grammar.specs.Block.{Blocks, block_loop, block_in, parse_block}
 use Rattle.grammar.specs.declared.block.BlockOwner.{BlockOwner}
 use Rattle.grammar.specs.declared.block.Terminators.{Terminators}
 use Rattle.grammar.specs.declared.block.BlockParseOutcome.{BlockParseOutcome}
-use Rattle.grammar.specs.declared.limit.NestingLimit.{NestingLimit}
 use Rattle.parser.specs.Rep.{World, RanTo}
 use Rattle.blocks.specs.declared.arm.BlockArm.{BlockArm}
 use Rattle.blocks.specs.declared.close.BlockEnd.{BlockEnd}
@@ -22,7 +19,6 @@ use Rattle.blocks.specs.declared.any_depth.AnyPlace.{AnyPlace}
 use Rattle.blocks.specs.declared.place.BlockPlace.{BlockPlace}
 use Rattle.blocks.specs.declared.rounds.Stopped.{Stopped}
 use Rattle.blocks.specs.Arms.{block_arm, by_block_arm, taking, round_is}
-use Rattle.blocks.specs.declared.any_depth.AnyDepth.{AnyDepth}
 use Rattle.blocks.specs.Shapes.{any_place, rest_at_any, AnyBlockRounds, AnyFirstRounds, AnyParseBlock, BlockRounds, FirstRounds, ParseBlock}
 
 picks : {A : Type 0} (f g : P A) {b : Bool} → b ≡ true → pick b f g ≡ f
@@ -56,12 +52,10 @@ within_by limit d true o t h =
 within_by limit d false o t h = ap (block_in limit o t) (min-eq_left (omega (arith, leb-false limit d h)))
 
 -- this place, at the lesser of its depth and the limit
-abbrev pub lesser_depth : AnyDepth → AnyDepth
-lesser_depth d = record { forms = min d.forms d.limit.forms; limit = d.limit }
-
 abbrev pub lesser : AnyPlace → AnyPlace
-lesser p = record { depth = lesser_depth p.depth; owner = p.owner; terminators = p.terminators }
+lesser p = record { depth = record { forms = min p.depth.forms p.depth.limit.forms; limit = p.depth.limit }; owner = p.owner; terminators = p.terminators }
 
+-- what the code makes of this place
 pub lesser_by : (p : AnyPlace) (q : BlockPlace) → (q.depth.forms ≡ min p.depth.forms p.depth.limit.forms) × (q.depth.limit ≡ p.depth.limit) → q.owner ≡ p.owner → q.terminators ≡ p.terminators
     → any_place q ≡ lesser p
 lesser_by p q d o t = λ i. record { depth = record { forms = d.0 i; limit = d.1 i }; owner = o i; terminators = t i }
